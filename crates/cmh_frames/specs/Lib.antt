@@ -1,0 +1,4 @@
+pub mod Number
+pub mod Edition
+pub mod Topology
+pub mod Wire

@@ -1,0 +1,12 @@
+pub mod Bits
+pub mod PathLemmas
+pub mod Pairs
+pub mod Places
+pub mod Moves
+pub mod Sent
+pub mod Edges
+pub mod Effects
+pub mod Journals
+pub mod Marks
+pub mod Outcomes
+pub mod Lawful

@@ -1,0 +1,9 @@
+pub mod Relation
+pub mod State
+pub mod Paths
+pub mod Rules
+pub mod Journals
+pub mod Runs
+pub mod Waits
+pub mod Stops
+pub mod Laws

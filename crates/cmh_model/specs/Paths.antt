@@ -1,0 +1,36 @@
+-- Paths of waits, and the paths that stay at one site.
+use Rattle.std.specs.Prelude.{◌≡◌, ℕ, true, List, [], ◌∷◌}
+use Rattle.cmh_frames.specs.Topology.{Topology, At}
+use Rattle.cmh_model.specs.Relation.{Relation, has}
+
+-- Each of p and the further members is in R to the next one, and the last is q.
+abbrev pub IsPath : (ℕ → ℕ → Type 0) → ℕ → List ℕ → ℕ → Type 0
+IsPath R p [] q = p ≡ q
+IsPath R p (x ∷ xs) q = R p x × IsPath R x xs q
+
+-- ---- among the processes that are Here
+
+-- p waits for q, and both are here
+abbrev pub WaitsAmong : (ℕ → Type 0) → Relation → ℕ → ℕ → Type 0
+WaitsAmong Here waits p q = Here p × Here q × (has waits p q ≡ true)
+
+-- a path of no or more such waits leads from p to q
+abbrev pub ReachesAmong : (ℕ → Type 0) → Relation → ℕ → ℕ → Type 0
+ReachesAmong Here waits p q = Here p × ((members : List ℕ) × IsPath (WaitsAmong Here waits) p members q)
+
+-- a path of one or more such waits leads from p to p
+abbrev pub DependsOnItselfAmong : (ℕ → Type 0) → Relation → ℕ → Type 0
+DependsOnItselfAmong Here waits p = (next : ℕ) × WaitsAmong Here waits p next × ReachesAmong Here waits next p
+
+-- ---- among the processes of a site; `waits` are those that the site keeps
+
+abbrev pub WaitsLocally : Topology → ℕ → Relation → ℕ → ℕ → Type 0
+WaitsLocally t s waits p q = WaitsAmong (λ r. At t r s) waits p q
+
+-- p reaches q locally
+abbrev pub ReachesLocally : Topology → ℕ → Relation → ℕ → ℕ → Type 0
+ReachesLocally t s waits p q = ReachesAmong (λ r. At t r s) waits p q
+
+-- p is locally dependent upon itself
+abbrev pub DependsOnItself : Topology → ℕ → Relation → ℕ → Type 0
+DependsOnItself t s waits p = DependsOnItselfAmong (λ r. At t r s) waits p

@@ -1,0 +1,48 @@
+//! What happens at a controller.
+
+ghost use Rattle.std.specs.Prelude.{◌≡◌};
+
+use cmh_frames::{Frame, ProcId, SiteId};
+use std::marker::Model;
+
+/// The processes that an ask names, in the order in which it names them.
+#[derive(Debug, Drop)]
+pub struct Targets {
+    processes: Vec<ProcId>,
+}
+
+impl Model for Targets {
+    ghost use Rattle.std.specs.Prelude.{ℕ, List};
+
+    ghost Value = { List ℕ };
+
+    ghost view = { λ t. t.processes.items };
+}
+
+impl Targets {
+    /// Any list is one of targets; whether an ask may name them is for the controller to say.
+    pub fn new(processes: Vec<ProcId>) -> Self
+        ensures { result ≡ processes.items }
+    {
+        Targets { processes }
+    }
+
+    pub fn as_slice(&self) -> &[ProcId]
+        ensures { result.now ≡ self.now }
+    {
+        &self.processes
+    }
+}
+
+/// What happens at a controller.
+#[derive(Debug, Drop)]
+pub enum Event {
+    /// A process asks for what others hold, and waits for all of them.
+    Ask { asker: ProcId, targets: Targets },
+    /// A process grants what it holds to one that asked for it.
+    Reply { holder: ProcId, asker: ProcId },
+    /// A probe computation is started for a process.
+    Start { of: ProcId },
+    /// A frame came from another site.
+    Got { from: SiteId, frame: Frame },
+}

@@ -1,0 +1,9 @@
+pub mod World
+pub mod Kept
+pub mod Runs_so_far
+pub mod Orders
+pub mod Stops
+pub mod Drained
+pub mod Drained_runs
+pub mod Waits
+pub mod Turns

@@ -1,0 +1,34 @@
+-- What the journals alone determine.
+use Rattle.std.proofs.Common.{◌≡◌, ℕ, false, List, sym, ap, length, drop, arith}
+use Rattle.cmh_model.specs.declared.journal.WorldEvent.{WorldEvent}
+use Rattle.cmh_frames.specs.Topology.{Topology}
+use Rattle.cmh_model.specs.Relation.{has}
+use Rattle.cmh_model.specs.Runs.{IsRun, under_way, state_of}
+use Rattle.cmh_model.specs.Journals.{sendings_of, receipts_of}
+use Rattle.cmh_model.specs.Waits.{Waits, wait_after}
+use Rattle.cmh_model.specs.Laws.{bit, count_of, is_request, SameJournals, SameWaits}
+use Rattle.cmh_model.proofs.Bits.{bit_one}
+use Rattle.cmh_world.proofs.World.{Inv}
+use Rattle.cmh_world.proofs.Runs_so_far.{world_of, inv_of_run}
+
+module _ (t : Topology) (xs ys : List WorldEvent) (same : SameJournals xs ys) where
+  same_queue : (a b : ℕ) → under_way a b xs ≡ under_way a b ys
+  same_queue a b = λ i. drop (length (receipts_of a (same b i))) (sendings_of b (same a i))
+
+  same_state : (s : ℕ) → state_of t s xs ≡ state_of t s ys
+  same_state s = ap (Rattle.cmh_model.specs.Journals.value t s) (same s)
+
+  waits_too : Inv t (world_of t xs) → Inv t (world_of t ys) → (j k : ℕ) → Waits xs j k → Waits ys j k
+  waits_too inv other j k h =
+      let at = inv.known j k h in
+      let first = (inv.each at.0.0 at.1.0 j k at.0.1 at.1.1).1 in
+      let second = (other.each at.0.0 at.1.0 j k at.0.1 at.1.1).1 in
+      let one = ap bit h in
+      let queue = ap (count_of (is_request j k)) (same_queue at.0.0 at.1.0) in
+      let owed = ap (λ v. bit (has v.owed k j)) (same_state at.1.0) in
+      let is : bit (wait_after false j k ys) ≡ 1 = omega arith in
+      bit_one (wait_after false j k ys) 0 is
+
+pub same_waits : (t : Topology) (xs ys : List WorldEvent) → IsRun t xs → IsRun t ys → SameJournals xs ys → SameWaits xs ys
+same_waits t xs ys run other same = λ j k.
+    (waits_too t xs ys same (inv_of_run t xs run) (inv_of_run t ys other) j k, waits_too t ys xs (λ s. sym (same s)) (inv_of_run t ys other) (inv_of_run t xs run) j k)

@@ -1,0 +1,143 @@
+-- A run that is stopped at each site.
+use Rattle.std.proofs.Common.{◌≡◌, ◌≢◌, ◌≤◌, ℕ, zero, suc, ◌-◌, List, [], ◌∷◌, ◌++◌, ◌==◌, if◌then◌else◌, refl, sym, ap, ◌∙◌, subst, inl, inr, length, take, drop, arith, append_assoc, take-append-drop, length-append, take_all}
+use Rattle.std.proofs.lemmas.List.{take-append-le}
+use Rattle.std.proofs.lemmas.Bool.{eq-eqb, ne_eqb, cases_eq, cases_lt}
+use Rattle.cmh_model.specs.declared.journal.Entry.{Entry}
+use Rattle.cmh_model.specs.declared.journal.WorldEvent.{WorldEvent}
+use Rattle.cmh_frames.specs.Topology.{Topology}
+use Rattle.cmh_model.specs.Runs.{entries_of, sendings, receipts, IsBeginningOf, IsRun}
+use Rattle.cmh_model.specs.Journals.{sendings_of, receipts_of, IsLawful}
+use Rattle.cmh_model.specs.Stops.{IsConsistent}
+use Rattle.cmh_model.specs.Laws.{StopsAnywhere}
+use Rattle.cmh_model.proofs.Journals.{entries_here, entries_elsewhere, entries_of-append, sendings_of-append, receipts_of-append, lawful_front}
+
+-- ---- beginnings
+
+begins_trans : {X : Type 0} (xs ys zs : List X) → IsBeginningOf xs ys → IsBeginningOf ys zs → IsBeginningOf xs zs
+begins_trans xs ys zs h g = (h.0 ++ g.0, sym (append_assoc xs h.0 g.0) ∙ ap (λ z. z ++ g.0) h.1 ∙ g.1)
+
+begins_length : {X : Type 0} (xs ys : List X) → IsBeginningOf xs ys → length xs ≤ length ys
+begins_length xs ys h = let l = length-append xs h.0 in let m = ap length h.1 in omega arith
+
+-- of two beginnings of a list the shorter begins the longer
+shorter_begins : {X : Type 0} (xs ys zs : List X) → IsBeginningOf xs zs → IsBeginningOf ys zs → length xs ≤ length ys → IsBeginningOf xs ys
+shorter_begins [] ys zs h g l = (ys, refl)
+shorter_begins (x ∷ xs) [] zs h g l = absurd (omega arith)
+shorter_begins (x ∷ xs) (y ∷ ys) [] h g l = absurd (cc (h.1))
+shorter_begins (x ∷ xs) (y ∷ ys) (z ∷ zs) h g l =
+    let same : x ≡ y = cc (h.1, g.1) in
+    let first : xs ++ h.0 ≡ zs = cc (h.1) in
+    let second : ys ++ g.0 ≡ zs = cc (g.1) in
+    let r = shorter_begins xs ys zs (h.0, first) (g.0, second) (omega arith) in
+    (r.0, λ i. same i ∷ r.1 i)
+
+take_begins : {X : Type 0} (n : ℕ) (xs : List X) → IsBeginningOf (take n xs) xs
+take_begins n xs = (drop n xs, take-append-drop n xs)
+
+take_of_front : {X : Type 0} (n : ℕ) (xs ys : List X) → IsBeginningOf (take n xs) (take n (xs ++ ys))
+take_of_front zero xs ys = ([], refl)
+take_of_front (suc n) [] ys = (take (suc n) ys, refl)
+take_of_front (suc n) (x ∷ xs) ys = let r = take_of_front n xs ys in (r.0, ap (λ z. x ∷ z) r.1)
+
+sent_begins : (b : ℕ) (xs ys : List Entry) → IsBeginningOf xs ys → IsBeginningOf (sendings_of b xs) (sendings_of b ys)
+sent_begins b xs ys h = (sendings_of b h.0, sym (sendings_of-append b xs h.0) ∙ ap (sendings_of b) h.1)
+
+got_begins : (a : ℕ) (xs ys : List Entry) → IsBeginningOf xs ys → IsBeginningOf (receipts_of a xs) (receipts_of a ys)
+got_begins a xs ys h = (receipts_of a h.0, sym (receipts_of-append a xs h.0) ∙ ap (receipts_of a) h.1)
+
+-- ---- the stopped list
+
+lower : (ℕ → ℕ) → ℕ → ℕ → ℕ
+lower stop site s = if site == s then stop s - 1 else stop s
+
+-- the events within the stop
+within : (ℕ → ℕ) → List WorldEvent → List WorldEvent
+within stop [] = []
+within stop (e ∷ es) = if stop e.site == 0 then within stop es else e ∷ within (lower stop e.site) es
+
+within_skips : (stop : ℕ → ℕ) (e : WorldEvent) (es : List WorldEvent) → stop e.site ≡ 0 → within stop (e ∷ es) ≡ within stop es
+unfolding within
+within_skips stop e es h = ap (λ z. if z then within stop es else e ∷ within (lower stop e.site) es) (eq-eqb (stop e.site) 0 h)
+
+within_takes : (stop : ℕ → ℕ) (e : WorldEvent) (es : List WorldEvent) → stop e.site ≢ 0 → within stop (e ∷ es) ≡ e ∷ within (lower stop e.site) es
+unfolding within
+within_takes stop e es h = ap (λ z. if z then within stop es else e ∷ within (lower stop e.site) es) (ne_eqb (stop e.site) 0 h)
+
+entries_within : (stop : ℕ → ℕ) (es : List WorldEvent) (s : ℕ) → entries_of s (within stop es) ≡ take (stop s) (entries_of s es)
+unfolding within lower
+entries_within stop [] s = none (stop s)
+  where
+    none : (n : ℕ) → ◌≡◌ {A = List Entry} [] (take n [])
+    none zero = refl
+    none (suc n) = refl
+entries_within stop (e ∷ es) s = elim (cases_eq (stop e.site) 0) [
+  | inl h ↦ ap (entries_of s) (within_skips stop e es h) ∙ entries_within stop es s ∙ elim (cases_eq e.site s) [
+    | inl at ↦
+        let zero_here : stop s ≡ 0 = ap stop (sym at) ∙ h in
+        ap (λ n. take n (entries_of s es)) zero_here ∙ ap (λ n. take n (entries_of s (e ∷ es))) (sym zero_here)
+    | inr far ↦ ap (take (stop s)) (sym (entries_elsewhere s e es far))
+  ]
+  | inr h ↦ ap (entries_of s) (within_takes stop e es h) ∙ elim (cases_eq e.site s) [
+    | inl at ↦
+        entries_here s e (within (lower stop e.site) es) at
+        ∙ ap (λ z. e.entry ∷ z) (entries_within (lower stop e.site) es s ∙ ap (λ z. take (if z then stop s - 1 else stop s) (entries_of s es)) (eq-eqb e.site s at))
+        ∙ one_more (stop s) (λ z. h (ap stop at ∙ z)) e.entry (entries_of s es)
+        ∙ ap (take (stop s)) (sym (entries_here s e es at))
+    | inr far ↦
+        entries_elsewhere s e (within (lower stop e.site) es) far
+        ∙ entries_within (lower stop e.site) es s ∙ ap (λ z. take (if z then stop s - 1 else stop s) (entries_of s es)) (ne_eqb e.site s far)
+        ∙ ap (take (stop s)) (sym (entries_elsewhere s e es far))
+  ]
+]
+  where
+    one_more : (n : ℕ) → n ≢ 0 → (x : Entry) (xs : List Entry) → x ∷ take (n - 1) xs ≡ take n (x ∷ xs)
+    one_more zero h x xs = absurd (h refl)
+    one_more (suc n) h x xs = let same : suc n - 1 ≡ n = omega arith in ap (λ m. x ∷ take m xs) same
+
+-- a beginning of the stopped list is a stopped beginning
+stopped_beginning : (stop : ℕ → ℕ) (es so_far rest : List WorldEvent) → so_far ++ rest ≡ within stop es → (front : List WorldEvent) × IsBeginningOf front es × (within stop front ≡ so_far)
+unfolding within
+stopped_beginning stop es [] rest h = ([], (es, refl), refl)
+stopped_beginning stop [] (x ∷ so_far) rest h = absurd (cc h)
+stopped_beginning stop (e ∷ es) (x ∷ so_far) rest h = elim (cases_eq (stop e.site) 0) [
+  | inl z ↦
+      let r = stopped_beginning stop es (x ∷ so_far) rest (h ∙ within_skips stop e es z) in
+      (e ∷ r.0, (r.1.0, ap (λ y. e ∷ y) r.1.1), within_skips stop e r.0 z ∙ r.2)
+  | inr z ↦
+      let list : x ∷ (so_far ++ rest) ≡ e ∷ within (lower stop e.site) es = h ∙ within_takes stop e es z in
+      let first : x ≡ e = cc list in
+      let others : so_far ++ rest ≡ within (lower stop e.site) es = cc list in
+      let r = stopped_beginning (lower stop e.site) es so_far rest others in
+      (e ∷ r.0, (r.1.0, ap (λ y. e ∷ y) r.1.1), within_takes stop e r.0 z ∙ (λ i. sym first i ∷ r.2 i))
+]
+
+module _ (t : Topology) (events : List WorldEvent) (run : IsRun t events) (stop : ℕ → ℕ) (consistent : IsConsistent stop events) where
+  -- at a beginning of the run, what came within the stop is a beginning of what was sent within it
+  in_order_within : (front : List WorldEvent) → IsBeginningOf front events → (a b : ℕ) → IsBeginningOf (receipts_of a (take (stop b) (entries_of b front))) (sendings_of b (take (stop a) (entries_of a front)))
+  in_order_within front begins a b =
+      let parts : (s : ℕ) → entries_of s front ++ entries_of s begins.0 ≡ entries_of s events = λ s. sym (entries_of-append s front begins.0) ∙ ap (entries_of s) begins.1 in
+      let got : IsBeginningOf (receipts_of a (take (stop b) (entries_of b front))) (sendings a b front) =
+      begins_trans _ (receipts a b front) _ (got_begins a _ _ (take_begins (stop b) (entries_of b front))) (run.in_order front begins a b) in
+      elim (cases_lt (stop a) (length (entries_of a front))) [
+        | inr all ↦ subst (λ z. IsBeginningOf (receipts_of a (take (stop b) (entries_of b front))) (sendings_of b z)) (sym (take_all (stop a) (entries_of a front) all)) got
+        | inl short ↦
+            let same : take (stop a) (entries_of a events) ≡ take (stop a) (entries_of a front) = ap (take (stop a)) (sym (parts a)) ∙ take-append-le (stop a) (entries_of a front) (entries_of a begins.0) (omega arith) in
+            let later : IsBeginningOf (take (stop b) (entries_of b front)) (take (stop b) (entries_of b events)) = subst (λ z. IsBeginningOf (take (stop b) (entries_of b front)) (take (stop b) z)) (parts b) (take_of_front (stop b) (entries_of b front) (entries_of b begins.0)) in
+            let fewer = begins_length _ _ (got_begins a _ _ later) in
+            let bound = consistent a b in
+            let long = ap (λ z. length (sendings_of b z)) same in
+            shorter_begins _ _ (sendings a b front) got (sent_begins b _ _ (take_begins (stop a) (entries_of a front))) (omega arith)
+      ]
+
+  stopped_run : IsRun t (within stop events)
+  stopped_run = record {
+    lawful = λ s. subst (IsLawful t s) (sym (entries_within stop events s)) (lawful_front t s _ (take (stop s) (entries_of s events)) (drop (stop s) (entries_of s events)) (subst (IsLawful t s) (sym (take-append-drop (stop s) (entries_of s events))) (run.lawful s)));
+    in_order = λ so_far begins a b.
+        let front = stopped_beginning stop events so_far begins.0 begins.1 in
+        subst (λ z. IsBeginningOf (receipts a b z) (sendings a b z)) front.2
+        (subst (λ z. IsBeginningOf z (sendings a b (within stop front.0))) (ap (receipts_of a) (sym (entries_within stop front.0 b)))
+        (subst (λ z. IsBeginningOf (receipts_of a (take (stop b) (entries_of b front.0))) z) (ap (sendings_of b) (sym (entries_within stop front.0 a))) (in_order_within front.0 front.1 a b)));
+  }
+
+pub stops_anywhere : (t : Topology) (events : List WorldEvent) → IsRun t events → StopsAnywhere t events
+stops_anywhere t events run = λ stop consistent. (within stop events, stopped_run t events run stop consistent, entries_within stop events)

@@ -1,0 +1,70 @@
+-- The state of a world, one event of it, and what holds at every moment.
+use Rattle.std.proofs.Common.{◌≡◌, ◌≢◌, ℕ, ◌+◌, Bool, true, not, ◌&&◌, ◌||◌, List, [], ◌∷◌, ◌++◌, sym, ap, subst, arith}
+use Rattle.cmh_frames.specs.declared.frame.Frame.{Frame}
+use Rattle.cmh_frames.specs.declared.frame.Frame.TheVariants.{Probe}
+use Rattle.cmh_model.specs.declared.journal.WorldEvent.{WorldEvent}
+use Rattle.cmh_frames.specs.Topology.{Topology, At}
+use Rattle.cmh_model.specs.Relation.{has}
+use Rattle.cmh_model.specs.State.{State, is_blocked}
+use Rattle.cmh_model.specs.Rules.{Accepts, Sends, after}
+use Rattle.cmh_model.specs.Paths.{IsPath}
+use Rattle.cmh_model.specs.Waits.{asks_for, grants}
+use Rattle.cmh_model.specs.Laws.{bit, count_of, is_request, is_reply}
+use Rattle.cmh_model.proofs.Pairs.{has_some-from}
+use Rattle.cmh_model.proofs.Bits.{bit_one, bit_at_most}
+use Rattle.cmh_model.proofs.Journals.{sent_on, got_on}
+use Rattle.cmh_model.proofs.PathLemmas.{LeadsTo}
+
+-- each site's state, what is under way on each link, and who waits for whom
+pub record World : Type 0 where
+  pub value : ℕ → State
+  pub queue : ℕ → ℕ → List Frame
+  pub wait : ℕ → ℕ → Bool
+
+-- an event of the site that leads from one world to the next
+pub record Step (t : Topology) (w : World) (e : WorldEvent) (n : World) : Type 0 where
+  pub accepted : Accepts t e.site (w.value e.site) e.entry.event
+  pub sends : Sends t e.site (w.value e.site) e.entry.event e.entry.sent e.entry.declared
+  pub here : n.value e.site ≡ after t e.site (w.value e.site) e.entry.event e.entry.declared
+  pub elsewhere : (a : ℕ) → a ≢ e.site → n.value a ≡ w.value a
+  pub links : (a b : ℕ) → w.queue a b ++ sent_on a b e ≡ got_on a b e ++ n.queue a b
+  pub waits : (j k : ℕ) → n.wait j k ≡ (asks_for j k e.entry.event || (not (grants k j e.entry.event) && w.wait j k))
+
+abbrev pub Waiting : World → ℕ → ℕ → Type 0
+Waiting w p q = w.wait p q ≡ true
+
+-- of j at a and k at b: the wait that j keeps is under way as a request, owed, or under way as a reply, once; and it stands until the reply is made
+abbrev pub Each : World → ℕ → ℕ → ℕ → ℕ → Type 0
+Each w a b j k =
+    (count_of (is_request j k) (w.queue a b) + bit (has (w.value b).owed k j) + count_of (is_reply k j) (w.queue b a) ≡ bit (has (w.value a).waits j k))
+    × (bit (w.wait j k) ≡ count_of (is_request j k) (w.queue a b) + bit (has (w.value b).owed k j))
+
+-- a probe on the link from a to b
+abbrev pub ProbeFits : Topology → World → ℕ → ℕ → ℕ → ℕ → ℕ → List Frame → Type 0
+ProbeFits t w a b i j k behind =
+    (a ≢ b) × At t j a × At t k b × (Waiting w j k → count_of (is_request j k) behind ≡ 0 → (members : List ℕ) × IsPath (Waiting w) i members j)
+
+pub record Inv (t : Topology) (w : World) : Type 0 where
+  pub own_link : (a : ℕ) → w.queue a a ≡ []
+  pub each : (a b j k : ℕ) → At t j a → At t k b → Each w a b j k
+  pub known : (j k : ℕ) → Waiting w j k → ((a : ℕ) × At t j a) × ((b : ℕ) × At t k b)
+  pub dependents : (b k i : ℕ) → has (w.value b).dependents k i ≡ true → At t k b × (is_blocked (w.value b) k ≡ true) × LeadsTo (Waiting w) i k
+  pub probes : (a b i j k : ℕ) (earlier behind : List Frame) → w.queue a b ≡ earlier ++ Probe (i, j, k) ∷ behind → ProbeFits t w a b i j k behind
+
+module _ (t : Topology) (w : World) (inv : Inv t w) where
+  abbrev pub BlockedAt : ℕ → Type 0
+  BlockedAt p = (a : ℕ) × At t p a × (is_blocked (w.value a) p ≡ true)
+
+  -- who waits is blocked
+  pub wait_blocks : (j k : ℕ) → Waiting w j k → BlockedAt j
+  wait_blocks j k h =
+      let at = inv.known j k h in
+      let both = inv.each at.0.0 at.1.0 j k at.0.1 at.1.1 in
+      let one = ap bit h in
+      let least = bit_at_most (has (w.value at.0.0).waits j k) in
+      let is : bit (has (w.value at.0.0).waits j k) ≡ 1 = omega arith in
+      (at.0.0, at.0.1, has_some-from (w.value at.0.0).waits j k (bit_one (has (w.value at.0.0).waits j k) 0 is))
+
+  pub path_blocks : (p : ℕ) (members : List ℕ) (q : ℕ) → IsPath (Waiting w) p members q → BlockedAt q → BlockedAt p
+  path_blocks p [] q h b = subst BlockedAt (sym h) b
+  path_blocks p (x ∷ xs) q h b = wait_blocks p x h.0

@@ -1,0 +1,5 @@
+use Rattle.cmh_model.proofs.Outcomes.{one_outcome}
+use Rattle.cmh_world.proofs.laws.outcome_law.Goals as goal
+
+pub returns : goal.returns
+returns c = one_outcome c.args.topology.now
