@@ -1,0 +1,75 @@
+/* Preloaded into a program, this refuses the Nth call of one kind, once, or lets each read and write move one byte.
+
+   REFUSE=KIND:N   KIND is memory, read, write or sync; the Nth call of it, counted from 1, fails
+   REFUSE=short    each read and each write moves at most one byte
+   REFUSE_MARK=F   the file F is made when a call is refused
+   REFUSE_COUNT=F  at the end the file F gets the number of allocations */
+#define _GNU_SOURCE
+#include <errno.h>
+#include <fcntl.h>
+#include <stdio.h>
+#include <stdlib.h>
+#include <string.h>
+#include <sys/syscall.h>
+#include <unistd.h>
+
+extern void *__libc_malloc(size_t);
+extern void *__libc_calloc(size_t, size_t);
+extern void *__libc_realloc(void *, size_t);
+
+enum kind { NONE, MEMORY, READ, WRITE, SYNC, SHORT };
+static enum kind wanted;
+static long place, calls, allocations;
+
+__attribute__((constructor)) static void begin(void) {
+    static const struct { const char *name; enum kind kind; } kinds[] = {
+        {"memory:", MEMORY}, {"read:", READ}, {"write:", WRITE}, {"sync:", SYNC}, {"short", SHORT}};
+    const char *text = getenv("REFUSE");
+    allocations = 0;
+    for (size_t i = 0; text && i < sizeof kinds / sizeof *kinds; i++) {
+        size_t length = strlen(kinds[i].name);
+        if (strncmp(text, kinds[i].name, length) == 0) {
+            wanted = kinds[i].kind;
+            place = atol(text + length);
+        }
+    }
+}
+
+__attribute__((destructor)) static void end(void) {
+    const char *path = getenv("REFUSE_COUNT");
+    if (!path) return;
+    char text[32];
+    int length = snprintf(text, sizeof text, "%ld\n", allocations);
+    int file = (int)syscall(SYS_open, path, O_WRONLY | O_CREAT | O_TRUNC, 0644);
+    if (file >= 0) { syscall(SYS_write, file, text, (size_t)length); syscall(SYS_close, file); }
+}
+
+static int refused(enum kind kind, int error) {
+    if (wanted != kind || __atomic_add_fetch(&calls, 1, __ATOMIC_SEQ_CST) != place) return 0;
+    const char *path = getenv("REFUSE_MARK");
+    if (path) syscall(SYS_close, syscall(SYS_open, path, O_WRONLY | O_CREAT, 0644));
+    errno = error;
+    return 1;
+}
+
+static int no_memory(void) {
+    __atomic_add_fetch(&allocations, 1, __ATOMIC_SEQ_CST);
+    return refused(MEMORY, ENOMEM);
+}
+
+void *malloc(size_t size) { return no_memory() ? NULL : __libc_malloc(size); }
+void *calloc(size_t count, size_t size) { return no_memory() ? NULL : __libc_calloc(count, size); }
+void *realloc(void *block, size_t size) { return no_memory() ? NULL : __libc_realloc(block, size); }
+
+ssize_t read(int file, void *buffer, size_t size) {
+    if (refused(READ, EIO)) return -1;
+    return syscall(SYS_read, file, buffer, wanted == SHORT && size > 1 ? 1 : size);
+}
+
+ssize_t write(int file, const void *buffer, size_t size) {
+    if (refused(WRITE, EIO)) return -1;
+    return syscall(SYS_write, file, buffer, wanted == SHORT && size > 1 ? 1 : size);
+}
+
+int fsync(int file) { return refused(SYNC, EIO) ? -1 : (int)syscall(SYS_fsync, file); }
+int fdatasync(int file) { return refused(SYNC, EIO) ? -1 : (int)syscall(SYS_fdatasync, file); }
