@@ -1,7 +1,11 @@
 -- Which process is at which site.
-use Rattle.std.specs.Prelude.{◌≡◌, ℕ, Bool, true, false, List, [], ◌∷◌, ◌==◌, if◌then◌else◌, Option, None, Some, unwrap_or, map}
-use Rattle.std.specs.List.{list_any}
+use Rattle.std.specs.Prelude.{◌≡◌, ℕ, ◌≤◌, Bool, true, false, ◌&&◌, List, [], ◌∷◌, ◌++◌, length, ◌==◌, if◌then◌else◌, Option, None, Some, unwrap_or, map, ◌↔◌, IsTrue}
+use Rattle.std.specs.Option.{is_some}
+use Rattle.std.specs.List.{list_any, AllByRecursion}
+use Rattle.std.specs.List.Sorted.{IsNonDecreasing, IsPermutation, IsStrictlyIncreasing}
 use Rattle.cmh_frames.specs.declared.edition.Edition.{Edition}
+use Rattle.cmh_frames.specs.Edition.{site_limit, member_limit}
+use Rattle.cmh_frames.specs.Rows.{Row, fault_of, has_site}
 
 -- the sites in ascending order, each with its processes in ascending order
 pub record Topology : Type 0 where
@@ -43,8 +47,61 @@ members_of t s = members_in t.rows s
 abbrev pub sites_of : Topology → List ℕ
 sites_of t = map (λ (row : ℕ × List ℕ). row.0) t.rows
 
+-- whether the site is one of the topology's
+abbrev pub is_site : Topology → ℕ → Bool
+is_site t s = list_any (λ q. q == s) (sites_of t)
+
 -- no site and no process stands in two rows
 abbrev pub AreApart : List (ℕ × List ℕ) → Type 0
 AreApart [] = Unit {0}
 AreApart (row ∷ rows) =
     ((p : ℕ) → list_any (λ q. q == p) row.1 ≡ true → home_in rows p ≡ None) × ((p : ℕ) → home_in rows p ≡ Some row.0 → ⊥) × AreApart rows
+
+-- ---- a topology and the rows that were given for it
+
+-- whether a row of the site names the process
+abbrev pub is_named : List Row → ℕ → ℕ → Bool
+is_named rows p s = list_any (λ (row : Row). (row.0 == s) && list_any (λ q. q == p) row.1) rows
+
+-- the topology of just these rows, which have no fault
+pub record IsTopologyOf (edition : Edition) (rows : List Row) (t : Topology) : Type 0 where
+  pub no_fault : fault_of edition rows ≡ None
+  pub edition_is : t.edition ≡ edition
+  pub sites : (s : ℕ) → is_site t s ≡ has_site rows s
+  pub places : (p s : ℕ) → At t p s ↔ IsTrue (is_named rows p s)
+  pub sites_ascend : IsStrictlyIncreasing (sites_of t)
+  pub members_ascend : (s : ℕ) → IsStrictlyIncreasing (members_of t s)
+
+-- ---- what every topology keeps
+
+-- rows within the limits of the edition, ascending, and with nothing twice
+pub record AreTidy (edition : Edition) (rows : List Row) : Type 0 where
+  pub apart : AreApart rows
+  pub sites_ascend : IsStrictlyIncreasing (map (λ (row : Row). row.0) rows)
+  pub members_ascend : AllByRecursion (λ (row : Row). IsStrictlyIncreasing row.1) rows
+  pub few_members : AllByRecursion (λ (row : Row). length row.1 ≤ member_limit edition) rows
+  pub few_sites : length rows ≤ site_limit edition
+
+-- the site in whose row a process stands, where there is one
+abbrev pub site_in : List Row → ℕ → ℕ
+site_in rows p = unwrap_or (home_in rows p) 0
+
+-- all processes of the rows
+abbrev pub all_members : List Row → List ℕ
+all_members [] = []
+all_members (row ∷ rows) = row.1 ++ all_members rows
+
+-- the processes of the rows in order, and beside each its site
+pub record AreHomes (rows : List Row) (processes homes : List ℕ) : Type 0 where
+  pub ascending : IsNonDecreasing processes
+  pub all : (p : ℕ) → list_any (λ q. q == p) processes ≡ is_some (home_in rows p)
+  pub sites : homes ≡ map (site_in rows) processes
+
+-- the same numbers in order
+pub record AreInOrder (numbers ordered : List ℕ) : Type 0 where
+  pub ascending : IsNonDecreasing ordered
+  pub same : IsPermutation numbers ordered
+
+-- the site's processes in order
+abbrev pub HasMembersOf : List Row → Row → Type 0
+HasMembersOf given row = AreInOrder (members_in given row.0) row.1

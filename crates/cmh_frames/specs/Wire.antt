@@ -1,6 +1,6 @@
 -- How frames stand on the wire. A frame: its kind, and then its numbers in two bytes each, the greater first.
 -- A link: the hello of the site that sends, and then its frames.
-use Rattle.std.specs.Prelude.{◌≡◌, ◌≢◌, ℕ, ◌+◌, ◌*◌, ◌<◌, ◌≤◌, ◌==◌, List, [], ◌∷◌, ◌++◌, length, take, if◌then◌else◌, ⊤}
+use Rattle.std.specs.Prelude.{◌≡◌, ◌≢◌, ℕ, ◌+◌, ◌<◌, ◌≤◌, ◌==◌, List, [], ◌∷◌, ◌++◌, length, take, if◌then◌else◌, ⊤}
 use Rattle.byteorder.specs.Endian.{big_bytes}
 use Rattle.cmh_frames.specs.Number.{IsNumber}
 use Rattle.cmh_frames.specs.declared.edition.Edition.{Edition}

@@ -1,7 +1,10 @@
 //! Editions of the rules and formats.
 
-ghost use Rattle.std.specs.Prelude.{◌≡◌, ◌≤◌, ◌==◌, ◌||◌, IsTrue, ◌↔◌, MatchOption, ◌≢◌};
+ghost use Rattle.std.specs.Fmt.{decimal};
+ghost use Rattle.std.specs.Prelude.{Some, ◌≡◌, ◌≤◌, ◌==◌, ◌||◌, IsTrue, ◌↔◌, MatchOption, ◌≢◌};
 ghost use Rattle.cmh_frames.specs.Edition as spec;
+
+use std::fmt;
 
 /// An edition of the rules and formats. All sites of a world are of one.
 #[derive(Clone, Copy, Debug, PartialEq, Eq, PartialOrd, Ord, Hash)]
@@ -25,9 +28,7 @@ impl Edition {
 
     /// The edition of a number.
     pub const fn of_number(number: u8) -> Option<Edition>
-        ensures {
-            MatchOption result ((edition : Edition) → number ≢ spec.number_of edition) (λ edition. number ≡ spec.number_of edition)
-        }
+        ensures { MatchOption result ((edition : Edition) → number ≢ spec.number_of edition) (λ edition. number ≡ spec.number_of edition) }
     {
         match number {
             1 => Some(Edition::One),
@@ -84,5 +85,13 @@ impl Edition {
             Edition::One => false,
             Edition::Two => true,
         }
+    }
+}
+
+impl fmt::Display for Edition {
+    ghost output = { λ e. Some (decimal (spec.number_of e)) };
+
+    fn fmt<W: fmt::Write>(&self, f: &mut fmt::Formatter<W>) -> fmt::Result {
+        write!(f, "{}", self.number())
     }
 }

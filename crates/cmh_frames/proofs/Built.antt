@@ -1,0 +1,257 @@
+-- Rows that are built from given rows without a fault.
+use Rattle.std.proofs.Common.{inl, inr, ◌⊎◌, ◌≡◌, ◌≢◌, ℕ, ◌<◌, ◌≤◌, Bool, true, false, ◌||◌, List, [], ◌∷◌, length, map, get_or, Option, None, Some, unwrap_or, refl, sym, ap, ◌∙◌, subst, arith, ◌==◌}
+use Rattle.std.specs.Prelude.{nat_lt, if◌then◌else◌}
+use Rattle.std.specs.Option.{is_some}
+use Rattle.std.specs.Ordering.{nat_cmp}
+use Rattle.std.specs.declared.cmp.Ordering.TheVariants.{Less}
+use Rattle.std.specs.Cmp.{nat_cmp_total}
+use Rattle.std.specs.List.{list_any, AllByRecursion, All, IsDistinct}
+use Rattle.std.specs.List.Sorted.{IsSorted, IsPermutation, IsStrictlyIncreasing, IsStrictlySortedBy}
+use Rattle.std.proofs.lemmas.Bool.{cases_eq, cases_Bool, eqb-true, eq-eqb, ne_eqb, or_cases, or_parts, or_left, or_right, ltb-true, ltb-false}
+use Rattle.std.proofs.lemmas.Cmp.{ranked}
+use Rattle.std.proofs.lemmas.List.{length-map, get_or_default, get_or-map}
+use Rattle.std.proofs.lemmas.List.Sorted.{sorted_far, ranks_by, list_any-IsPermutation, length_permutation}
+use Rattle.std.proofs.lemmas.List.Folds.{list_any_at}
+use Rattle.std.proofs.lemmas.List.Elements.{All-from_recursion, recursion_from_All}
+use Rattle.std.proofs.lemmas.Map.Keys.{IsDistinct-IsPermutation, IsStrictlyIncreasing-from_distinct, ge_from_not_lt, sorted_from_strictly_increasing}
+use Rattle.cmh_frames.specs.declared.edition.Edition.{Edition}
+use Rattle.cmh_frames.specs.declared.edition.Edition.TheVariants.{One, Two}
+use Rattle.cmh_frames.specs.declared.rows.TopologyFault.{TopologyFault}
+use Rattle.cmh_frames.specs.declared.rows.TopologyFault.TheVariants.{Limit, RepeatedSite, RepeatedProcess, BadNumber}
+use Rattle.cmh_frames.specs.Edition.{site_limit, member_limit}
+use Rattle.cmh_frames.specs.Rows.{Row, is_bad, is_over_limit, has_site, repeats_site, repeats_process, has_bad_number, fault_of}
+use Rattle.cmh_frames.specs.Topology.{Topology, home_in, members_in, AreApart, all_members, IsTopologyOf, AreTidy, AreHomes, site_in, AreInOrder, HasMembersOf}
+use Rattle.cmh_frames.proofs.Apart.{none_some, some_same, not_both, eqb_comm, home_first, home_later, members_first, members_later, home_has_row, apart, distinct_members, distinct_sites, any_site, named_at, home_of_member}
+use Rattle.cmh_frames.proofs.Homes.{at_home}
+
+-- what a sort ensures of numbers
+pub in_order : (xs ys : List ℕ) → IsPermutation xs ys → IsSorted nat_cmp ys → AreInOrder xs ys
+in_order xs ys same up = record {
+  ascending = λ i j d a b. ge_from_not_lt _ _ (sorted_far _ (ranks_by nat_cmp_total (λ x. x)) ys up i j d a b);
+  same = same;
+}
+
+in_order_rises : (xs ys : List ℕ) → AreInOrder xs ys → IsDistinct (λ x y. x == y) xs → IsStrictlyIncreasing ys
+in_order_rises xs ys o distinct = IsStrictlyIncreasing-from_distinct ys o.ascending (IsDistinct-IsPermutation (λ x y. x == y) eqb_comm xs ys o.same distinct)
+
+-- ---- what the checks say
+
+pub record NoFault (edition : Edition) (rows : List Row) : Type 0 where
+  pub within : is_over_limit edition rows ≡ false
+  pub sites : repeats_site rows ≡ false
+  pub processes : repeats_process rows ≡ false
+  pub numbers : has_bad_number rows ≡ false
+
+some_none : {f : TopologyFault} → Some f ≡ None → ⊥
+some_none e = cc
+
+none_of : (a b c d : Bool) → (if a then Some Limit else (if b then Some RepeatedSite else (if c then Some RepeatedProcess else (if d then Some BadNumber else None)))) ≡ None
+    → (a ≡ false) × (b ≡ false) × (c ≡ false) × (d ≡ false)
+none_of true b c d h = absurd (some_none h)
+none_of false true c d h = absurd (some_none h)
+none_of false false true d h = absurd (some_none h)
+none_of false false false true h = absurd (some_none h)
+none_of false false false false h = (refl, refl, refl, refl)
+
+pub no_fault : (edition : Edition) (rows : List Row) → fault_of edition rows ≡ None → NoFault edition rows
+no_fault edition rows h =
+    let parts = none_of (is_over_limit edition rows) (repeats_site rows) (repeats_process rows) (has_bad_number rows) h in
+    record { within = parts.0; sites = parts.1; processes = parts.2; numbers = parts.3 }
+
+-- each site's processes have numbers, and are few
+pub good_members : (rows : List Row) (s : ℕ) → has_bad_number rows ≡ false → list_any is_bad (members_in rows s) ≡ false
+good_members [] s h = refl
+good_members (row ∷ rows) s h =
+    let parts = or_parts (is_bad row.0 || list_any is_bad row.1) (has_bad_number rows) h in
+    elim (cases_eq row.0 s) [
+      | inl e ↦ ap (list_any is_bad) (members_first row rows s e) ∙ (or_parts (is_bad row.0) (list_any is_bad row.1) parts.0).1
+      | inr e ↦ ap (list_any is_bad) (members_later row rows s e) ∙ good_members rows s parts.1
+    ]
+
+few_members : (limit : ℕ) (rows : List Row) (s : ℕ) → list_any (λ (row : Row). nat_lt limit (length row.1)) rows ≡ false → length (members_in rows s) ≤ limit
+few_members limit [] s h = omega arith
+few_members limit (row ∷ rows) s h =
+    let parts = or_parts (nat_lt limit (length row.1)) _ h in
+    elim (cases_eq row.0 s) [
+      | inl e ↦ subst (λ ps. length ps ≤ limit) (sym (members_first row rows s e)) (ltb-false limit (length row.1) parts.0)
+      | inr e ↦ subst (λ ps. length ps ≤ limit) (sym (members_later row rows s e)) (few_members limit rows s parts.1)
+    ]
+
+-- ---- rows with the same members as the given ones
+
+-- a home among them is the given home
+home_given : (given rows : List Row) (p s : ℕ) → AreApart given → AllByRecursion (HasMembersOf given) rows → home_in rows p ≡ Some s → home_in given p ≡ Some s
+home_given given [] p s apart all h = absurd (none_some h)
+home_given given (row ∷ rows) p s apart all h = elim (cases_Bool (list_any (λ q. q == p) row.1)) [
+  | inl e ↦ (at_home given row.0 p apart).0 (list_any-IsPermutation (λ q. q == p) _ _ all.0.same ∙ e) ∙ sym (home_first row rows p e) ∙ h
+  | inr e ↦ home_given given rows p s apart all.1 (sym (home_later row rows p e) ∙ h)
+]
+
+-- they have a home for each process of a site that stands among them
+home_there : (given rows : List Row) (p s : ℕ) → AllByRecursion (HasMembersOf given) rows → has_site rows s ≡ true → list_any (λ q. q == p) (members_in given s) ≡ true → home_in rows p ≡ None → ⊥
+home_there given [] p s all found member none = not_both found refl
+home_there given (row ∷ rows) p s all found member none = elim (cases_Bool (list_any (λ q. q == p) row.1)) [
+  | inl e ↦ none_some (sym none ∙ home_first row rows p e)
+  | inr e ↦ elim (or_cases (row.0 == s) (has_site rows s) found) [
+    | inl same ↦ not_both (sym (list_any-IsPermutation (λ q. q == p) _ _ all.0.same) ∙ ap (λ r. list_any (λ q. q == p) (members_in given r)) (eqb-true row.0 s same) ∙ member) e
+    | inr later ↦ home_there given rows p s all.1 later member (sym (home_later row rows p e) ∙ none)
+  ]
+]
+
+cases_home : (home : Option ℕ) → (home ≡ None) ⊎ ((s : ℕ) × (home ≡ Some s))
+cases_home None = inl refl
+cases_home (Some s) = inr (s, refl)
+
+-- with the given sites they have the given homes
+pub same_home : (given rows : List Row) (p : ℕ) → AreApart given → AllByRecursion (HasMembersOf given) rows → ((s : ℕ) → has_site given s ≡ true → has_site rows s ≡ true) → home_in rows p ≡ home_in given p
+same_home given rows p apart all sites = elim (cases_home (home_in rows p)) [
+  | inr at ↦ at.1 ∙ sym (home_given given rows p at.0 apart all at.1)
+  | inl none ↦ elim (cases_home (home_in given p)) [
+    | inl no_home ↦ none ∙ sym no_home
+    | inr at ↦ absurd (home_there given rows p at.0 all (sites at.0 (home_has_row given p at.0 at.1)) ((at_home given at.0 p apart).1 at.1) none)
+  ]
+]
+
+not_less : (x : ℕ) → nat_cmp x x ≡ Less → ⊥
+not_less x h = let below : x < x = ranked x x Less (sym h) in absurd (omega arith)
+
+-- a strictly ascending list has its first number nowhere else
+above_all : (x : ℕ) (xs : List ℕ) → AllByRecursion (λ y. nat_cmp x y ≡ Less) xs → list_any (λ y. y == x) xs ≡ false
+above_all x [] h = refl
+above_all x (y ∷ ys) h = elim (cases_eq y x) [
+  | inl e ↦ absurd (not_less x (subst (λ z. nat_cmp x z ≡ Less) e h.0))
+  | inr n ↦ ap (λ b. b || list_any (λ z. z == x) ys) (ne_eqb y x n) ∙ above_all x ys h.1
+]
+
+apart_built : (given rows : List Row) → AreApart given → AllByRecursion (HasMembersOf given) rows → IsStrictlySortedBy nat_cmp (map (λ (row : Row). row.0) rows) → AreApart rows
+unfolding IsStrictlySortedBy
+apart_built given [] apart all up = tt
+apart_built given (row ∷ rows) apart all up =
+    let alone = sym (any_site rows row.0) ∙ above_all row.0 _ up.0 in (
+      (λ p found. elim (cases_home (home_in rows p)) [
+        | inl none ↦ none
+        | inr at ↦
+            let here = (at_home given row.0 p apart).0 (list_any-IsPermutation (λ q. q == p) _ _ all.0.same ∙ found) in
+            let same : at.0 ≡ row.0 = some_same (sym (home_given given rows p at.0 apart all.1 at.1) ∙ here) in
+            absurd (not_both (home_has_row rows p row.0 (at.1 ∙ ap Some same)) alone)
+      ]),
+      (λ p h. not_both (home_has_row rows p row.0 h) alone),
+      apart_built given rows apart all.1 up.1,
+    )
+
+members_rise : (given rows : List Row) → repeats_process given ≡ false → AllByRecursion (HasMembersOf given) rows → AllByRecursion (λ (row : Row). IsStrictlyIncreasing row.1) rows
+members_rise given [] h all = tt
+members_rise given (row ∷ rows) h all = (in_order_rises _ row.1 all.0 (distinct_members given row.0 h), members_rise given rows h all.1)
+
+members_few : (limit : ℕ) (given rows : List Row) → list_any (λ (row : Row). nat_lt limit (length row.1)) given ≡ false → AllByRecursion (HasMembersOf given) rows → AllByRecursion (λ (row : Row). length row.1 ≤ limit) rows
+members_few limit given [] h all = tt
+members_few limit given (row ∷ rows) h all =
+    (subst (λ n. n ≤ limit) (sym (length_permutation _ _ all.0.same)) (few_members limit given row.0 h), members_few limit given rows h all.1)
+
+pub members_at_rise : (rows : List Row) (s : ℕ) → AllByRecursion (λ (row : Row). IsStrictlyIncreasing row.1) rows → IsStrictlyIncreasing (members_in rows s)
+members_at_rise [] s all = λ k within. absurd (omega arith)
+members_at_rise (row ∷ rows) s all = elim (cases_eq row.0 s) [
+  | inl e ↦ subst IsStrictlyIncreasing (sym (members_first row rows s e)) all.0
+  | inr e ↦ subst IsStrictlyIncreasing (sym (members_later row rows s e)) (members_at_rise rows s all.1)
+]
+
+pub members_at_few : (limit : ℕ) (rows : List Row) (s : ℕ) → AllByRecursion (λ (row : Row). length row.1 ≤ limit) rows → length (members_in rows s) ≤ limit
+members_at_few limit [] s all = omega arith
+members_at_few limit (row ∷ rows) s all = elim (cases_eq row.0 s) [
+  | inl e ↦ subst (λ ps. length ps ≤ limit) (sym (members_first row rows s e)) all.0
+  | inr e ↦ subst (λ ps. length ps ≤ limit) (sym (members_later row rows s e)) (members_at_few limit rows s all.1)
+]
+
+pub at_most_64 : (edition : Edition) (n : ℕ) → n ≤ member_limit edition → n ≤ 64
+at_most_64 One n h = omega (arith, h)
+at_most_64 Two n h = h
+
+pub sites_at_most_64 : (edition : Edition) (n : ℕ) → n ≤ site_limit edition → n ≤ 64
+sites_at_most_64 One n h = omega (arith, h)
+sites_at_most_64 Two n h = h
+
+-- ---- the whole
+
+module _ (edition : Edition) (given rows : List Row) (sites : List ℕ) (free : fault_of edition given ≡ None) (ordered : AreInOrder (map (λ (row : Row). row.0) given) sites)
+    (sites_are : map (λ (row : Row). row.0) rows ≡ sites) (all : AllByRecursion (HasMembersOf given) rows) where
+  rising : IsStrictlyIncreasing (map (λ (row : Row). row.0) rows)
+  rising = subst IsStrictlyIncreasing (sym sites_are) (in_order_rises _ sites ordered (distinct_sites given (no_fault edition given free).sites))
+
+  same_sites : (s : ℕ) → list_any (λ q. q == s) (map (λ (row : Row). row.0) rows) ≡ has_site given s
+  same_sites s = ap (list_any (λ q. q == s)) sites_are ∙ sym (list_any-IsPermutation (λ q. q == s) _ _ ordered.same) ∙ any_site given s
+
+  pub are_tidy : AreTidy edition rows
+  are_tidy =
+      let none = no_fault edition given free in
+      let limits = or_parts (nat_lt (site_limit edition) (length given)) _ none.within in
+      let members = or_parts (list_any (λ (row : Row). nat_lt (member_limit edition) (length row.1)) given) _ limits.1 in
+      let many : length rows ≡ length given = sym (length-map rows (λ (row : Row). row.0)) ∙ ap length sites_are ∙ length_permutation _ _ ordered.same ∙ length-map given (λ (row : Row). row.0) in
+      record {
+        apart = apart_built given rows (apart given none.sites none.processes) all (sorted_from_strictly_increasing _ rising);
+        sites_ascend = rising;
+        members_ascend = members_rise given rows none.processes all;
+        few_members = members_few (member_limit edition) given rows members.0 all;
+        few_sites = subst (λ n. n ≤ site_limit edition) (sym many) (ltb-false (site_limit edition) (length given) limits.0);
+      }
+
+  pub is_topology_of : (t : Topology) → t.edition ≡ edition → t.rows ≡ rows → IsTopologyOf edition given t
+  is_topology_of t edition_is rows_are =
+      let none = no_fault edition given free in
+      let given_apart = apart given none.sites none.processes in
+      record {
+        no_fault = free;
+        edition_is = edition_is;
+        sites = λ s. ap (λ (rs : List Row). list_any (λ q. q == s) (map (λ (row : Row). row.0) rs)) rows_are ∙ same_sites s;
+        places = λ p s.
+            let same = ap (λ rs. home_in rs p) rows_are ∙ same_home given rows p given_apart all (λ r h. sym (any_site rows r) ∙ same_sites r ∙ h) in
+            let named = named_at given p s given_apart in
+            (λ h. named.0 (sym same ∙ h), λ h. same ∙ named.1 h);
+        sites_ascend = subst (λ (rs : List Row). IsStrictlyIncreasing (map (λ (row : Row). row.0) rs)) (sym rows_are) rising;
+        members_ascend = λ s. members_at_rise t.rows s (subst (λ rs. AllByRecursion (λ (row : Row). IsStrictlyIncreasing row.1) rs) (sym rows_are) (members_rise given rows none.processes all));
+      }
+
+-- ---- homes
+
+all_at_home : (test : ℕ → Bool) (ps : List ℕ) → ((p : ℕ) → list_any (λ q. q == p) ps ≡ true → test p ≡ true) → AllByRecursion (λ p. test p ≡ true) ps
+all_at_home test [] h = tt
+all_at_home test (p ∷ ps) h = (h p (or_left (p == p) _ (eq-eqb p p refl)), all_at_home test ps (λ q found. h q (or_right (p == q) _ found)))
+
+pub has_homes : (rows : List Row) (processes : List ℕ) → AreInOrder (all_members rows) processes → (p : ℕ) → list_any (λ q. q == p) processes ≡ is_some (home_in rows p)
+has_homes rows processes ordered p = sym (list_any-IsPermutation (λ q. q == p) _ _ ordered.same) ∙ home_of_member rows p
+
+pub each_has_home : (rows : List Row) (processes : List ℕ) → AreInOrder (all_members rows) processes → All (λ p. is_some (home_in rows p) ≡ true) processes
+each_has_home rows processes ordered = All-from_recursion _ processes (all_at_home (λ p. is_some (home_in rows p)) processes (λ p found. sym (has_homes rows processes ordered p) ∙ found))
+
+-- ---- a home that is found by halving
+
+none_is : (p : ℕ) (ps : List ℕ) → AllByRecursion (λ q. q ≢ p) ps → list_any (λ q. q == p) ps ≡ false
+none_is p [] h = refl
+none_is p (q ∷ ps) h = ap (λ b. b || list_any (λ r. r == p) ps) (ne_eqb q p h.0) ∙ none_is p ps h.1
+
+has_some_home : (rows : List Row) (p : ℕ) → is_some (home_in rows p) ≡ true → Some (site_in rows p) ≡ home_in rows p
+has_some_home rows p h = elim (cases_home (home_in rows p)) [
+  | inl none ↦ absurd (not_both h (ap is_some none))
+  | inr at ↦ ap (λ home. Some (unwrap_or home 0)) at.1 ∙ sym at.1
+]
+
+has_no_home : (rows : List Row) (p : ℕ) → is_some (home_in rows p) ≡ false → None ≡ home_in rows p
+has_no_home rows p h = elim (cases_home (home_in rows p)) [
+  | inl none ↦ sym none
+  | inr at ↦ absurd (not_both (ap is_some at.1) h)
+]
+
+module _ (rows : List Row) (ps homes : List ℕ) (p : ℕ) (are : AreHomes rows ps homes) where
+  pub home_at : (i d : ℕ) → i < length ps → get_or ps i 0 ≡ p → Some (get_or homes i d) ≡ home_in rows p
+  home_at i d within e =
+      let site : get_or homes i d ≡ site_in rows p = ap (λ hs. get_or hs i d) are.sites ∙ get_or-map (site_in rows) ps i 0 d within ∙ ap (site_in rows) e in
+      ap Some site ∙ has_some_home rows p (sym (are.all p) ∙ list_any_at (λ q. q == p) ps i 0 within (eq-eqb _ p e))
+
+  -- p is between two numbers next to each other
+  pub no_home : (gap : ℕ) → ((k : ℕ) → k < gap → get_or ps k 0 < p) → ((k : ℕ) → gap ≤ k → k < length ps → p < get_or ps k 0) → None ≡ home_in rows p
+  no_home gap below above = has_no_home rows p (sym (are.all p) ∙ none_is p ps (recursion_from_All (λ q. q ≢ p) ps (λ k d within. subst (λ q. q ≢ p) (get_or_default ps k 0 d within) (differ k within))))
+    where
+      differ : (k : ℕ) → k < length ps → get_or ps k 0 ≢ p
+      differ k within e = elim (cases_Bool (nat_lt k gap)) [
+        | inl l ↦ absurd (omega (arith, below k (ltb-true k gap l)))
+        | inr l ↦ absurd (omega (arith, above k (ltb-false k gap l) within))
+      ]

@@ -1,0 +1,199 @@
+//! The rows that are given for a topology, and what can be wrong with them.
+
+ghost use Rattle.std.specs.Prelude.{◌≡◌, IfErr, IfOk, length, nat_lt, None};
+ghost use Rattle.std.specs.List.{list_any, sum_by};
+ghost use Rattle.cmh_frames.specs.Edition.{process_limit};
+ghost use Rattle.cmh_frames.specs.Rows as spec;
+ghost use Rattle.cmh_frames.specs.Rows.{fault_of, IsFaultOf};
+ghost use Rattle.cmh_frames.specs.Topology.{members_in};
+
+use crate::edition::Edition;
+use crate::number::is_number;
+use std::marker::Model;
+use thiserror::Error;
+
+/// A site and its processes, as they are given: any numbers, in any order.
+#[derive(Debug, Drop)]
+pub struct SiteRow {
+    pub site: u16,
+    pub processes: Vec<u16>,
+}
+
+impl Model for SiteRow {
+    ghost use Rattle.std.specs.Prelude.{ℕ, List};
+
+    ghost Value = { ℕ × List ℕ };
+
+    ghost view = { λ r. (r.site, r.processes.items) };
+}
+
+/// Why rows are no topology. The first that holds over all rows is given.
+#[derive(Clone, Copy, Debug, PartialEq, Eq, Error)]
+pub enum TopologyFault {
+    /// Too many sites, processes at one site, or processes in all. The rows' lengths count.
+    #[error("too many sites or processes")]
+    Limit,
+    #[error("a site has two rows")]
+    RepeatedSite,
+    /// A process is named twice, in one row or in two.
+    #[error("a process is named twice")]
+    RepeatedProcess,
+    #[error("a number is not from 1 to 9999")]
+    BadNumber,
+    #[error("out of memory")]
+    Memory,
+}
+
+impl TopologyFault {
+    /// The number that stands for the fault in texts, 1 to 5.
+    pub const fn number(&self) -> u8
+        ensures { result ≡ spec.fault_number self.now }
+    {
+        match self {
+            TopologyFault::Limit => 1,
+            TopologyFault::RepeatedSite => 2,
+            TopologyFault::RepeatedProcess => 3,
+            TopologyFault::BadNumber => 4,
+            TopologyFault::Memory => 5,
+        }
+    }
+}
+
+/// The first fault of the rows, if there is one. Takes no memory.
+pub(crate) fn check_rows(edition: Edition, rows: &[SiteRow]) -> Result<(), TopologyFault>
+    ensures ok { IfOk result (λ _. fault_of edition rows.now ≡ None) }
+    ensures fault { IfErr result (IsFaultOf edition rows.now) }
+{
+    if edition.site_limit() < rows.len()
+        || has_large_site(edition.member_limit(), rows)
+        || is_crowded(edition, rows)
+    {
+        return Err(TopologyFault::Limit);
+    }
+    if repeats_site(rows) {
+        return Err(TopologyFault::RepeatedSite);
+    }
+    if repeats_process(rows) {
+        return Err(TopologyFault::RepeatedProcess);
+    }
+    if has_bad_number(rows) {
+        return Err(TopologyFault::BadNumber);
+    }
+    Ok(())
+}
+
+/// The processes that the site's row names.
+pub(crate) fn processes_of(rows: &[SiteRow], site: u16) -> &[u16]
+    ensures { result.now ≡ members_in rows.now site }
+{
+    for row in rows {
+        if row.site == site {
+            return &row.processes;
+        }
+    }
+    &[]
+}
+
+fn has_large_site(limit: usize, rows: &[SiteRow]) -> bool
+    ensures { result ≡ list_any (λ row. nat_lt limit (length row.1)) rows.now }
+{
+    for row in rows {
+        if limit < row.processes.len() {
+            return true;
+        }
+    }
+    false
+}
+
+/// Whether there are too many processes in all. What is left of the limit is counted, so no sum can grow too large.
+fn is_crowded(edition: Edition, rows: &[SiteRow]) -> bool
+    ensures { result ≡ nat_lt (process_limit edition) (sum_by (λ row. length row.1) rows.now) }
+{
+    let mut left = edition.process_limit();
+    for row in rows {
+        if left < row.processes.len() {
+            return true;
+        }
+        left -= row.processes.len();
+    }
+    false
+}
+
+fn repeats_site(rows: &[SiteRow]) -> bool
+    ensures { result ≡ spec.repeats_site rows.now }
+{
+    for (i, row) in rows.iter().enumerate() {
+        if has_site(&rows[i + 1..], row.site) {
+            return true;
+        }
+    }
+    false
+}
+
+fn has_site(rows: &[SiteRow], site: u16) -> bool
+    ensures { result ≡ spec.has_site rows.now site }
+{
+    for row in rows {
+        if row.site == site {
+            return true;
+        }
+    }
+    false
+}
+
+fn repeats_process(rows: &[SiteRow]) -> bool
+    ensures { result ≡ spec.repeats_process rows.now }
+{
+    for (i, row) in rows.iter().enumerate() {
+        if repeats_among(&rows[i + 1..], &row.processes) {
+            return true;
+        }
+    }
+    false
+}
+
+/// Whether one of the processes stands twice among them, or in one of the rows.
+fn repeats_among(rows: &[SiteRow], processes: &[u16]) -> bool
+    ensures { result ≡ spec.repeats_among rows.now processes.now }
+{
+    for (i, process) in processes.iter().enumerate() {
+        if processes[i + 1..].contains(process) || has_process(rows, *process) {
+            return true;
+        }
+    }
+    false
+}
+
+fn has_process(rows: &[SiteRow], process: u16) -> bool
+    ensures { result ≡ spec.has_process rows.now process }
+{
+    for row in rows {
+        if row.processes.contains(&process) {
+            return true;
+        }
+    }
+    false
+}
+
+fn has_bad_number(rows: &[SiteRow]) -> bool
+    ensures { result ≡ spec.has_bad_number rows.now }
+{
+    for row in rows {
+        if is_bad(row.site) || any_bad(&row.processes) {
+            return true;
+        }
+    }
+    false
+}
+
+fn any_bad(numbers: &[u16]) -> bool
+    ensures { result ≡ list_any spec.is_bad numbers.now }
+{
+    numbers.iter().any(|number| is_bad(*number))
+}
+
+fn is_bad(number: u16) -> bool
+    ensures { result ≡ spec.is_bad number }
+{
+    !is_number(number)
+}
