@@ -22,6 +22,7 @@ pub reach_ends : (t : Topology) (s : ℕ) (waits : Relation) (p : ℕ) (members 
 reach_ends t s waits p [] q at path = subst (λ x. At t x s) path at
 reach_ends t s waits p (x ∷ xs) q at path = reach_ends t s waits x xs q path.0.1 path.1
 
+-- each edge of the probes is one from the place where the computation is
 each_edge : (t : Topology) (s : ℕ) (waits : Relation) (i p : ℕ) (sent : List (ℕ × Frame)) (a : AreProbes t s waits i p sent) → AllByRecursion (IsEdgeFrom t s waits p) a.edges
 each_edge t s waits i p sent a = recursion_from_All (IsEdgeFrom t s waits p) a.edges (λ k d l. (a.all (get_or a.edges k d)).0 (Contains-get_or a.edges k d l))
 
@@ -31,13 +32,16 @@ same_probe o o' f f' g g' xs ys e =
     let all : ◌≡◌ {A = ℕ × ℕ × ℕ} (o, f, g) (o', f', g') = cc e in
     (ap (λ (q : ℕ × ℕ × ℕ). q.0) all, ap (λ (q : ℕ × ℕ × ℕ). q.1) all, ap (λ (q : ℕ × ℕ × ℕ). q.2) all)
 
+-- lists with equal first members
 pub same_rest : (x y : Frame) (xs ys : List Frame) → x ∷ xs ≡ y ∷ ys → xs ≡ ys
 same_rest x y xs ys e = (cc)
 
+-- an empty list has no member
 pub empty_has_none : (us : List Frame) (x : Frame) (vs : List Frame) → [] ≡ us ++ x ∷ vs → ⊥
 empty_has_none [] x vs e = (cc)
 empty_has_none (u ∷ us) x vs e = (cc)
 
+-- a probe among those along some edges is along one of them
 one_of_probes :
     (t : Topology) (P : ℕ × ℕ → Type 0) (origin b i j k : ℕ) (edges : List (ℕ × ℕ)) (us vs : List Frame) → AllByRecursion P edges
     → frames_to b (map (λ (edge : ℕ × ℕ). (site_of t edge.1, Probe (origin, edge.0, edge.1))) edges) ≡ us ++ Probe (i, j, k) ∷ vs → (origin ≡ i) × P (j, k) × (site_of t k ≡ b)
@@ -57,10 +61,12 @@ one_of_probes t P origin b i j k (x ∷ xs) us vs each e = elim (cases_eq (site_
 
 -- ---- no frame goes to the sender's own site
 
+-- a known process that is not at the site has another home
 home_elsewhere : (o : Option ℕ) (s : ℕ) → IsSome o → is_some_of o s ≡ false → unwrap_or o 0 ≢ s
 home_elsewhere None s some h = absurd (true≢false (sym some))
 home_elsewhere (Some q) s some h = λ e. true≢false (sym (eq-eqb q s e) ∙ h)
 
+-- no request goes to the own site
 own_requests : (t : Topology) (s asker : ℕ) (ks : List ℕ) → AllByRecursion (λ k. IsSome (home t k) × (k ≢ asker)) ks → frames_to s (requests t s asker ks) ≡ []
 own_requests t s asker [] known = refl
 own_requests t s asker (k ∷ ks) known = elim (cases_Bool (is_at t k s)) [
@@ -69,6 +75,7 @@ own_requests t s asker (k ∷ ks) known = elim (cases_Bool (is_at t k s)) [
       ∙ to_no s (site_of t k) (Request (asker, k)) (requests t s asker ks) (home_elsewhere (home t k) s known.0.0 z) ∙ own_requests t s asker ks known.1
 ]
 
+-- no reply
 own_replies : (t : Topology) (s holder asker : ℕ) → IsSome (home t asker) → frames_to s (replies t s holder asker) ≡ []
 own_replies t s holder asker known = elim (cases_Bool (is_at t asker s)) [
   | inl z ↦ ap (λ c. frames_to s (if c then [] else (site_of t asker, Reply_frame (holder, asker)) ∷ [])) z
@@ -76,18 +83,21 @@ own_replies t s holder asker known = elim (cases_Bool (is_at t asker s)) [
       ∙ to_no s (site_of t asker) (Reply_frame (holder, asker)) [] (home_elsewhere (home t asker) s known z)
 ]
 
+-- no probe
 own_probes : (t : Topology) (s : ℕ) (waits : Relation) (origin p : ℕ) (edges : List (ℕ × ℕ)) → AllByRecursion (IsEdgeFrom t s waits p) edges → frames_to s (map (λ (edge : ℕ × ℕ). (site_of t edge.1, Probe (origin, edge.0, edge.1))) edges) ≡ []
 own_probes t s waits origin p [] each = refl
 own_probes t s waits origin p (x ∷ xs) each =
     to_no s (site_of t x.1) (Probe (origin, x.0, x.1)) (map (λ (edge : ℕ × ℕ). (site_of t edge.1, Probe (origin, edge.0, edge.1))) xs) (λ e. each.0.2.2 (sym (site_of-at t x.1 each.0.2.0 each.0.2.1) ∙ e))
     ∙ own_probes t s waits origin p xs each.1
 
+-- neither requests nor a reply
 own_answers : (t : Topology) (s : ℕ) (v : State) (ev : Event) → Accepts t s v ev → frames_to s (answers_of t s ev) ≡ []
 own_answers t s v (Ask asker targets) acc = own_requests t s asker targets acc.2.known
 own_answers t s v (Reply holder asker) acc = own_replies t s holder asker acc.3
 own_answers t s v (Start i) acc = refl
 own_answers t s v (Got a f) acc = refl
 
+-- no frame that an event sends goes to the own site
 pub none_to_own : (t : Topology) (s : ℕ) (v : State) (ev : Event) (sent : List (ℕ × Frame)) (d : Option ℕ) → Accepts t s v ev → Sends t s v ev sent d → frames_to s sent ≡ []
 none_to_own t s v ev sent d acc sends =
     let x = shape t s v ev sent d sends in
@@ -99,6 +109,7 @@ none_to_own t s v ev sent d acc sends =
 
 -- ---- the probes in what is sent
 
+-- the frame is a probe
 abbrev is_probe : Frame → Bool
 is_probe (Request (x, y)) = false
 is_probe (Reply_frame (x, y)) = false
@@ -120,6 +131,7 @@ split_append (z ∷ xs) ys (u ∷ us) x vs e = go (split_append xs ys us x vs (s
     go (inl r) = inl (r.0, (λ i. first_same z u (xs ++ ys) (us ++ x ∷ vs) e i ∷ r.1 i), r.2)
     go (inr r) = inr r
 
+-- no request is a probe
 request_no_probe : (t : Topology) (s asker b : ℕ) (ks : List ℕ) → count_of is_probe (frames_to b (requests t s asker ks)) ≡ 0
 request_no_probe t s asker b [] = refl
 request_no_probe t s asker b (q ∷ ks) = elim (cases_Bool (is_at t q s)) [
@@ -128,6 +140,7 @@ request_no_probe t s asker b (q ∷ ks) = elim (cases_Bool (is_at t q s)) [
       ∙ count_to_no is_probe b (site_of t q) (Request (asker, q)) (requests t s asker ks) refl ∙ request_no_probe t s asker b ks
 ]
 
+-- neither requests nor a reply are probes
 answer_no_probe : (t : Topology) (s b : ℕ) (ev : Event) → count_of is_probe (frames_to b (answers_of t s ev)) ≡ 0
 answer_no_probe t s b (Ask asker targets) = request_no_probe t s asker b targets
 answer_no_probe t s b (Reply holder asker) = elim (cases_Bool (is_at t asker s)) [

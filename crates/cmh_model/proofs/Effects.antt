@@ -15,6 +15,7 @@ use Rattle.cmh_model.proofs.Pairs.{has_some-from, has_some-to, has-none, has-wit
 use Rattle.cmh_model.proofs.Places.{frame_from-no, if-dependents}
 use Rattle.cmh_model.proofs.Moves.{both_or_not, both_yes, reply_waits, probe_waits}
 
+-- what holds of each holds of one of them
 any_known : (P : ℕ → Type 0) (k : ℕ) (ks : List ℕ) → AllByRecursion P ks → list_any (λ q. q == k) ks ≡ true → P k
 any_known P k [] each h = absurd (true≢false (sym h))
 any_known P k (x ∷ xs) each h = elim (or_cases (x == k) (list_any (λ q. q == k) xs) h) [
@@ -22,6 +23,7 @@ any_known P k (x ∷ xs) each h = elim (or_cases (x == k) (list_any (λ q. q == 
   | inr e ↦ any_known P k xs each.1 e
 ]
 
+-- a known process has a home
 some_home : (o : Option ℕ) → IsSome o → (b : ℕ) × (o ≡ Some b)
 some_home None h = absurd (true≢false (sym h))
 some_home (Some b) h = (b, refl)
@@ -64,11 +66,13 @@ none_from_own t s v (Got a (Request (x, y))) acc = frame_from-no a s (Request (x
 none_from_own t s v (Got a (Reply_frame (x, y))) acc = frame_from-no a s (Reply_frame (x, y)) acc.0
 none_from_own t s v (Got a (Probe (x, y, z))) acc = frame_from-no a s (Probe (x, y, z)) acc.0
 
+-- who has not become active, and was blocked, is blocked
 still_blocked : (old new : Bool) → not (old && not new) ≡ true → old ≡ true → new ≡ true
 still_blocked true true h e = refl
 still_blocked true false h e = absurd (true≢false (sym h))
 still_blocked false new h e = absurd (true≢false (sym e))
 
+-- an ask leaves the blocked blocked
 more_waits : (r : Relation) (a : ℕ) (bs : List ℕ) (k : ℕ) → has_some r k ≡ true → has_some (with_each r a bs) k ≡ true
 more_waits r a bs k h = let one = has_some-to r k h in has_some-from (with_each r a bs) k one.0 (has-with_each_kept r a bs k one.0 one.1)
 

@@ -19,6 +19,7 @@ use Rattle.cmh_model.proofs.Moves.{both_or_not, both_yes, reply_waits, reply_owe
 use Rattle.cmh_model.proofs.Effects.{asks_means, grants_means, none_from_own, dependents_after}
 use Rattle.cmh_model.proofs.Bits.{bit_zero, bit_one}
 
+-- what a smaller relation has the greater one had
 without_old : (r : Relation) (a b x y : ℕ) → has (without_pair r a b) x y ≡ true → has r x y ≡ true
 without_old r a b x y h = (and_parts (not ((x == a) && (y == b))) (has r x y) (sym (has-without r a b x y) ∙ h)).1
 
@@ -40,6 +41,7 @@ waits_means t s v (Got a (Request (x, y))) d j k h = inl h
 waits_means t s v (Got a (Reply_frame (holder, asker))) d j k h = inl (without_old v.waits asker holder j k h)
 waits_means t s v (Got a (Probe (o, f, g))) d j k h = inl (sym (ap (λ r. has r j k) (probe_waits t s v a o f g d)) ∙ h)
 
+-- what is owed after an ask was owed before, or is owed by a target at the site to the asker
 owed_by_ask : (t : Topology) (s : ℕ) (r : Relation) (asker : ℕ) (ks : List ℕ) (k j : ℕ) → has (owed_after_ask (λ p. is_at t p s) r asker ks) k j ≡ true → (has r k j ≡ true) ⊎ (At t k s × (asker ≡ j))
 owed_by_ask t s r asker [] k j h = inl h
 owed_by_ask t s r asker (q ∷ ks) k j h = elim (cases_Bool (is_at t q s)) [
@@ -67,10 +69,12 @@ owed_means t s v (Got a (Request (asker, holder))) d k j acc h = elim (both_or_n
 owed_means t s v (Got a (Reply_frame (x, y))) d k j acc h = inl h
 owed_means t s v (Got a (Probe (o, f, g))) d k j acc h = inl (sym (ap (λ r. has r k j) (probe_owed t s v a o f g d)) ∙ h)
 
+-- equal bits are of equal truth values
 same_bit : (x y : Bool) → bit x ≡ bit y → x ≡ y
 same_bit true y h = sym (bit_one y 0 (sym h))
 same_bit false y h = sym (bit_zero y (sym h))
 
+-- beside what is true
 and_yes : (x y : Bool) → y ≡ true → (x && y) ≡ x
 and_yes true y h = h
 and_yes false y h = refl
@@ -101,6 +105,7 @@ facts_after t s v ev d acc old = record {
       same_bit _ _ (omega arith);
 }
 
+-- it holds of the empty state
 facts_first : (t : Topology) (s : ℕ) → JournalFacts t s empty_state
 facts_first t s = record {
   waits_home = λ j k h. absurd (true≢false (sym h ∙ has-empty j k));
@@ -109,9 +114,11 @@ facts_first t s = record {
   local = λ j k at_j at_k. has-empty j k ∙ sym (has-empty k j);
 }
 
+-- a lawful journal keeps it
 facts_on : (t : Topology) (s : ℕ) (v : State) (journal : List Entry) → LawfulFrom t s v journal → JournalFacts t s v → JournalFacts t s (state_after t s v journal)
 facts_on t s v [] lawful old = old
 facts_on t s v (e ∷ es) lawful old = facts_on t s (after t s v e.event e.declared) es lawful.2 (facts_after t s v e.event e.declared lawful.0 old)
 
+-- it holds of the state of each lawful journal
 pub lawful_states : (t : Topology) → LawfulStates t
 lawful_states t = λ s journal lawful. facts_on t s empty_state journal lawful (facts_first t s)

@@ -10,3 +10,6 @@ pub mod Journals
 pub mod Marks
 pub mod Outcomes
 pub mod Lawful
+pub mod LongerRuns
+pub mod Listed
+mod Scripts

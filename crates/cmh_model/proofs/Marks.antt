@@ -20,6 +20,7 @@ use Rattle.cmh_model.proofs.Places.{if-dependents}
 use Rattle.cmh_model.proofs.Moves.{reply_waits}
 use Rattle.cmh_model.proofs.Sent.{answers_of}
 
+-- a dependent of a process that is blocked afterwards is not forgotten
 kept_mark : (r waits waits' : Relation) (k i : ℕ) → has r k i ≡ true → has_some waits' k ≡ true → has (only_firsts r (λ p. not (has_some waits p && not (has_some waits' p)))) k i ≡ true
 kept_mark r waits waits' k i h b = has-only r (λ p. not (has_some waits p && not (has_some waits' p))) k i ∙ and_from (has r k i) (not (has_some waits k && not (has_some waits' k))) h (blocked (has_some waits k) (has_some waits' k) b)
   where
@@ -59,6 +60,7 @@ probe_marks t s v a i f k d b o = elim (cases_Bool (has v.dependents k i)) [
 
 -- ---- declarations
 
+-- who is declared with one more was so before, or is that one
 in_declared : (known : Numbers) (d : Option ℕ) (i : ℕ) → set.contains (declared_after known d) i ≡ true → (set.contains known i ≡ true) ⊎ (d ≡ Some i)
 in_declared known None i h = inl h
 in_declared known (Some x) i h = elim (or_cases (i == x) (set.contains known i) (sym (set.contains-insert nat_cmp_total known x i ∙ ap (λ z. z || set.contains known i) (unsigned_tied i x)) ∙ h)) [
@@ -66,10 +68,12 @@ in_declared known (Some x) i h = elim (or_cases (i == x) (set.contains known i) 
   | inr e ↦ inl e
 ]
 
+-- the declared processes of either of two states
 if-declared : (c : Bool) (x y : State) → (if c then x else y).declared ≡ (if c then x.declared else y.declared)
 if-declared true x y = refl
 if-declared false x y = refl
 
+-- either of two that are the same
 same_if : {A : Type 0} (c : Bool) (x : A) → (if c then x else x) ≡ x
 same_if true x = refl
 same_if false x = refl
@@ -86,6 +90,7 @@ declared_means t s v (Got a (Probe (o, f, to))) d i h = elim (cases_Bool (probe_
   | inr z ↦ inl (sym (ap (λ r. set.contains r i) (if-declared (probe_acts v o f to) _ _ ∙ ap (λ c. if c then declared_after v.declared d else v.declared) z)) ∙ h)
 ]
 
+-- a declaration that is new, or was made before
 pub newly_means : (v : State) (p : ℕ) (d : Option ℕ) → d ≡ newly v p → (set.contains v.declared p ≡ true) ⊎ (d ≡ Some p)
 newly_means v p d e = elim (cases_Bool (set.contains v.declared p)) [
   | inl c ↦ inl c
@@ -94,15 +99,20 @@ newly_means v p d e = elim (cases_Bool (set.contains v.declared p)) [
 
 -- ---- the computation that an ask starts
 
+-- what the ask of u starts in edition 2
 pub record StartsOne (t : Topology) (s : ℕ) (v : State) (ev : Event) (sent : List (ℕ × Frame)) (d : Option ℕ) (u : ℕ) : Type 0 where
+  -- the asker was active
   pub active : is_blocked v u ≡ false
+  -- its answers go out, and then what the start sends
   pub probes : List (ℕ × Frame)
   pub are : sent ≡ answers_of t s ev ++ probes
   pub start : Starts t s (after t s v ev None) u probes d
+  -- the ask without its declaration has the same waits and declares nobody, and dependents stay
   pub waits : (after t s v ev None).waits ≡ (after t s v ev d).waits
   pub declared : (after t s v ev None).declared ≡ v.declared
   pub dependents : (after t s v ev d).dependents ≡ v.dependents
 
+-- an accepted ask starts it
 pub ask_starts : (t : Topology) (s : ℕ) (v : State) (ev : Event) (sent : List (ℕ × Frame)) (d : Option ℕ) (u k : ℕ) → (starts_at_ask t.edition) ≡ true → Accepts t s v ev → Sends t s v ev sent d → asks_for u k ev ≡ true → StartsOne t s v ev sent d u
 ask_starts t s v (Ask asker targets) sent d u k two acc sends q =
     let same : asker ≡ u = eqb-true asker u (and_parts (asker == u) (list_any (λ z. z == k) targets) q).0 in
@@ -122,6 +132,7 @@ ask_starts t s v (Got a f) sent d u k two acc sends q = absurd (true≢false (sy
 
 -- ---- frames
 
+-- an event from which a frame comes is its receipt
 pub frame_from_is : (a : ℕ) (ev : Event) (g : Frame) (gs : List Frame) → frame_from a ev ≡ g ∷ gs → (ev ≡ Got a g) × (gs ≡ [])
 frame_from_is a (Ask x y) g gs h = absurd (cc h)
 frame_from_is a (Reply x y) g gs h = absurd (cc h)
@@ -135,6 +146,7 @@ frame_from_is a (Got b f) g gs h = elim (cases_eq b a) [
   | inr n ↦ let none : [] ≡ g ∷ gs = sym (ap (λ z. if z then f ∷ [] else []) (ne_eqb b a n)) ∙ h in absurd (cc none)
 ]
 
+-- a list around one of its members
 pub contains_split : (xs : List (ℕ × ℕ)) (x : ℕ × ℕ) → Contains xs x → (us : List (ℕ × ℕ)) × (vs : List (ℕ × ℕ)) × (xs ≡ us ++ x ∷ vs)
 contains_split xs x h = go xs h.0 h.1 h.2
   where
@@ -143,6 +155,7 @@ contains_split xs x h = go xs h.0 h.1 h.2
     go (y ∷ ys) zero l e = ([], ys, ap (λ z. z ∷ ys) e)
     go (y ∷ ys) (suc k) l e = let r = go ys k (omega arith) e in (y ∷ r.0, r.1, ap (λ z. y ∷ z) r.2)
 
+-- a map over a list around one member
 pub map-append_one : (f : ℕ × ℕ → ℕ × Frame) (us : List (ℕ × ℕ)) (x : ℕ × ℕ) (vs : List (ℕ × ℕ)) → map f (us ++ x ∷ vs) ≡ map f us ++ f x ∷ map f vs
 map-append_one f [] x vs = refl
 map-append_one f (u ∷ us) x vs = ap (λ z. f u ∷ z) (map-append_one f us x vs)

@@ -15,27 +15,34 @@ use Rattle.cmh_model.specs.Laws.{bit, count_of, is_request, is_reply}
 use Rattle.cmh_model.proofs.Pairs.{has-with_each, has-with_each_other, has-none, has-without_same, has-without_other, has-with_same, has-with_other}
 use Rattle.cmh_model.proofs.Places.{is_at-yes, one_place, count_one_no, count_one_yes, if-waits, if-owed, if_same}
 
+-- two pairs are equal, or the test says not
 pub both_or_not : (a b x y : ℕ) → ((a ≡ x) × (b ≡ y)) ⊎ (((a == x) && (b == y)) ≡ false)
 both_or_not a b x y = elim (cases_Bool ((a == x) && (b == y))) [
   | inl e ↦ let both = and_parts (a == x) (b == y) e in inl (eqb-true a x both.0, eqb-true b y both.1)
   | inr e ↦ inr e
 ]
 
+-- equal pairs pass the test
 pub both_yes : (a b x y : ℕ) → a ≡ x → b ≡ y → ((a == x) && (b == y)) ≡ true
 both_yes a b x y e f = and_from (a == x) (b == y) (eq-eqb a x e) (eq-eqb b y f)
 
+-- pairs that fail the test differ
 pub not_both_from : (a b x y : ℕ) → ((a == x) && (b == y)) ≡ false → ((y ≡ b) × (x ≡ a)) → ⊥
 not_both_from a b x y h p = true≢false (sym (both_yes a b x y (sym p.1) (sym p.0)) ∙ h)
 
+-- the waits after a reply
 pub reply_waits : (t : Topology) (s : ℕ) (v : State) (h a : ℕ) (d : Option ℕ) → (after t s v (Reply h a) d).waits ≡ (if is_at t a s then without_pair v.waits a h else v.waits)
 reply_waits t s v h a d = if-waits (is_at t a s) _ _
 
+-- what is owed after a reply
 pub reply_owed : (t : Topology) (s : ℕ) (v : State) (h a : ℕ) (d : Option ℕ) → (after t s v (Reply h a) d).owed ≡ without_pair v.owed h a
 reply_owed t s v h a d = if-owed (is_at t a s) _ _ ∙ if_same (is_at t a s) (without_pair v.owed h a)
 
+-- a probe leaves the waits
 pub probe_waits : (t : Topology) (s : ℕ) (v : State) (a o f g : ℕ) (d : Option ℕ) → (after t s v (Got a (Probe (o, f, g))) d).waits ≡ v.waits
 probe_waits t s v a o f g d = if-waits (probe_acts v o f g) _ _ ∙ if_same (probe_acts v o f g) v.waits
 
+-- and what is owed
 pub probe_owed : (t : Topology) (s : ℕ) (v : State) (a o f g : ℕ) (d : Option ℕ) → (after t s v (Got a (Probe (o, f, g))) d).owed ≡ v.owed
 probe_owed t s v a o f g d = if-owed (probe_acts v o f g) _ _ ∙ if_same (probe_acts v o f g) v.owed
 
@@ -120,6 +127,7 @@ owed-ask t s r asker (q ∷ ks) k at = elim (cases_eq q k) [
       ∙ ap (λ z. (z || list_any (λ q. q == k) ks) || has r k asker) (sym (ne_eqb q k n))
 ]
 
+-- an ask leaves what is owed to others
 owed-ask_other : (t : Topology) (s : ℕ) (r : Relation) (asker : ℕ) (ks : List ℕ) (k j : ℕ) → j ≢ asker → has (owed_after_ask (λ p. is_at t p s) r asker ks) k j ≡ has r k j
 owed-ask_other t s r asker [] k j n = refl
 owed-ask_other t s r asker (q ∷ ks) k j n =

@@ -22,11 +22,13 @@ abbrev In : ℕ × ℕ → List (ℕ × ℕ) → Type 0
 In x [] = ⊥
 In x (y ∷ ys) = (x ≡ y) ⊎ In x ys
 
+-- a member is contained
 in_contains : (x : ℕ × ℕ) (xs : List (ℕ × ℕ)) → In x xs → Contains xs x
 in_contains x [] h = absurd h
 in_contains x (y ∷ ys) (inl e) = (0, omega arith, sym e)
 in_contains x (y ∷ ys) (inr h) = let r = in_contains x ys h in (suc r.0, omega arith, r.2)
 
+-- what is contained is a member
 contains_in : (x : ℕ × ℕ) (xs : List (ℕ × ℕ)) → Contains xs x → In x xs
 contains_in x xs h = go xs h.0 h.1 h.2
   where
@@ -35,19 +37,23 @@ contains_in x xs h = go xs h.0 h.1 h.2
     go (y ∷ ys) zero l e = inl (sym e)
     go (y ∷ ys) (suc k) l e = inr (go ys k (omega arith) e)
 
+-- the first of a sorted list is below each later member
 below_each : (x y : ℕ × ℕ) (xs : List (ℕ × ℕ)) → AllByRecursion (λ z. pair_cmp x z ≡ Less) xs → In y xs → pair_cmp x y ≡ Less
 below_each x y [] all h = absurd h
 below_each x y (z ∷ zs) all (inl e) = subst (λ w. pair_cmp x w ≡ Less) (sym e) all.0
 below_each x y (z ∷ zs) all (inr h) = below_each x y zs all.1 h
 
+-- no two are each below the other
 not_both_ways : (r q : Ordering) → r ≡ ordering_reverse q → is_lt r ≡ true → is_lt q ≡ true → ⊥
 not_both_ways r Less e h g = true≢false (sym h ∙ ap is_lt e)
 not_both_ways r Equal e h g = true≢false (sym g)
 not_both_ways r Greater e h g = true≢false (sym g)
 
+-- no two pairs are
 apart : (x y : ℕ × ℕ) → pair_cmp x y ≡ Less → pair_cmp y x ≡ Less → ⊥
 apart x y h g = not_both_ways (pair_cmp x y) (pair_cmp y x) (pair_cmp_total.antisymm x y) (ap is_lt h) (ap is_lt g)
 
+-- no pair is below itself
 not_itself : (x : ℕ × ℕ) → pair_cmp x x ≡ Less → ⊥
 not_itself x h = true≢false (sym (ap is_lt h) ∙ ap is_lt (tied_itself pair_cmp_total x))
 
@@ -71,6 +77,7 @@ same_ascending (x ∷ xs) (y ∷ ys) a b f g =
     later p q zs (inl e) n = absurd (n e)
     later p q zs (inr h) n = h
 
+-- the probes from a place are one list
 same_probes : (t : Topology) (s : ℕ) (waits : Relation) (i p : ℕ) (sent sent' : List (ℕ × Frame)) → AreProbes t s waits i p sent → AreProbes t s waits i p sent' → sent ≡ sent'
 same_probes t s waits i p sent sent' a b =
     let edges = same_ascending a.edges b.edges a.ascending b.ascending
@@ -78,6 +85,7 @@ same_probes t s waits i p sent sent' a b =
     (λ q h. contains_in q a.edges ((a.all q).1 ((b.all q).0 (in_contains q b.edges h)))) in
     a.are ∙ ap (map (λ (edge : ℕ × ℕ). (site_of t edge.1, Probe (i, edge.0, edge.1)))) edges ∙ sym b.are
 
+-- a start or a receipt that acts has one outcome
 one_answer : (t : Topology) (s : ℕ) (v : State) (Deadlocked : Type 0) (i p : ℕ) (sent sent' : List (ℕ × Frame)) (d d' : Option ℕ)
     → DeclaresOrProbes t s v Deadlocked i p sent d → DeclaresOrProbes t s v Deadlocked i p sent' d' → (sent ≡ sent') × (d ≡ d')
 one_answer t s v Dl i p sent sent' d d' (inl x) (inl y) = (x.1 ∙ sym y.1, x.2 ∙ sym y.2)
@@ -85,6 +93,7 @@ one_answer t s v Dl i p sent sent' d d' (inl x) (inr y) = absurd (y.0 x.0)
 one_answer t s v Dl i p sent sent' d d' (inr x) (inl y) = absurd (x.0 y.0)
 one_answer t s v Dl i p sent sent' d d' (inr x) (inr y) = (same_probes t s v.waits i p sent sent' x.1 y.1, x.2 ∙ sym y.2)
 
+-- an event has one outcome
 pub one_outcome : (t : Topology) (s : ℕ) (v : State) (ev : Event) (sent sent' : List (ℕ × Frame)) (d d' : Option ℕ) → Sends t s v ev sent d → Sends t s v ev sent' d' → (sent ≡ sent') × (d ≡ d')
 one_outcome t s v (Ask asker targets) sent sent' d d' h g = elim (cases_Bool (starts_at_ask t.edition)) [
   | inl e ↦

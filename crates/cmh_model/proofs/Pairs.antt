@@ -7,27 +7,35 @@ use Rattle.std.specs.List.{list_any}
 use Rattle.std.proofs.lemmas.Bool.{eqb-true, eq-eqb, ne_eqb, and_parts, and_from, or_cases, cases_eq, cases_Bool, or_left, or_right}
 use Rattle.cmh_model.specs.Relation.{Relation, pair_cmp, has, with_pair, without_pair, with_each, has_some, only_firsts}
 
+-- pairs are totally ordered
 pub pair_cmp_total : IsTotalOrder pair_cmp
 pair_cmp_total = then_total (on_total (λ (p : ℕ × ℕ). p.0) nat_cmp_total) (on_total (λ (p : ℕ × ℕ). p.1) nat_cmp_total)
 
+-- pairs tie where both numbers are equal
 same_pair : (x y : ℕ × ℕ) → eq_by_cmp pair_cmp x y ≡ ((x.0 == y.0) && (x.1 == y.1))
 same_pair x y = sym (both_tied (x.0 == y.0) (x.1 == y.1) (nat_cmp x.0 y.0) (nat_cmp x.1 y.1) (sym (unsigned_tied x.0 y.0)) (sym (unsigned_tied x.1 y.1)))
 
+-- the empty relation has nothing
 pub has-empty : (a b : ℕ) → has set.empty a b ≡ false
 has-empty a b = set.contains-empty pair_cmp (a, b)
 
+-- with a pair
 pub has-with : (r : Relation) (a b x y : ℕ) → has (with_pair r a b) x y ≡ (((x == a) && (y == b)) || has r x y)
 has-with r a b x y = set.contains-insert pair_cmp_total r (a, b) (x, y) ∙ ap (λ z. z || has r x y) (same_pair (x, y) (a, b))
 
+-- without a pair
 pub has-without : (r : Relation) (a b x y : ℕ) → has (without_pair r a b) x y ≡ (not ((x == a) && (y == b)) && has r x y)
 has-without r a b x y = set.contains-remove pair_cmp_total r (a, b) (x, y) ∙ ap (λ z. not z && has r x y) (same_pair (x, y) (a, b))
 
+-- tied pairs have the same first number
 first_of_tied : (x y : ℕ) (z : ℕ × ℕ) → pair_cmp (x, y) z ≡ Equal → x ≡ z.0
 first_of_tied x y z e = eqb-true x z.0 (and_parts (x == z.0) (y == z.1) (sym (same_pair (x, y) z) ∙ ap is_eq e)).0
 
+-- with some first numbers alone
 pub has-only : (r : Relation) (test : ℕ → Bool) (x y : ℕ) → has (only_firsts r test) x y ≡ (has r x y && test x)
 has-only r test x y = set.contains-retain r (λ (p : ℕ × ℕ). test p.0) (x, y) (λ z e. ap test (sym (first_of_tied x y z e)))
 
+-- a weaker test passes too
 any_weaker : {X : Type 0} (p q : X → Bool) (xs : List X) → ((x : X) → p x ≡ true → q x ≡ true) → list_any p xs ≡ true → list_any q xs ≡ true
 any_weaker p q [] f h = h
 any_weaker p q (x ∷ xs) f h = elim (or_cases (p x) (list_any p xs) h) [
@@ -43,45 +51,55 @@ one_item p (x ∷ xs) h = elim (or_cases (p x) (list_any p xs) h) [
   | inr e ↦ let r = one_item p xs e in (r.0, r.1, λ q k. or_right (q x) (list_any q xs) (r.2 q k))
 ]
 
+-- what has a pair is related to something
 pub has_some-from : (r : Relation) (a b : ℕ) → has r a b ≡ true → has_some r a ≡ true
 has_some-from r a b h =
     any_weaker (eq_by_cmp pair_cmp (a, b)) (λ (p : ℕ × ℕ). p.0 == a) (set.items r)
     (λ p e. eq-eqb p.0 a (sym (eqb-true a p.0 (and_parts (a == p.0) (b == p.1) (sym (same_pair (a, b) p) ∙ e)).0)))
     (sym (set.contains-items r (a, b)) ∙ h)
 
+-- what is related to something has a pair
 pub has_some-to : (r : Relation) (a : ℕ) → has_some r a ≡ true → (b : ℕ) × (has r a b ≡ true)
 has_some-to r a h =
     let one = one_item (λ (p : ℕ × ℕ). p.0 == a) (set.items r) h in
     let is : one.0.0 ≡ a = eqb-true one.0.0 a one.1 in
     (one.0.1, set.contains-items r (a, one.0.1) ∙ one.2 (eq_by_cmp pair_cmp (a, one.0.1)) (same_pair (a, one.0.1) one.0 ∙ and_from (a == one.0.0) (one.0.1 == one.0.1) (eq-eqb a one.0.0 (sym is)) (eq-eqb one.0.1 one.0.1 refl)))
 
+-- what is related to nothing has no pair
 pub has-none : (r : Relation) (a b : ℕ) → has_some r a ≡ false → has r a b ≡ false
 has-none r a b h = elim (cases_Bool (has r a b)) [
   | inl e ↦ absurd (true≢false (sym (has_some-from r a b e) ∙ h))
   | inr e ↦ e
 ]
 
+-- the pair that was put in
 pub has-with_same : (r : Relation) (a b : ℕ) → has (with_pair r a b) a b ≡ true
 has-with_same r a b = has-with r a b a b ∙ or_left ((a == a) && (b == b)) (has r a b) (and_from (a == a) (b == b) (eq-eqb a a refl) (eq-eqb b b refl))
 
+-- pairs that were there
 pub has-with_kept : (r : Relation) (a b x y : ℕ) → has r x y ≡ true → has (with_pair r a b) x y ≡ true
 has-with_kept r a b x y h = has-with r a b x y ∙ or_right ((x == a) && (y == b)) (has r x y) h
 
+-- pairs that differ fail the test
 not_both : (a b x y : ℕ) → ((x ≡ a) × (y ≡ b) → ⊥) → ((x == a) && (y == b)) ≡ false
 not_both a b x y n = elim (cases_Bool ((x == a) && (y == b))) [
   | inl e ↦ let both = and_parts (x == a) (y == b) e in absurd (n (eqb-true x a both.0, eqb-true y b both.1))
   | inr e ↦ e
 ]
 
+-- other pairs
 pub has-with_other : (r : Relation) (a b x y : ℕ) → ((x ≡ a) × (y ≡ b) → ⊥) → has (with_pair r a b) x y ≡ has r x y
 has-with_other r a b x y n = has-with r a b x y ∙ ap (λ z. z || has r x y) (not_both a b x y n)
 
+-- the pair that was taken out
 pub has-without_same : (r : Relation) (a b : ℕ) → has (without_pair r a b) a b ≡ false
 has-without_same r a b = has-without r a b a b ∙ ap (λ z. not z && has r a b) (and_from (a == a) (b == b) (eq-eqb a a refl) (eq-eqb b b refl))
 
+-- other pairs
 pub has-without_other : (r : Relation) (a b x y : ℕ) → ((x ≡ a) × (y ≡ b) → ⊥) → has (without_pair r a b) x y ≡ has r x y
 has-without_other r a b x y n = has-without r a b x y ∙ ap (λ z. not z && has r x y) (not_both a b x y n)
 
+-- the pairs of a after pairs of a are put in
 pub has-with_each : (r : Relation) (a : ℕ) (bs : List ℕ) (y : ℕ) → has (with_each r a bs) a y ≡ (list_any (λ q. q == y) bs || has r a y)
 has-with_each r a [] y = refl
 has-with_each r a (b ∷ bs) y = elim (cases_eq y b) [
@@ -90,10 +108,12 @@ has-with_each r a (b ∷ bs) y = elim (cases_eq y b) [
   | inr n ↦ has-with_other (with_each r a bs) a b a y (λ p. n p.1) ∙ has-with_each r a bs y ∙ ap (λ z. (z || list_any (λ q. q == y) bs) || has r a y) (sym (ne_eqb b y (λ e. n (sym e))))
 ]
 
+-- the pairs of others
 pub has-with_each_other : (r : Relation) (a : ℕ) (bs : List ℕ) (x y : ℕ) → (x ≢ a) → has (with_each r a bs) x y ≡ has r x y
 has-with_each_other r a [] x y n = refl
 has-with_each_other r a (b ∷ bs) x y n = has-with_other (with_each r a bs) a b x y (λ p. n p.0) ∙ has-with_each_other r a bs x y n
 
+-- pairs that were there
 pub has-with_each_kept : (r : Relation) (a : ℕ) (bs : List ℕ) (x y : ℕ) → has r x y ≡ true → has (with_each r a bs) x y ≡ true
 has-with_each_kept r a [] x y h = h
 has-with_each_kept r a (b ∷ bs) x y h = has-with_kept (with_each r a bs) a b x y (has-with_each_kept r a bs x y h)

@@ -6,10 +6,12 @@ use Rattle.cmh_model.specs.Paths.{IsPath}
 abbrev pub LeadsTo : (ℕ → ℕ → Type 0) → ℕ → ℕ → Type 0
 LeadsTo R p q = (next : ℕ) × (members : List ℕ) × R p next × IsPath R next members q
 
+-- a path in R is one in a greater S
 pub path_map : (R S : ℕ → ℕ → Type 0) → ((p q : ℕ) → R p q → S p q) → (p : ℕ) (members : List ℕ) (q : ℕ) → IsPath R p members q → IsPath S p members q
 path_map R S f p [] q h = h
 path_map R S f p (x ∷ xs) q h = (f p x h.0, path_map R S f x xs q h.1)
 
+-- two paths, one after the other
 pub path_join : (R : ℕ → ℕ → Type 0) (p : ℕ) (xs : List ℕ) (q : ℕ) (ys : List ℕ) (r : ℕ) → IsPath R p xs q → IsPath R q ys r → IsPath R p (xs ++ ys) r
 path_join R p [] q ys r h g = subst (λ z. IsPath R z ys r) (sym h) g
 path_join R p (x ∷ xs) q ys r h g = (h.0, path_join R x xs q ys r h.1 g)

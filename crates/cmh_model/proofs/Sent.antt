@@ -37,18 +37,23 @@ IsOrigin v (Got a (Request (x, y))) i from = ⊥
 IsOrigin v (Got a (Reply_frame (x, y))) i from = ⊥
 IsOrigin v (Got a (Probe (o, f, to))) i from = (i ≡ o) × (from ≡ to) × (probe_acts v o f to ≡ true)
 
+-- what is sent is the answers of the event, and then probes of one computation, if any
 pub record Shape (t : Topology) (s : ℕ) (v : State) (ev : Event) (waits : Relation) (sent : List (ℕ × Frame)) : Type 0 where
   pub probes : List (ℕ × Frame)
   pub is : sent ≡ answers_of t s ev ++ probes
+  -- no probes, or those from where a computation is
   pub from : (probes ≡ []) ⊎ ((i : ℕ) × (p : ℕ) × IsOrigin v ev i p × AreProbes t s waits i p probes)
 
+-- where no probes are sent
 no_probes : (t : Topology) (s : ℕ) (v : State) (ev : Event) (waits : Relation) (sent : List (ℕ × Frame)) → sent ≡ answers_of t s ev → Shape t s v ev waits sent
 no_probes t s v ev waits sent e = record { probes = []; is = e ∙ sym (append-nil (answers_of t s ev)); from = inl refl }
 
+-- where a start sends them
 starts_shape : (t : Topology) (s : ℕ) (v w : State) (ev : Event) (i : ℕ) (probes : List (ℕ × Frame)) (d : Option ℕ) → IsOrigin v ev i i → Starts t s w i probes d → Shape t s v ev w.waits (answers_of t s ev ++ probes)
 starts_shape t s v w ev i probes d o (inl x) = record { probes = probes; is = refl; from = inl x.1 }
 starts_shape t s v w ev i probes d o (inr x) = record { probes = probes; is = refl; from = inr (i, i, o, x.1) }
 
+-- what an event sends has this shape
 pub shape : (t : Topology) (s : ℕ) (v : State) (ev : Event) (sent : List (ℕ × Frame)) (d : Option ℕ) → Sends t s v ev sent d → Shape t s v ev (after t s v ev d).waits sent
 shape t s v (Ask asker targets) sent d h = elim (cases_Bool (starts_at_ask t.edition)) [
   | inl e ↦
@@ -74,9 +79,11 @@ shape t s v (Got a (Probe (o, f, to))) sent d h = elim (cases_Bool (probe_acts v
 
 -- ---- declarations
 
+-- nothing is not something
 none_some : (i : ℕ) → None ≡ Some i → ⊥
 none_some i e = true≢false (sym (ap is_some e))
 
+-- a new declaration is of the process in question
 newly_is : (v : State) (p i : ℕ) → newly v p ≡ Some i → p ≡ i
 newly_is v p i e = elim (cases_Bool (set.contains v.declared p)) [
   | inl c ↦ absurd (none_some i (sym (ap (λ z. if z then None else Some p) c) ∙ e))
@@ -88,10 +95,12 @@ abbrev pub IsDeadlocked : Topology → ℕ → State → Event → Relation → 
 IsDeadlocked t s v ev waits i =
     DependsOnItself t s waits i ⊎ ((a : ℕ) × (f : ℕ) × (to : ℕ) × (ev ≡ Got a (Probe (i, f, to))) × (probe_acts v i f to ≡ true) × ReachesLocally t s waits to i)
 
+-- a start declares who is locally dependent upon itself
 starts_declares : (t : Topology) (s : ℕ) (w : State) (p : ℕ) (probes : List (ℕ × Frame)) (d : Option ℕ) (i : ℕ) → Starts t s w p probes d → d ≡ Some i → DependsOnItself t s w.waits i
 starts_declares t s w p probes d i (inl x) e = subst (DependsOnItself t s w.waits) (newly_is w p i (sym x.2 ∙ e)) x.0
 starts_declares t s w p probes d i (inr x) e = absurd (none_some i (sym x.2 ∙ e))
 
+-- an event declares only who is deadlocked
 pub declares : (t : Topology) (s : ℕ) (v : State) (ev : Event) (sent : List (ℕ × Frame)) (d : Option ℕ) (i : ℕ) → Sends t s v ev sent d → d ≡ Some i → IsDeadlocked t s v ev (after t s v ev d).waits i
 declares t s v (Ask asker targets) sent d i h e = elim (cases_Bool (starts_at_ask t.edition)) [
   | inl c ↦ let x = MatchBool-at_true _ _ c h in inl (starts_declares t s (after t s v (Ask asker targets) None) asker x.0 d i x.2 e)
@@ -113,12 +122,15 @@ declares t s v (Got a (Probe (o, f, to))) sent d i h e = elim (cases_Bool (probe
 
 -- ---- frames to a site
 
+-- a frame that goes to b
 pub to_yes : (b c : ℕ) (f : Frame) (xs : List (ℕ × Frame)) → c ≡ b → frames_to b ((c, f) ∷ xs) ≡ f ∷ frames_to b xs
 to_yes b c f xs e = ap (λ z. if z then f ∷ frames_to b xs else frames_to b xs) (eq-eqb c b e)
 
+-- a frame that goes elsewhere
 pub to_no : (b c : ℕ) (f : Frame) (xs : List (ℕ × Frame)) → c ≢ b → frames_to b ((c, f) ∷ xs) ≡ frames_to b xs
 to_no b c f xs n = ap (λ z. if z then f ∷ frames_to b xs else frames_to b xs) (ne_eqb c b n)
 
+-- the frames of two lists, one after the other
 pub to-append : (b : ℕ) (xs ys : List (ℕ × Frame)) → frames_to b (xs ++ ys) ≡ frames_to b xs ++ frames_to b ys
 to-append b [] ys = refl
 to-append b (x ∷ xs) ys = elim (cases_eq x.0 b) [
@@ -133,9 +145,11 @@ count_to_no p b c f xs h = elim (cases_eq c b) [
   | inr n ↦ ap (count_of p) (to_no b c f xs n)
 ]
 
+-- the probe along an edge
 abbrev probe_along : Topology → ℕ → ℕ × ℕ → ℕ × Frame
 probe_along t origin edge = (site_of t edge.1, Probe (origin, edge.0, edge.1))
 
+-- probes do not count
 pub count_probes : (t : Topology) (p : Frame → Bool) (origin b : ℕ) (edges : List (ℕ × ℕ)) → ((f g : ℕ) → p (Probe (origin, f, g)) ≡ false) → count_of p (frames_to b (map (probe_along t origin) edges)) ≡ 0
 count_probes t p origin b [] h = refl
 count_probes t p origin b (e ∷ es) h = count_to_no p b (site_of t e.1) (Probe (origin, e.0, e.1)) (map (probe_along t origin) es) (h e.0 e.1) ∙ count_probes t p origin b es h
@@ -155,6 +169,7 @@ count_sent t s v ev waits sent p b h x =
 
 -- ---- requests
 
+-- an ask sends j's request to k as often as k is a target
 count_requests : (t : Topology) (s j k b : ℕ) (ks : List ℕ) → At t k b → b ≢ s → count_of (is_request j k) (frames_to b (requests t s j ks)) ≡ count_of (λ q. q == k) ks
 count_requests t s j k b [] at n = refl
 count_requests t s j k b (q ∷ ks) at n = elim (cases_eq q k) [
@@ -181,6 +196,7 @@ count_requests t s j k b (q ∷ ks) at n = elim (cases_eq q k) [
     not_same : (j q k : ℕ) → q ≢ k → is_request j k (Request (j, q)) ≡ false
     not_same j q k m = ap (λ z. (j == j) && z) (ne_eqb q k m) ∙ ap (λ z. z && false) (eq-eqb j j refl)
 
+-- an ask of another sends none
 count_requests_other : (t : Topology) (s asker j k b : ℕ) (ks : List ℕ) → asker ≢ j → count_of (is_request j k) (frames_to b (requests t s asker ks)) ≡ 0
 count_requests_other t s asker j k b [] n = refl
 count_requests_other t s asker j k b (q ∷ ks) n = elim (cases_Bool (is_at t q s)) [
@@ -190,10 +206,12 @@ count_requests_other t s asker j k b (q ∷ ks) n = elim (cases_Bool (is_at t q 
       ∙ count_requests_other t s asker j k b ks n
 ]
 
+-- a number below all is not among them
 none_above : (k : ℕ) (xs : List ℕ) → AllByRecursion (λ y. k < y) xs → count_of (λ q. q == k) xs ≡ 0
 none_above k [] h = refl
 none_above k (x ∷ xs) h = let z = ap bit (ne_eqb x k (λ e. omega (arith, h.0, e))) in let r = none_above k xs h.1 in omega arith
 
+-- a number is in an ascending list at most once
 count_ascending : (k : ℕ) (ks : List ℕ) → IsAscending ks → count_of (λ q. q == k) ks ≡ bit (list_any (λ q. q == k) ks)
 count_ascending k [] h = refl
 count_ascending k (x ∷ xs) h = elim (cases_eq x k) [
@@ -229,6 +247,7 @@ requests_sent t s v ev sent d j k b acc sends at n = count_sent t s v ev _ sent 
     by (Start i) acc = refl
     by (Got a f) acc = refl
 
+-- requests are no replies
 count_requests_none : (t : Topology) (s asker j k b : ℕ) (ks : List ℕ) → count_of (is_reply k j) (frames_to b (requests t s asker ks)) ≡ 0
 count_requests_none t s asker j k b [] = refl
 count_requests_none t s asker j k b (q ∷ ks) = elim (cases_Bool (is_at t q s)) [

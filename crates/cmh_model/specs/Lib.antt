@@ -7,3 +7,5 @@ pub mod Runs
 pub mod Waits
 pub mod Stops
 pub mod Laws
+pub mod LastAsker
+pub mod Scripts

@@ -4,6 +4,7 @@
 #![tactic(auto)]
 
 mod event;
+pub mod examples;
 mod journal;
 
 pub use crate::event::{Event, Targets};

@@ -1,8 +1,7 @@
--- Where asks start probe computations, each cycle is watched by one until a process of it is declared.
-use Rattle.std.proofs.Common.{◌≡◌, ◌≢◌, ◌⊎◌, ℕ, Bool, true, false, not, ◌&&◌, ◌||◌, List, [], ◌∷◌, ◌++◌, map, ◌==◌, refl, sym, ap, ◌∙◌, subst, inl, inr, true≢false, None, Some, arith, append_assoc}
-use Rattle.std.specs.List.{list_any}
+-- Where asks start probe computations, that of the last asker of a cycle goes along the cycle until the asker is declared.
+use Rattle.std.proofs.Common.{◌≡◌, ◌≢◌, ◌⊎◌, ℕ, Bool, true, false, not, ◌&&◌, ◌||◌, List, [], ◌∷◌, ◌++◌, map, refl, sym, ap, ◌∙◌, subst, inl, inr, true≢false, None, Some, arith, append_assoc}
 use Rattle.std.specs.FinSet as set
-use Rattle.std.proofs.lemmas.Bool.{eq-eqb, or_cases, cases_eq, cases_Bool, false_from_ne_true, or_left, or_right, MatchBool-at_true}
+use Rattle.std.proofs.lemmas.Bool.{cases_eq, cases_Bool, false_from_ne_true, MatchBool-at_true}
 use Rattle.cmh_frames.specs.declared.frame.Frame.{Frame}
 use Rattle.cmh_frames.specs.declared.frame.Frame.TheVariants.{Probe}
 use Rattle.cmh_model.specs.declared.event.Event.TheVariants.{Got}
@@ -25,7 +24,9 @@ use Rattle.cmh_model.proofs.Marks.{dependents_stay, probe_marks, newly_means, St
 use Rattle.cmh_model.proofs.Bits.{bit_one, bit_at_most}
 use Rattle.cmh_model.proofs.Journals.{sent_on, got_on}
 use Rattle.cmh_model.proofs.PathLemmas.{path_join}
-use Rattle.cmh_world.proofs.World.{World, Step, Waiting, Each, Inv, BlockedAt, wait_blocks, path_blocks}
+use Rattle.cmh_model.specs.LastAsker.{is_ask_of}
+use Rattle.cmh_world.proofs.LastAsker.{asker_active}
+use Rattle.cmh_world.proofs.World.{World, Step, Waiting, EachWait, Invariant, BlockedAt, wait_blocks, path_blocks}
 use Rattle.cmh_world.proofs.Kept.{kept, path_kept, cycle_kept, new_waits, sent_yes, sent_no, got_yes, got_no}
 
 -- a probe of i along the wait of p for x is under way, and no request of it behind the probe
@@ -45,15 +46,15 @@ Marked t w i [] = Unit {0}
 Marked t w i (x ∷ xs) = ((b : ℕ) → At t x b → has (w.value b).dependents x i ≡ true → Ahead t w i x xs) × Marked t w i xs
 
 -- where nothing is under way, this can't go on for ever
-pub watched_ends : (t : Topology) (w : World) (i p : ℕ) (xs : List ℕ) → ((a b : ℕ) → w.queue a b ≡ []) → Ahead t w i p xs → Marked t w i xs → ⊥
-watched_ends t w i p [] none ahead marked = ahead
-watched_ends t w i p (x ∷ xs) none ahead marked = elim ahead [
-  | inl here ↦ watched_ends t w i x xs none here.3 marked.1
+pub ends_where_drained : (t : Topology) (w : World) (i p : ℕ) (xs : List ℕ) → ((a b : ℕ) → w.queue a b ≡ []) → Ahead t w i p xs → Marked t w i xs → ⊥
+ends_where_drained t w i p [] none ahead marked = ahead
+ends_where_drained t w i p (x ∷ xs) none ahead marked = elim ahead [
+  | inl here ↦ ends_where_drained t w i x xs none here.3 marked.1
   | inr there ↦ elim there.5 [
     | inl live ↦
         let empty : [] ≡ live.0 ++ Probe (i, p, x) ∷ live.1 = sym (none there.0 there.1) ∙ live.2 in
         absurd (not_empty live.0 (Probe (i, p, x)) live.1 empty)
-    | inr mark ↦ watched_ends t w i x xs none (marked.0 there.1 there.3 mark) marked.1
+    | inr mark ↦ ends_where_drained t w i x xs none (marked.0 there.1 there.3 mark) marked.1
   ]
 ]
   where
@@ -61,13 +62,16 @@ watched_ends t w i p (x ∷ xs) none ahead marked = elim ahead [
     not_empty [] f vs h = (cc)
     not_empty (u ∷ us) f vs h = (cc)
 
-module _ (t : Topology) (w : World) (e : WorldEvent) (n : World) (inv : Inv t w) (st : Step t w e n) where
-  next_inv : Inv t n
-  next_inv = kept t w e n inv st
+module _ (t : Topology) (w : World) (e : WorldEvent) (n : World) (inv : Invariant t w) (st : Step t w e n) where
+  -- what holds of the next world
+  next_invariant : Invariant t n
+  next_invariant = kept t w e n inv st
 
-  blocked_at : (x b : ℕ) → At t x b → BlockedAt t n next_inv x → is_blocked (n.value b) x ≡ true
+  -- who is blocked is so at the site where it is, afterwards
+  blocked_at : (x b : ℕ) → At t x b → BlockedAt t n next_invariant x → is_blocked (n.value b) x ≡ true
   blocked_at x b at h = subst (λ z. is_blocked (n.value z) x ≡ true) (one_place t x h.0 b h.1 at) h.2
 
+  -- and before
   blocked_before : (x b : ℕ) → At t x b → BlockedAt t w inv x → is_blocked (w.value b) x ≡ true
   blocked_before x b at h = subst (λ z. is_blocked (w.value z) x ≡ true) (one_place t x h.0 b h.1 at) h.2
 
@@ -90,7 +94,7 @@ module _ (t : Topology) (w : World) (e : WorldEvent) (n : World) (inv : Inv t w)
         | inl at ↦ come (frame_from a e.entry.event) refl live.0 live.2 at
       ]
     where
-      both : Each w a b p x
+      both : EachWait w a b p x
       both = inv.each a b p x at_p at_x
 
       none_sent : count_of (is_request p x) (sent_on a b e) ≡ 0
@@ -139,12 +143,13 @@ module _ (t : Topology) (w : World) (e : WorldEvent) (n : World) (inv : Inv t w)
           let rest : us ++ Probe (i, p, x) ∷ (live.1 ++ sent_on a b e) ≡ gs ++ n.queue a b = cc list in
           inl (us, live.1 ++ sent_on a b e, ap (λ z. z ++ n.queue a b) (sym what.1) ∙ sym rest, behind_now)
 
-  ahead_kept : (i p : ℕ) (xs : List ℕ) → IsPath (Waiting w) p xs i → BlockedAt t w inv i → BlockedAt t n next_inv i → Ahead t w i p xs → Ahead t n i p xs
+  -- what is ahead of a process on a path to a blocked one stays ahead
+  ahead_kept : (i p : ℕ) (xs : List ℕ) → IsPath (Waiting w) p xs i → BlockedAt t w inv i → BlockedAt t n next_invariant i → Ahead t w i p xs → Ahead t n i p xs
   ahead_kept i p [] path blocked still ahead = ahead
   ahead_kept i p (x ∷ xs) path blocked still ahead = elim ahead [
     | inl here ↦ inl (here.0, here.1, here.2, ahead_kept i x xs path.1 blocked still here.3)
     | inr there ↦
-        let stays = blocked_at x there.1 there.3 (path_blocks t n next_inv x xs i (path_kept t w e n inv st x xs i path.1 blocked) still) in
+        let stays = blocked_at x there.1 there.3 (path_blocks t n next_invariant x xs i (path_kept t w e n inv st x xs i path.1 blocked) still) in
         inr (
           there.0,
           there.1,
@@ -160,9 +165,10 @@ module _ (t : Topology) (w : World) (e : WorldEvent) (n : World) (inv : Inv t w)
 
   -- ---- a computation that goes on
 
+  -- who waits for a process of another site has the wait in the set of its own
   keeps_of : (p x a b : ℕ) → Waiting n p x → At t p a → At t x b → has (n.value a).waits p x ≡ true
   keeps_of p x a b waits at_p at_x =
-      let both = next_inv.each a b p x at_p at_x in
+      let both = next_invariant.each a b p x at_p at_x in
       let one = ap bit waits in
       let most = bit_at_most (has (n.value a).waits p x) in
       let is : bit (has (n.value a).waits p x) ≡ 1 = omega arith in
@@ -204,7 +210,7 @@ module _ (t : Topology) (w : World) (e : WorldEvent) (n : World) (inv : Inv t w)
   launch i from probes sent are first to_first at reach back p members local (x ∷ xs) path =
       let at_first = reach_ends t e.site (n.value e.site).waits from to_first first at reach in
       let at_p = reach_ends t e.site (n.value e.site).waits first members p at_first local in
-      let home = (next_inv.known p x path.0).1 in
+      let home = (next_invariant.known p x path.0).1 in
       let keeps = keeps_of p x e.site home.0 path.0 at_p home.1 in
       elim (cases_eq e.site home.0) [
         | inl here ↦
@@ -239,7 +245,7 @@ module _ (t : Topology) (w : World) (e : WorldEvent) (n : World) (inv : Inv t w)
               x [] acc.2 refl (λ reach. d.0 (subst (λ r. ReachesLocally t e.site r x i) (sym same) reach)) x [] refl xs path)
         ]
 
-    marked_one : (i p x : ℕ) (xs : List ℕ) → Waiting w p x → IsPath (Waiting w) x xs i → BlockedAt t w inv i → BlockedAt t n next_inv i
+    marked_one : (i p x : ℕ) (xs : List ℕ) → Waiting w p x → IsPath (Waiting w) x xs i → BlockedAt t w inv i → BlockedAt t n next_invariant i
         → ((b : ℕ) → At t x b → has (w.value b).dependents x i ≡ true → Ahead t w i x xs)
         → DeclaredNow i ⊎ ((b : ℕ) → At t x b → has (n.value b).dependents x i ≡ true → Ahead t n i x xs)
     marked_one i p x xs waits path blocked still old = elim (cases_Bool (has (n.value home.0).dependents x i)) [
@@ -262,7 +268,7 @@ module _ (t : Topology) (w : World) (e : WorldEvent) (n : World) (inv : Inv t w)
           ]
         ]
 
-    marked_kept : (i p : ℕ) (xs : List ℕ) → IsPath (Waiting w) p xs i → BlockedAt t w inv i → BlockedAt t n next_inv i → Marked t w i xs → DeclaredNow i ⊎ Marked t n i xs
+    marked_kept : (i p : ℕ) (xs : List ℕ) → IsPath (Waiting w) p xs i → BlockedAt t w inv i → BlockedAt t n next_invariant i → Marked t w i xs → DeclaredNow i ⊎ Marked t n i xs
     marked_kept i p [] path blocked still marked = inr tt
     marked_kept i p (x ∷ xs) path blocked still marked = both (marked_one i p x xs path.0 path.1 blocked still marked.0) (marked_kept i x xs path.1 blocked still marked.1)
       where
@@ -272,8 +278,8 @@ module _ (t : Topology) (w : World) (e : WorldEvent) (n : World) (inv : Inv t w)
         both (inr a) (inr m) = inr (a, m)
 
     -- an ask that closes a cycle declares the asker, or its computation goes along the cycle
-    new_watch : (starts_at_ask t.edition) ≡ true → (u x : ℕ) (xs : List ℕ) → asks_for u x e.entry.event ≡ true → Waiting n u x → IsPath (Waiting n) x xs u → DeclaredNow u ⊎ (Ahead t n u u (x ∷ xs) × Marked t n u (x ∷ xs))
-    new_watch two u x xs asks waits path = elim one.start [
+    ask_launches : (starts_at_ask t.edition) ≡ true → (u x : ℕ) (xs : List ℕ) → asks_for u x e.entry.event ≡ true → Waiting n u x → IsPath (Waiting n) x xs u → DeclaredNow u ⊎ (Ahead t n u u (x ∷ xs) × Marked t n u (x ∷ xs))
+    ask_launches two u x xs asks waits path = elim one.start [
       | inl d ↦ inl (elim (newly_means (after t e.site (w.value e.site) e.entry.event None) u e.entry.declared d.2) [
         | inl c ↦ inl (known e.site u (ap (λ r. set.contains r u) (sym one.declared) ∙ c))
         | inr c ↦ inr c
@@ -291,7 +297,7 @@ module _ (t : Topology) (w : World) (e : WorldEvent) (n : World) (inv : Inv t w)
         at_u = (asks_means t e.site (w.value e.site) e.entry.event u x st.accepted asks).0
 
         home : (b : ℕ) × At t x b
-        home = (next_inv.known u x waits).1
+        home = (next_invariant.known u x waits).1
 
         keeps : has (n.value e.site).waits u x ≡ true
         keeps = keeps_of u x e.site home.0 waits at_u home.1
@@ -325,75 +331,43 @@ module _ (t : Topology) (w : World) (e : WorldEvent) (n : World) (inv : Inv t w)
         unmarked [] = tt
         unmarked (y ∷ ys) = ((λ b at h. absurd (no_mark b y h)), unmarked ys)
 
-    -- ---- each cycle is watched
+-- i is declared, or a computation of i goes along the cycle that is written from i
+abbrev pub Followed : Topology → World → (ℕ → Type 0) → ℕ → ℕ → List ℕ → Type 0
+Followed t w D i next others =
+    D i ⊎ (Waiting w i next × IsPath (Waiting w) next others i × Ahead t w i i (next ∷ others) × Marked t w i (next ∷ others))
 
-    abbrev On : List ℕ → ℕ → Type 0
-    On xs d = list_any (λ q. q == d) xs ≡ true
-
-    ends_on : (R : ℕ → ℕ → Type 0) (p x : ℕ) (xs : List ℕ) (q : ℕ) → IsPath R p (x ∷ xs) q → On (x ∷ xs) q
-    ends_on R p x [] q h = or_left (x == q) false (eq-eqb x q h.1)
-    ends_on R p x (y ∷ ys) q h = or_right (x == q) (list_any (λ z. z == q) (y ∷ ys)) (ends_on R x y ys q h.1)
-
-    on_left : (xs ys : List ℕ) (d : ℕ) → On xs d → On (xs ++ ys) d
-    on_left [] ys d h = absurd (true≢false (sym h))
-    on_left (x ∷ xs) ys d h = elim (or_cases (x == d) (list_any (λ q. q == d) xs) h) [
-      | inl e ↦ or_left (x == d) (list_any (λ q. q == d) (xs ++ ys)) e
-      | inr e ↦ or_right (x == d) (list_any (λ q. q == d) (xs ++ ys)) (on_left xs ys d e)
-    ]
-
-    -- a path of now, from before or with a wait that is new
-    old_or_new : (p : ℕ) (xs : List ℕ) (q : ℕ) → IsPath (Waiting n) p xs q
-        → IsPath (Waiting w) p xs q ⊎ ((ys : List ℕ) × (u : ℕ) × (v : ℕ) × (zs : List ℕ) × (xs ≡ ys ++ v ∷ zs) × IsPath (Waiting n) p ys u × Waiting n u v × (w.wait u v ≡ false) × IsPath (Waiting n) v zs q)
-    old_or_new p [] q path = inl path
-    old_or_new p (x ∷ xs) q path = go (cases_Bool (w.wait p x)) (old_or_new x xs q path.1)
-      where
-        go : (w.wait p x ≡ true) ⊎ (w.wait p x ≡ false)
-            → IsPath (Waiting w) x xs q ⊎ ((ys : List ℕ) × (u : ℕ) × (v : ℕ) × (zs : List ℕ) × (xs ≡ ys ++ v ∷ zs) × IsPath (Waiting n) x ys u × Waiting n u v × (w.wait u v ≡ false) × IsPath (Waiting n) v zs q)
-            → IsPath (Waiting w) p (x ∷ xs) q ⊎ ((ys : List ℕ) × (u : ℕ) × (v : ℕ) × (zs : List ℕ) × (x ∷ xs ≡ ys ++ v ∷ zs) × IsPath (Waiting n) p ys u × Waiting n u v × (w.wait u v ≡ false) × IsPath (Waiting n) v zs q)
-        go (inr new) r = inr ([], p, x, xs, refl, refl, path.0, new, path.1)
-        go (inl was) (inl r) = inl (was, r)
-        go (inl was) (inr r) = inr (x ∷ r.0, r.1, r.2, r.3, ap (λ z. x ∷ z) r.4, (path.0, r.5), r.6, r.7, r.8)
-
--- one of these is declared, or a computation of one of them goes along a cycle
-abbrev pub Watched : Topology → World → (ℕ → Type 0) → List ℕ → Type 0
-Watched t w D full =
-    ((d : ℕ) × (list_any (λ q. q == d) full ≡ true) × D d)
-    ⊎ ((i : ℕ) × (next : ℕ) × (others : List ℕ) × (list_any (λ q. q == i) full ≡ true) × Waiting w i next × IsPath (Waiting w) next others i × Ahead t w i i (next ∷ others) × Marked t w i (next ∷ others))
-
-abbrev pub AllWatched : Topology → World → (ℕ → Type 0) → Type 0
-AllWatched t w D = (p next : ℕ) (xs : List ℕ) → Waiting w p next → IsPath (Waiting w) next xs p → Watched t w D (next ∷ xs)
-
-module _ (t : Topology) (w : World) (e : WorldEvent) (n : World) (inv : Inv t w) (st : Step t w e n) (D : ℕ → Type 0) (known : (s i : ℕ) → set.contains (w.value s).declared i ≡ true → D i) where
-  watched_kept : (full : List ℕ) → Watched t w D full → Watched t n (λ i. D i ⊎ (e.entry.declared ≡ Some i)) full
-  watched_kept full (inl x) = inl (x.0, x.1, inl x.2)
-  watched_kept full (inr x) =
-      let i = x.0 in
-      let new = cycle_kept t w e n inv st x.0 x.1 x.2 x.4 x.5 in
-      let blocked = wait_blocks t w inv x.0 x.1 x.4 in
-      let still = wait_blocks t n (kept t w e n inv st) x.0 x.1 new.0 in
-      elim (marked_kept t w e n inv st D known x.0 x.0 (x.1 ∷ x.2) (x.4, x.5) blocked still x.7) [
-        | inl d ↦ inl (x.0, x.3, d)
-        | inr m ↦ inr (x.0, x.1, x.2, x.3, new.0, new.1, ahead_kept t w e n inv st x.0 x.0 (x.1 ∷ x.2) (x.4, x.5) blocked still x.6, m)
+module _ (t : Topology) (w : World) (e : WorldEvent) (n : World) (inv : Invariant t w) (st : Step t w e n) (D : ℕ → Type 0) (known : (s i : ℕ) → set.contains (w.value s).declared i ≡ true → D i) where
+  -- an event keeps it
+  pub followed_kept : (i next : ℕ) (others : List ℕ) → Followed t w D i next others → Followed t n (λ j. D j ⊎ (e.entry.declared ≡ Some j)) i next others
+  followed_kept i next others (inl d) = inl (inl d)
+  followed_kept i next others (inr f) =
+      let new = cycle_kept t w e n inv st i next others f.0 f.1 in
+      let blocked = wait_blocks t w inv i next f.0 in
+      let still = wait_blocks t n (kept t w e n inv st) i next new.0 in
+      elim (marked_kept t w e n inv st D known i i (next ∷ others) (f.0, f.1) blocked still f.3) [
+        | inl d ↦ inl d
+        | inr m ↦ inr (new.0, new.1, ahead_kept t w e n inv st i i (next ∷ others) (f.0, f.1) blocked still f.2, m)
       ]
 
-  pub all_watched_kept : (starts_at_ask t.edition) ≡ true → AllWatched t w D → AllWatched t n (λ i. D i ⊎ (e.entry.declared ≡ Some i))
-  all_watched_kept two all p next xs waits path = elim (old_or_new t w e n inv st D known p (next ∷ xs) p (waits, path)) [
-    | inl old ↦ watched_kept (next ∷ xs) (all p next xs old.0 old.1)
-    | inr r ↦
-        let asks : asks_for r.1 r.2 e.entry.event ≡ true = only_asks (asks_for r.1 r.2 e.entry.event) (not (grants r.2 r.1 e.entry.event)) (w.wait r.1 r.2) (n.wait r.1 r.2) r.7 (st.waits r.1 r.2) r.6 in
-        let round = path_join (Waiting n) r.2 r.3 p r.0 r.1 r.8 r.5 in
-        let on : list_any (λ q. q == r.1) (next ∷ xs) ≡ true = member r.0 r.1 r.2 r.3 r.4 r.5 in
-        elim (new_watch t w e n inv st D known two r.1 r.2 (r.3 ++ r.0) asks r.6 round) [
-          | inl d ↦ inl (r.1, on, d)
-          | inr m ↦ inr (r.1, r.2, r.3 ++ r.0, on, r.6, round, m.0, m.1)
-        ]
-  ]
+  -- a wait of the asker that stands after its ask is one that the ask began, since the asker was active
+  pub began : (u x : ℕ) → is_ask_of u e.entry.event ≡ true → Waiting n u x → asks_for u x e.entry.event ≡ true
+  began u x asks waits = only_asks (asks_for u x e.entry.event) (not (grants x u e.entry.event)) (w.wait u x) (n.wait u x) none_before (st.waits u x) waits
     where
+      none_before : w.wait u x ≡ false
+      none_before = false_from_ne_true (w.wait u x) (λ h.
+          let active = asker_active t e.site (w.value e.site) e.entry.event u st.accepted asks in
+          let blocked = wait_blocks t w inv u x h in
+          true≢false (sym (blocked_before t w e n inv st u e.site active.0 blocked) ∙ active.1))
+
       only_asks : (x y z now : Bool) → z ≡ false → now ≡ (x || (y && z)) → now ≡ true → x ≡ true
       only_asks true y z now h k l = refl
       only_asks false true z now h k l = absurd (true≢false (sym l ∙ k ∙ h))
       only_asks false false z now h k l = absurd (true≢false (sym l ∙ k))
 
-      member : (ys : List ℕ) (u v : ℕ) (zs : List ℕ) → next ∷ xs ≡ ys ++ v ∷ zs → IsPath (Waiting n) p ys u → list_any (λ q. q == u) (next ∷ xs) ≡ true
-      member [] u v zs same h = subst (λ z. list_any (λ q. q == z) (next ∷ xs) ≡ true) h (ends_on t w e n inv st D known (Waiting n) p next xs p (waits, path))
-      member (y ∷ ys) u v zs same h = ap (list_any (λ q. q == u)) same ∙ on_left t w e n inv st D known (y ∷ ys) (v ∷ zs) u (ends_on t w e n inv st D known (Waiting n) p y ys u h)
+  -- the ask that closes a cycle begins it
+  pub followed_from : (starts_at_ask t.edition) ≡ true → (u next : ℕ) (others : List ℕ) → asks_for u next e.entry.event ≡ true → Waiting n u next → IsPath (Waiting n) next others u
+      → Followed t n (λ j. D j ⊎ (e.entry.declared ≡ Some j)) u next others
+  followed_from two u next others asks waits path = elim (ask_launches t w e n inv st D known two u next others asks waits path) [
+    | inl d ↦ inl d
+    | inr m ↦ inr (waits, path, m.0, m.1)
+  ]

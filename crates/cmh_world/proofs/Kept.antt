@@ -22,26 +22,28 @@ use Rattle.cmh_model.proofs.Effects.{asks_means, grants_means, asks_or_grants, n
 use Rattle.cmh_model.proofs.Bits.{bit_zero, bit_one, bit_at_most, wait_sum}
 use Rattle.cmh_model.proofs.Journals.{sent_on, got_on}
 use Rattle.cmh_model.proofs.PathLemmas.{LeadsTo, path_map, path_join, leads_on, leads_further}
-use Rattle.cmh_world.proofs.World.{World, Step, Waiting, Each, ProbeFits, Inv, BlockedAt, wait_blocks, path_blocks}
+use Rattle.cmh_world.proofs.World.{World, Step, Waiting, EachWait, ProbeFits, Invariant, BlockedAt, wait_blocks, path_blocks}
 
+-- the site of an event sends what the event sends
 pub sent_yes : (a b : ℕ) (e : WorldEvent) → e.site ≡ a → sent_on a b e ≡ frames_to b e.entry.sent
 sent_yes a b e h = ap (λ z. if z then frames_to b e.entry.sent else []) (eq-eqb e.site a h)
 
+-- and no other site sends anything
 pub sent_no : (a b : ℕ) (e : WorldEvent) → e.site ≢ a → sent_on a b e ≡ []
 sent_no a b e h = ap (λ z. if z then frames_to b e.entry.sent else []) (ne_eqb e.site a h)
 
+-- the site of an event gets what the event gets
 pub got_yes : (a b : ℕ) (e : WorldEvent) → e.site ≡ b → got_on a b e ≡ frame_from a e.entry.event
 got_yes a b e h = ap (λ z. if z then frame_from a e.entry.event else []) (eq-eqb e.site b h)
 
+-- and no other site gets anything
 pub got_no : (a b : ℕ) (e : WorldEvent) → e.site ≢ b → got_on a b e ≡ []
 got_no a b e h = ap (λ z. if z then frame_from a e.entry.event else []) (ne_eqb e.site b h)
 
-module _ (t : Topology) (w : World) (e : WorldEvent) (n : World) (inv : Inv t w) (st : Step t w e n) where
-  s : ℕ
-  s = e.site
-
-  own_link' : (a : ℕ) → n.queue a a ≡ []
-  own_link' a =
+module _ (t : Topology) (w : World) (e : WorldEvent) (n : World) (inv : Invariant t w) (st : Step t w e n) where
+  -- nothing is under way from a site to itself
+  own_link_kept : (a : ℕ) → n.queue a a ≡ []
+  own_link_kept a =
       let sent : sent_on a a e ≡ [] = elim (cases_eq e.site a) [
         | inl h ↦ sent_yes a a e h ∙ subst (λ z. frames_to z e.entry.sent ≡ []) h (none_to_own t e.site (w.value e.site) e.entry.event e.entry.sent e.entry.declared st.accepted st.sends)
         | inr h ↦ sent_no a a e h
@@ -52,12 +54,15 @@ module _ (t : Topology) (w : World) (e : WorldEvent) (n : World) (inv : Inv t w)
       ] in
       ap (λ z. z ++ n.queue a a) (sym got) ∙ sym (st.links a a) ∙ ap (λ z. z ++ sent_on a a e) (inv.own_link a) ∙ sent
 
+  -- on each link, what was under way and what is sent is what is got and what is under way then
   link_count : (p : Frame → Bool) (a b : ℕ) → count_of p (w.queue a b) + count_of p (sent_on a b e) ≡ count_of p (got_on a b e) + count_of p (n.queue a b)
   link_count p a b = sym (count-append p (w.queue a b) (sent_on a b e)) ∙ ap (count_of p) (st.links a b) ∙ count-append p (got_on a b e) (n.queue a b)
 
+  -- the waits at the site afterwards
   waits_here : (j k : ℕ) → bit (has (n.value e.site).waits j k) ≡ bit (has (after t e.site (w.value e.site) e.entry.event e.entry.declared).waits j k)
   waits_here j k = ap (λ v. bit (has v.waits j k)) st.here
 
+  -- what is owed at the site afterwards
   owed_here : (j k : ℕ) → bit (has (n.value e.site).owed k j) ≡ bit (has (after t e.site (w.value e.site) e.entry.event e.entry.declared).owed k j)
   owed_here j k = ap (λ v. bit (has v.owed k j)) st.here
 
@@ -69,6 +74,7 @@ module _ (t : Topology) (w : World) (e : WorldEvent) (n : World) (inv : Inv t w)
       let both = inv.each a b j k at_j at_k in
       bit_zero (w.wait j k) (omega arith)
 
+  -- who grants was waited for
   pub waited : (a b j k : ℕ) → At t j a → At t k b → grants k j e.entry.event ≡ true → w.wait j k ≡ true
   waited a b j k at_j at_k g =
       let means = grants_means t e.site (w.value e.site) e.entry.event j k st.accepted g in
@@ -78,18 +84,21 @@ module _ (t : Topology) (w : World) (e : WorldEvent) (n : World) (inv : Inv t w)
       let is : bit (w.wait j k) ≡ 1 = omega arith in
       bit_one (w.wait j k) 0 is
 
+  -- an ask adds the wait, and a reply takes it away
   wait_move : (a b j k : ℕ) → At t j a → At t k b → bit (n.wait j k) + bit (grants k j e.entry.event) ≡ bit (w.wait j k) + bit (asks_for j k e.entry.event)
   wait_move a b j k at_j at_k =
       wait_sum (n.wait j k) (asks_for j k e.entry.event) (grants k j e.entry.event) (w.wait j k) (st.waits j k) (idle a b j k at_j at_k) (asks_or_grants e.entry.event j k) (waited a b j k at_j at_k)
 
+  -- no process of another site asks
   asks_far : (a j k : ℕ) → At t j a → e.site ≢ a → asks_for j k e.entry.event ≡ false
   asks_far a j k at far = false_from_ne_true _ (λ q. far (one_place t j e.site a (asks_means t e.site (w.value e.site) e.entry.event j k st.accepted q).0 at))
 
+  -- no process of another site grants
   grants_far : (b j k : ℕ) → At t k b → e.site ≢ b → grants k j e.entry.event ≡ false
   grants_far b j k at far = false_from_ne_true _ (λ g. far (one_place t k e.site b (grants_means t e.site (w.value e.site) e.entry.event j k st.accepted g).0 at))
 
   -- at two other sites nothing changes
-  each_far : (a b j k : ℕ) → At t j a → At t k b → e.site ≢ a → e.site ≢ b → Each n a b j k
+  each_far : (a b j k : ℕ) → At t j a → At t k b → e.site ≢ a → e.site ≢ b → EachWait n a b j k
   each_far a b j k at_j at_k not_a not_b =
       let both = inv.each a b j k at_j at_k in
       let move = wait_move a b j k at_j at_k in
@@ -106,7 +115,7 @@ module _ (t : Topology) (w : World) (e : WorldEvent) (n : World) (inv : Inv t w)
       (omega arith, omega arith)
 
   -- at the site of j
-  each_from : (b j k : ℕ) → At t j e.site → At t k b → e.site ≢ b → Each n e.site b j k
+  each_from : (b j k : ℕ) → At t j e.site → At t k b → e.site ≢ b → EachWait n e.site b j k
   each_from b j k at_j at_k not_b =
       let both = inv.each e.site b j k at_j at_k in
       let move = wait_move e.site b j k at_j at_k in
@@ -126,7 +135,7 @@ module _ (t : Topology) (w : World) (e : WorldEvent) (n : World) (inv : Inv t w)
       (omega arith, omega arith)
 
   -- at the site of k
-  each_to : (a j k : ℕ) → At t j a → At t k e.site → e.site ≢ a → Each n a e.site j k
+  each_to : (a j k : ℕ) → At t j a → At t k e.site → e.site ≢ a → EachWait n a e.site j k
   each_to a j k at_j at_k not_a =
       let both = inv.each a e.site j k at_j at_k in
       let move = wait_move a e.site j k at_j at_k in
@@ -146,22 +155,22 @@ module _ (t : Topology) (w : World) (e : WorldEvent) (n : World) (inv : Inv t w)
       (omega arith, omega arith)
 
   -- at the one site of both
-  each_own : (j k : ℕ) → At t j e.site → At t k e.site → Each n e.site e.site j k
+  each_own : (j k : ℕ) → At t j e.site → At t k e.site → EachWait n e.site e.site j k
   each_own j k at_j at_k =
       let both = inv.each e.site e.site j k at_j at_k in
       let move = wait_move e.site e.site j k at_j at_k in
       let q1 = ap (count_of (is_request j k)) (inv.own_link e.site) in
       let q2 = ap (count_of (is_reply k j)) (inv.own_link e.site) in
-      let q3 = ap (count_of (is_request j k)) (own_link' e.site) in
-      let q4 = ap (count_of (is_reply k j)) (own_link' e.site) in
+      let q3 = ap (count_of (is_request j k)) (own_link_kept e.site) in
+      let q4 = ap (count_of (is_reply k j)) (own_link_kept e.site) in
       let f1 = ap (count_of (is_request j k)) (none_from_own t e.site (w.value e.site) e.entry.event st.accepted) in
       let f2 = ap (count_of (is_reply k j)) (none_from_own t e.site (w.value e.site) e.entry.event st.accepted) in
       let waits = waits_move t e.site (w.value e.site) e.entry.event e.entry.declared j k e.site st.accepted at_j at_k
       (λ g. let one = ap bit (grants_means t e.site (w.value e.site) e.entry.event j k st.accepted g).2 in let is : bit (has (w.value e.site).waits j k) ≡ 1 = omega arith in bit_one _ 0 is) in
       let owed = owed_move t e.site (w.value e.site) e.entry.event e.entry.declared j k e.site st.accepted at_k at_j
       (λ q. let none = ap bit (asks_means t e.site (w.value e.site) e.entry.event j k st.accepted q).1 in bit_zero _ (omega arith)) in
-      let w1 = waits_here j k in
-      let o1 = owed_here j k in
+      let waits_now = waits_here j k in
+      let owed_now = owed_here j k in
       let here : bit (grants k j e.entry.event && is_at t k e.site) ≡ bit (grants k j e.entry.event) = ap bit (and_true (grants k j e.entry.event) (is_at t k e.site) (is_at-yes t k e.site at_k)) in
       let there : bit (asks_for j k e.entry.event && is_at t j e.site) ≡ bit (asks_for j k e.entry.event) = ap bit (and_true (asks_for j k e.entry.event) (is_at t j e.site) (is_at-yes t j e.site at_j)) in
       (omega arith, omega arith)
@@ -170,20 +179,22 @@ module _ (t : Topology) (w : World) (e : WorldEvent) (n : World) (inv : Inv t w)
       and_true true y h = h
       and_true false y h = refl
 
-  each' : (a b j k : ℕ) → At t j a → At t k b → Each n a b j k
-  each' a b j k at_j at_k = elim (cases_eq e.site a) [
+  -- a wait is still at just one of its three places
+  each_kept : (a b j k : ℕ) → At t j a → At t k b → EachWait n a b j k
+  each_kept a b j k at_j at_k = elim (cases_eq e.site a) [
     | inl at_a ↦ elim (cases_eq e.site b) [
-      | inl at_b ↦ subst (λ z. Each n a z j k) at_b (subst (λ z. Each n z e.site j k) at_a (each_own j k (subst (At t j) (sym at_a) at_j) (subst (At t k) (sym at_b) at_k)))
-      | inr not_b ↦ subst (λ z. Each n z b j k) at_a (each_from b j k (subst (At t j) (sym at_a) at_j) at_k not_b)
+      | inl at_b ↦ subst (λ z. EachWait n a z j k) at_b (subst (λ z. EachWait n z e.site j k) at_a (each_own j k (subst (At t j) (sym at_a) at_j) (subst (At t k) (sym at_b) at_k)))
+      | inr not_b ↦ subst (λ z. EachWait n z b j k) at_a (each_from b j k (subst (At t j) (sym at_a) at_j) at_k not_b)
     ]
     | inr not_a ↦ elim (cases_eq e.site b) [
-      | inl at_b ↦ subst (λ z. Each n a z j k) at_b (each_to a j k at_j (subst (At t k) (sym at_b) at_k) not_a)
+      | inl at_b ↦ subst (λ z. EachWait n a z j k) at_b (each_to a j k at_j (subst (At t k) (sym at_b) at_k) not_a)
       | inr not_b ↦ each_far a b j k at_j at_k not_a not_b
     ]
   ]
 
-  known' : (j k : ℕ) → Waiting n j k → ((a : ℕ) × At t j a) × ((b : ℕ) × At t k b)
-  known' j k h = elim (or_cases (asks_for j k e.entry.event) (not (grants k j e.entry.event) && w.wait j k) (sym (st.waits j k) ∙ h)) [
+  -- whoever waits, and is waited for, is known
+  known_kept : (j k : ℕ) → Waiting n j k → ((a : ℕ) × At t j a) × ((b : ℕ) × At t k b)
+  known_kept j k h = elim (or_cases (asks_for j k e.entry.event) (not (grants k j e.entry.event) && w.wait j k) (sym (st.waits j k) ∙ h)) [
     | inl q ↦ let means = asks_means t e.site (w.value e.site) e.entry.event j k st.accepted q in ((e.site, means.0), means.2)
     | inr both ↦ inv.known j k (and_parts (not (grants k j e.entry.event)) (w.wait j k) both).1
   ]
@@ -200,13 +211,16 @@ module _ (t : Topology) (w : World) (e : WorldEvent) (n : World) (inv : Inv t w)
       or_yes true y h = refl
       or_yes false y h = h
 
+  -- a path to a blocked process stays
   pub path_kept : (p : ℕ) (members : List ℕ) (q : ℕ) → IsPath (Waiting w) p members q → BlockedAt t w inv q → IsPath (Waiting n) p members q
   path_kept p [] q h b = h
   path_kept p (x ∷ xs) q h b = (wait_kept p x h.0 (path_blocks t w inv x xs q h.1 b), path_kept x xs q h.1 b)
 
+  -- so does one of at least one wait
   leads_kept : (p q : ℕ) → LeadsTo (Waiting w) p q → BlockedAt t w inv q → LeadsTo (Waiting n) p q
   leads_kept p q h b = (h.0, h.1, wait_kept p h.0 h.2 (path_blocks t w inv h.0 h.1 q h.3 b), path_kept h.0 h.1 q h.3 b)
 
+  -- a cycle stays, since each of its members is blocked
   pub cycle_kept : (p : ℕ) (next : ℕ) (members : List ℕ) → Waiting w p next → IsPath (Waiting w) next members p → Waiting n p next × IsPath (Waiting n) next members p
   cycle_kept p next members h path =
       let b = wait_blocks t w inv p next h in
@@ -216,8 +230,8 @@ module _ (t : Topology) (w : World) (e : WorldEvent) (n : World) (inv : Inv t w)
   probe_leads : (a i f k : ℕ) → e.entry.event ≡ Got a (Probe (i, f, k)) → probe_acts (w.value e.site) i f k ≡ true → At t k e.site × (is_blocked (w.value e.site) k ≡ true) × LeadsTo (Waiting w) i k
   probe_leads a i f k is acts =
       let acc = subst (Accepts t e.site (w.value e.site)) is st.accepted in
-      let acts1 = and_parts (is_blocked (w.value e.site) k) (not (has (w.value e.site).dependents k i) && has (w.value e.site).owed k f) acts in
-      let owed : has (w.value e.site).owed k f ≡ true = (and_parts (not (has (w.value e.site).dependents k i)) (has (w.value e.site).owed k f) acts1.1).1 in
+      let tests = and_parts (is_blocked (w.value e.site) k) (not (has (w.value e.site).dependents k i) && has (w.value e.site).owed k f) acts in
+      let owed : has (w.value e.site).owed k f ≡ true = (and_parts (not (has (w.value e.site).dependents k i)) (has (w.value e.site).owed k f) tests.1).1 in
       let queue : w.queue a e.site ≡ Probe (i, f, k) ∷ n.queue a e.site =
       sym (append-nil (w.queue a e.site)) ∙ ap (λ z. w.queue a e.site ++ z) (sym (sent_no a e.site e (λ h. acc.0 (sym h)))) ∙ st.links a e.site
       ∙ ap (λ z. z ++ n.queue a e.site) (got_yes a e.site e refl ∙ ap (frame_from a) is ∙ frame_from-yes a a (Probe (i, f, k)) refl) in
@@ -230,10 +244,11 @@ module _ (t : Topology) (w : World) (e : WorldEvent) (n : World) (inv : Inv t w)
       let count = ap (count_of (is_request f k)) queue in
       let none : count_of (is_request f k) (n.queue a e.site) ≡ 0 = omega arith in
       let path = fits.3 waits none in
-      (acc.2, acts1.0, leads_on (Waiting w) i path.0 f k path.1 waits)
+      (acc.2, tests.0, leads_on (Waiting w) i path.0 f k path.1 waits)
 
-  dependents' : (b k i : ℕ) → has (n.value b).dependents k i ≡ true → At t k b × (is_blocked (n.value b) k ≡ true) × LeadsTo (Waiting n) i k
-  dependents' b k i h = elim (cases_eq e.site b) [
+  -- a dependent is one still, and the process on which it depends is blocked
+  dependents_kept : (b k i : ℕ) → has (n.value b).dependents k i ≡ true → At t k b × (is_blocked (n.value b) k ≡ true) × LeadsTo (Waiting n) i k
+  dependents_kept b k i h = elim (cases_eq e.site b) [
     | inl at_b ↦ subst (λ z. At t k z × (is_blocked (n.value z) k ≡ true) × LeadsTo (Waiting n) i k) at_b
         (go (dependents_after t e.site (w.value e.site) e.entry.event e.entry.declared k i (ap (λ v. has v.dependents k i) (sym st.here) ∙ subst (λ z. has (n.value z).dependents k i ≡ true) (sym at_b) h)))
     | inr not_b ↦
@@ -258,16 +273,18 @@ module _ (t : Topology) (w : World) (e : WorldEvent) (n : World) (inv : Inv t w)
   -- a wait between processes of the site is a wait
   pub local_wait : (p q : ℕ) → WaitsLocally t e.site (n.value e.site).waits p q → Waiting n p q
   local_wait p q h =
-      let both = each' e.site e.site p q h.0 h.1 in
+      let both = each_kept e.site e.site p q h.0 h.1 in
       let one = ap bit h.2 in
-      let q1 = ap (count_of (is_request p q)) (own_link' e.site) in
-      let q2 = ap (count_of (is_reply q p)) (own_link' e.site) in
+      let q1 = ap (count_of (is_request p q)) (own_link_kept e.site) in
+      let q2 = ap (count_of (is_reply q p)) (own_link_kept e.site) in
       let is : bit (n.wait p q) ≡ 1 = omega arith in
       bit_one (n.wait p q) 0 is
 
+  -- a path of waits within the site is a path of waits
   local_path : (p : ℕ) (members : List ℕ) (q : ℕ) → IsPath (WaitsLocally t e.site (n.value e.site).waits) p members q → IsPath (Waiting n) p members q
   local_path p members q h = path_map (WaitsLocally t e.site (n.value e.site).waits) (Waiting n) local_wait p members q h
 
+  -- the rules and the next world agree on the waits of the site
   pub new_waits : (after t e.site (w.value e.site) e.entry.event e.entry.declared).waits ≡ (n.value e.site).waits
   new_waits = ap (λ v. v.waits) (sym st.here)
 
@@ -283,8 +300,9 @@ module _ (t : Topology) (w : World) (e : WorldEvent) (n : World) (inv : Inv t w)
       let new = leads_kept x to lead.2 (e.site, lead.0, lead.1) in
       subst (λ z. (members : List ℕ) × IsPath (Waiting n) i members z) (sym o.1) (subst (λ z. (members : List ℕ) × IsPath (Waiting n) z members to) (sym o.0) (new.0 ∷ new.1, (new.2, new.3)))
 
-  probes' : (a b i j k : ℕ) (earlier behind : List Frame) → n.queue a b ≡ earlier ++ Probe (i, j, k) ∷ behind → ProbeFits t n a b i j k behind
-  probes' a b i j k earlier behind h =
+  -- a probe whose wait stands has a path behind it
+  probes_kept : (a b i j k : ℕ) (earlier behind : List Frame) → n.queue a b ≡ earlier ++ Probe (i, j, k) ∷ behind → ProbeFits t n a b i j k behind
+  probes_kept a b i j k earlier behind h =
       let all : w.queue a b ++ sent_on a b e ≡ (got_on a b e ++ earlier) ++ Probe (i, j, k) ∷ behind = st.links a b ∙ ap (λ z. got_on a b e ++ z) h ∙ sym (append_assoc (got_on a b e) earlier (Probe (i, j, k) ∷ behind)) in
       go (split_append (w.queue a b) (sent_on a b e) (got_on a b e ++ earlier) (Probe (i, j, k)) behind all)
     where
@@ -333,8 +351,9 @@ module _ (t : Topology) (w : World) (e : WorldEvent) (n : World) (inv : Inv t w)
       go (inl x) = old x.0 x.1 x.2
       go (inr x) = new x.0 x.1
 
-  pub kept : Inv t n
-  kept = record { own_link = own_link'; each = each'; known = known'; dependents = dependents'; probes = probes' }
+  -- all of it holds after the event
+  pub kept : Invariant t n
+  kept = record { own_link = own_link_kept; each = each_kept; known = known_kept; dependents = dependents_kept; probes = probes_kept }
 
   -- who is declared lies on a cycle
   pub declared_cycle : (i : ℕ) → e.entry.declared ≡ Some i → LeadsTo (Waiting n) i i

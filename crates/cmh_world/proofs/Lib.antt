@@ -1,9 +1,10 @@
 pub mod World
 pub mod Kept
-pub mod Runs_so_far
+pub mod RunsSoFar
 pub mod Orders
 pub mod Stops
+pub mod LastAsker
 pub mod Drained
-pub mod Drained_runs
+pub mod DrainedRuns
 pub mod Waits
 pub mod Turns

@@ -8,17 +8,20 @@ use Rattle.cmh_model.specs.Journals.{sendings_of, receipts_of}
 use Rattle.cmh_model.specs.Waits.{Waits, wait_after}
 use Rattle.cmh_model.specs.Laws.{bit, count_of, is_request, SameJournals, SameWaits}
 use Rattle.cmh_model.proofs.Bits.{bit_one}
-use Rattle.cmh_world.proofs.World.{Inv}
-use Rattle.cmh_world.proofs.Runs_so_far.{world_of, inv_of_run}
+use Rattle.cmh_world.proofs.World.{Invariant}
+use Rattle.cmh_world.proofs.RunsSoFar.{world_of, invariant_of_run}
 
 module _ (t : Topology) (xs ys : List WorldEvent) (same : SameJournals xs ys) where
+  -- the same frames are under way
   same_queue : (a b : ℕ) → under_way a b xs ≡ under_way a b ys
   same_queue a b = λ i. drop (length (receipts_of a (same b i))) (sendings_of b (same a i))
 
+  -- the sites are in the same state
   same_state : (s : ℕ) → state_of t s xs ≡ state_of t s ys
   same_state s = ap (Rattle.cmh_model.specs.Journals.value t s) (same s)
 
-  waits_too : Inv t (world_of t xs) → Inv t (world_of t ys) → (j k : ℕ) → Waits xs j k → Waits ys j k
+  -- a wait of the one is a wait of the other
+  waits_too : Invariant t (world_of t xs) → Invariant t (world_of t ys) → (j k : ℕ) → Waits xs j k → Waits ys j k
   waits_too inv other j k h =
       let at = inv.known j k h in
       let first = (inv.each at.0.0 at.1.0 j k at.0.1 at.1.1).1 in
@@ -29,6 +32,7 @@ module _ (t : Topology) (xs ys : List WorldEvent) (same : SameJournals xs ys) wh
       let is : bit (wait_after false j k ys) ≡ 1 = omega arith in
       bit_one (wait_after false j k ys) 0 is
 
+-- runs with the same journals have the same waits
 pub same_waits : (t : Topology) (xs ys : List WorldEvent) → IsRun t xs → IsRun t ys → SameJournals xs ys → SameWaits xs ys
 same_waits t xs ys run other same = λ j k.
-    (waits_too t xs ys same (inv_of_run t xs run) (inv_of_run t ys other) j k, waits_too t ys xs (λ s. sym (same s)) (inv_of_run t ys other) (inv_of_run t xs run) j k)
+    (waits_too t xs ys same (invariant_of_run t xs run) (invariant_of_run t ys other) j k, waits_too t ys xs (λ s. sym (same s)) (invariant_of_run t ys other) (invariant_of_run t xs run) j k)

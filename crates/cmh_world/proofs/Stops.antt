@@ -13,9 +13,11 @@ use Rattle.cmh_model.proofs.Journals.{entries_here, entries_elsewhere, entries_o
 
 -- ---- beginnings
 
+-- a beginning of a beginning is one
 begins_trans : {X : Type 0} (xs ys zs : List X) → IsBeginningOf xs ys → IsBeginningOf ys zs → IsBeginningOf xs zs
 begins_trans xs ys zs h g = (h.0 ++ g.0, sym (append_assoc xs h.0 g.0) ∙ ap (λ z. z ++ g.0) h.1 ∙ g.1)
 
+-- a beginning is no longer
 begins_length : {X : Type 0} (xs ys : List X) → IsBeginningOf xs ys → length xs ≤ length ys
 begins_length xs ys h = let l = length-append xs h.0 in let m = ap length h.1 in omega arith
 
@@ -31,22 +33,27 @@ shorter_begins (x ∷ xs) (y ∷ ys) (z ∷ zs) h g l =
     let r = shorter_begins xs ys zs (h.0, first) (g.0, second) (omega arith) in
     (r.0, λ i. same i ∷ r.1 i)
 
+-- the first n are a beginning
 take_begins : {X : Type 0} (n : ℕ) (xs : List X) → IsBeginningOf (take n xs) xs
 take_begins n xs = (drop n xs, take-append-drop n xs)
 
+-- the first n of a beginning begin the first n
 take_of_front : {X : Type 0} (n : ℕ) (xs ys : List X) → IsBeginningOf (take n xs) (take n (xs ++ ys))
 take_of_front zero xs ys = ([], refl)
 take_of_front (suc n) [] ys = (take (suc n) ys, refl)
 take_of_front (suc n) (x ∷ xs) ys = let r = take_of_front n xs ys in (r.0, ap (λ z. x ∷ z) r.1)
 
+-- what a beginning of a journal sends begins what the journal sends
 sent_begins : (b : ℕ) (xs ys : List Entry) → IsBeginningOf xs ys → IsBeginningOf (sendings_of b xs) (sendings_of b ys)
 sent_begins b xs ys h = (sendings_of b h.0, sym (sendings_of-append b xs h.0) ∙ ap (sendings_of b) h.1)
 
+-- and so with what it gets
 got_begins : (a : ℕ) (xs ys : List Entry) → IsBeginningOf xs ys → IsBeginningOf (receipts_of a xs) (receipts_of a ys)
 got_begins a xs ys h = (receipts_of a h.0, sym (receipts_of-append a xs h.0) ∙ ap (receipts_of a) h.1)
 
 -- ---- the stopped list
 
+-- the stop with one entry less of this site
 lower : (ℕ → ℕ) → ℕ → ℕ → ℕ
 lower stop site s = if site == s then stop s - 1 else stop s
 
@@ -55,14 +62,17 @@ within : (ℕ → ℕ) → List WorldEvent → List WorldEvent
 within stop [] = []
 within stop (e ∷ es) = if stop e.site == 0 then within stop es else e ∷ within (lower stop e.site) es
 
+-- an event of a site that is at its stop is left out
 within_skips : (stop : ℕ → ℕ) (e : WorldEvent) (es : List WorldEvent) → stop e.site ≡ 0 → within stop (e ∷ es) ≡ within stop es
 unfolding within
 within_skips stop e es h = ap (λ z. if z then within stop es else e ∷ within (lower stop e.site) es) (eq-eqb (stop e.site) 0 h)
 
+-- another one is kept
 within_takes : (stop : ℕ → ℕ) (e : WorldEvent) (es : List WorldEvent) → stop e.site ≢ 0 → within stop (e ∷ es) ≡ e ∷ within (lower stop e.site) es
 unfolding within
 within_takes stop e es h = ap (λ z. if z then within stop es else e ∷ within (lower stop e.site) es) (ne_eqb (stop e.site) 0 h)
 
+-- of each site the first entries are left, as many as its stop says
 entries_within : (stop : ℕ → ℕ) (es : List WorldEvent) (s : ℕ) → entries_of s (within stop es) ≡ take (stop s) (entries_of s es)
 unfolding within lower
 entries_within stop [] s = none (stop s)
@@ -129,6 +139,7 @@ module _ (t : Topology) (events : List WorldEvent) (run : IsRun t events) (stop 
             shorter_begins _ _ (sendings a b front) got (sent_begins b _ _ (take_begins (stop a) (entries_of a front))) (omega arith)
       ]
 
+  -- what is left of a run is a run
   stopped_run : IsRun t (within stop events)
   stopped_run = record {
     lawful = λ s. subst (IsLawful t s) (sym (entries_within stop events s)) (lawful_front t s _ (take (stop s) (entries_of s events)) (drop (stop s) (entries_of s events)) (subst (IsLawful t s) (sym (take-append-drop (stop s) (entries_of s events))) (run.lawful s)));
@@ -139,5 +150,6 @@ module _ (t : Topology) (events : List WorldEvent) (run : IsRun t events) (stop 
         (subst (λ z. IsBeginningOf (receipts_of a (take (stop b) (entries_of b front.0))) z) (ap (sendings_of b) (sym (entries_within stop front.0 a))) (in_order_within front.0 front.1 a b)));
   }
 
+-- a consistent stop comes from a run
 pub stops_anywhere : (t : Topology) (events : List WorldEvent) → IsRun t events → StopsAnywhere t events
 stops_anywhere t events run = λ stop consistent. (within stop events, stopped_run t events run stop consistent, entries_within stop events)

@@ -29,10 +29,12 @@ stays (e ∷ es) j k none = ap (λ b. wait_after b j k es) (ap (λ g. asks_for j
     or_true true = refl
     or_true false = refl
 
+-- an ask with no reply after it leaves a wait
 to_end : (events : List WorldEvent) (j k : ℕ) → StandsUnanswered events j k → Waits events j k
 to_end events j k x =
     ap (λ z. wait_after false j k z) x.3 ∙ wait_after-append false j k x.0 (x.1 ∷ x.2)
     ∙ ap (λ q. wait_after (q || (not (grants k j x.1.entry.event) && wait_after false j k x.0)) j k x.2) x.4 ∙ stays x.2 j k x.5
 
+-- the two wordings of a wait agree
 pub waits_stand : WaitsStandUnanswered
 waits_stand = λ events j k. ((λ h. elim (from_start false events j k h) [ inl x ↦ absurd (true≢false (sym x.0)) | inr x ↦ x ]), to_end events j k)

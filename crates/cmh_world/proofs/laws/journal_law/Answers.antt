@@ -2,4 +2,4 @@ use Rattle.cmh_model.proofs.Lawful.{lawful_states}
 use Rattle.cmh_world.proofs.laws.journal_law.Goals as goal
 
 pub returns : goal.returns
-returns c = lawful_states c.args.topology.now
+returns c = record { states = lawful_states c.args.topology.now }

@@ -13,7 +13,7 @@ use Rattle.cmh_model.specs.Laws.{bit, Facts, DarkPath}
 use Rattle.cmh_model.proofs.Pairs.{has-empty}
 use Rattle.cmh_model.proofs.Edges.{empty_has_none}
 use Rattle.cmh_model.proofs.Journals.{sent_on, got_on}
-use Rattle.cmh_world.proofs.World.{World, Step, Inv, wait_blocks}
+use Rattle.cmh_world.proofs.World.{World, Step, Invariant, wait_blocks}
 use Rattle.cmh_world.proofs.Kept.{kept, cycle_kept, declared_cycle}
 use Rattle.cmh_model.proofs.Journals.{entries_here, entries_elsewhere, entries_of-append, state_after-append, lawful_rest, sendings-more, receipts-more, wait_after-append, whole, run_front}
 
@@ -21,6 +21,7 @@ use Rattle.cmh_model.proofs.Journals.{entries_here, entries_elsewhere, entries_o
 abbrev pub world_of : Topology → List WorldEvent → World
 world_of t events = record { value = λ s. state_of t s events; queue = λ a b. under_way a b events; wait = λ j k. wait_after false j k events }
 
+-- the next entry of a run is a step of the world
 pub one_step : (t : Topology) (before : List WorldEvent) (e : WorldEvent) (rest : List WorldEvent) → IsRun t (before ++ e ∷ rest) → Step t (world_of t before) e (world_of t (before ++ e ∷ []))
 one_step t before e rest run = record {
   accepted = lawful.0;
@@ -46,8 +47,9 @@ one_step t before e rest run = record {
         (sym (append_assoc (receipts a b before) (under_way a b before) (sent_on a b e)) ∙ ap (λ z. z ++ sent_on a b e) old ∙ sym sent ∙ sym new
         ∙ ap (λ z. z ++ under_way a b (before ++ e ∷ [])) got ∙ append_assoc (receipts a b before) (got_on a b e) (under_way a b (before ++ e ∷ [])))
 
-pub inv_first : (t : Topology) → Inv t (world_of t [])
-inv_first t = record {
+-- it holds of the world in which nothing happened
+pub invariant_first : (t : Topology) → Invariant t (world_of t [])
+invariant_first t = record {
   own_link = λ a. refl;
   each = λ a b j k at_j at_k. let x = ap bit (has-empty k j) in let y = ap bit (has-empty j k) in (omega arith, omega arith);
   known = λ j k h. absurd (true≢false (sym h));
@@ -56,17 +58,19 @@ inv_first t = record {
 }
 
 -- what holds at a moment holds at every later one
-inv_on : (t : Topology) (before rest : List WorldEvent) → IsRun t (before ++ rest) → Inv t (world_of t before) → Inv t (world_of t (before ++ rest))
-inv_on t before [] run inv = subst (λ z. Inv t (world_of t z)) (sym (append-nil before)) inv
-inv_on t before (e ∷ rest) run inv =
+invariant_on : (t : Topology) (before rest : List WorldEvent) → IsRun t (before ++ rest) → Invariant t (world_of t before) → Invariant t (world_of t (before ++ rest))
+invariant_on t before [] run inv = subst (λ z. Invariant t (world_of t z)) (sym (append-nil before)) inv
+invariant_on t before (e ∷ rest) run inv =
     let same = append_assoc before (e ∷ []) rest in
-    subst (λ z. Inv t (world_of t z)) same (inv_on t (before ++ e ∷ []) rest (subst (IsRun t) (sym same) run)
+    subst (λ z. Invariant t (world_of t z)) same (invariant_on t (before ++ e ∷ []) rest (subst (IsRun t) (sym same) run)
     (kept t (world_of t before) e (world_of t (before ++ e ∷ [])) inv (one_step t before e rest run)))
 
-pub inv_of_run : (t : Topology) (events : List WorldEvent) → IsRun t events → Inv t (world_of t events)
-inv_of_run t events run = inv_on t [] events run (inv_first t)
+-- it holds of the world at the end of a run
+pub invariant_of_run : (t : Topology) (events : List WorldEvent) → IsRun t events → Invariant t (world_of t events)
+invariant_of_run t events run = invariant_on t [] events run (invariant_first t)
 
-cycle_on : (t : Topology) (before rest : List WorldEvent) (i : ℕ) (members : List ℕ) → IsRun t (before ++ rest) → Inv t (world_of t before) → IsCycle before i members → IsCycle (before ++ rest) i members
+-- a cycle of a beginning is one at the end
+cycle_on : (t : Topology) (before rest : List WorldEvent) (i : ℕ) (members : List ℕ) → IsRun t (before ++ rest) → Invariant t (world_of t before) → IsCycle before i members → IsCycle (before ++ rest) i members
 cycle_on t before [] i members run inv h = subst (λ z. IsCycle z i members) (sym (append-nil before)) h
 cycle_on t before (e ∷ rest) i members run inv h =
     let same = append_assoc before (e ∷ []) rest in
@@ -81,21 +85,23 @@ cycle_on t before (e ∷ rest) i members run inv h =
         let new = cycle_kept t (world_of t before) e (world_of t (before ++ e ∷ [])) inv step first second others h.1.0 (subst (λ z. IsPath (Waits before) second others z) (sym h.0) h.1.1) in
         (h.0, (new.0, subst (λ z. IsPath (Waits (before ++ e ∷ [])) second others z) h.0 new.1))
 
-declared_on : (t : Topology) (before rest : List WorldEvent) (i : ℕ) → IsRun t (before ++ rest) → Inv t (world_of t before) → IsDeclared rest i → OnCycle (before ++ rest) i
+-- whoever a later entry declares lies on a cycle at the end
+declared_on : (t : Topology) (before rest : List WorldEvent) (i : ℕ) → IsRun t (before ++ rest) → Invariant t (world_of t before) → IsDeclared rest i → OnCycle (before ++ rest) i
 declared_on t before [] i run inv h = absurd h
 declared_on t before (e ∷ rest) i run inv h =
     let same = append_assoc before (e ∷ []) rest in
     let step = one_step t before e rest run in
     let next = kept t (world_of t before) e (world_of t (before ++ e ∷ [])) inv step in
-    let run' = subst (IsRun t) (sym same) run in
+    let run_here = subst (IsRun t) (sym same) run in
     subst (λ z. OnCycle z i) same (elim h [
       | inl now ↦
           let lead = declared_cycle t (world_of t before) e (world_of t (before ++ e ∷ [])) inv step i now in
-          (i ∷ lead.0 ∷ lead.1, cycle_on t (before ++ e ∷ []) rest i (i ∷ lead.0 ∷ lead.1) run' next (refl, (lead.2, lead.3)))
-      | inr later ↦ declared_on t (before ++ e ∷ []) rest i run' next later
+          (i ∷ lead.0 ∷ lead.1, cycle_on t (before ++ e ∷ []) rest i (i ∷ lead.0 ∷ lead.1) run_here next (refl, (lead.2, lead.3)))
+      | inr later ↦ declared_on t (before ++ e ∷ []) rest i run_here next later
     ])
 
-facts : (t : Topology) (events : List WorldEvent) → Inv t (world_of t events) → Facts t events
+-- what holds of the world, in the words of the law
+facts : (t : Topology) (events : List WorldEvent) → Invariant t (world_of t events) → Facts t events
 facts t events inv = record {
   dependents = inv.dependents;
   probes = inv.probes;
@@ -108,11 +114,12 @@ facts t events inv = record {
     on i (first ∷ []) h = absurd h
     on i (first ∷ second ∷ others) h = subst (λ z. (a : ℕ) × At t z a × (is_blocked (state_of t a events) z ≡ true)) h.0 (wait_blocks t (world_of t events) inv first second h.1.0)
 
+-- the dark path law
 pub dark_path : (t : Topology) (events : List WorldEvent) → IsRun t events → DarkPath t events
 dark_path t events run = record {
-  facts = λ so_far begins. facts t so_far (inv_of_run t so_far (run_front t so_far begins.0 (subst (IsRun t) (sym begins.1) run)));
+  facts = λ so_far begins. facts t so_far (invariant_of_run t so_far (run_front t so_far begins.0 (subst (IsRun t) (sym begins.1) run)));
   kept = λ so_far begins i members cycle.
-      let run' = subst (IsRun t) (sym begins.1) run in
-      subst (λ z. IsCycle z i members) begins.1 (cycle_on t so_far begins.0 i members run' (inv_of_run t so_far (run_front t so_far begins.0 run')) cycle);
-  declared = λ i h. declared_on t [] events i run (inv_first t) h;
+      let run_here = subst (IsRun t) (sym begins.1) run in
+      subst (λ z. IsCycle z i members) begins.1 (cycle_on t so_far begins.0 i members run_here (invariant_of_run t so_far (run_front t so_far begins.0 run_here)) cycle);
+  declared = λ i h. declared_on t [] events i run (invariant_first t) h;
 }
