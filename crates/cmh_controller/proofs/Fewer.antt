@@ -1,0 +1,79 @@
+-- What a removed wait leaves of the other sets.
+use Rattle.std.proofs.Common.{inl, inr, ◌≡◌, ◌≢◌, ℕ, Bool, true, false, not, ◌&&◌, ◌||◌, List, [], ◌∷◌, ◌==◌, refl, sym, ap, ◌∙◌, subst, true≢false}
+use Rattle.std.proofs.lemmas.Bool.{cases_Bool, cases_eq, and_parts, and_from, eqb-true, eq-eqb, ne_eqb}
+use Rattle.cmh_frames.specs.Topology.{Topology, is_at}
+use Rattle.cmh_model.specs.State.{State}
+use Rattle.cmh_model.specs.Rules.{with_fewer_waits, after}
+use Rattle.cmh_model.specs.Relation.{Relation, Numbers, has, has_some, without_pair, only_firsts}
+use Rattle.cmh_model.proofs.Pairs.{has-only, has_some-from, has_some-to, has-without_other}
+use Rattle.cmh_waits.proofs.Sets.{same_relation}
+
+and_true : (a : Bool) → (a && true) ≡ a
+and_true true = refl
+and_true false = refl
+
+pub only-same : (r : Relation) (p q : ℕ → Bool) → ((x : ℕ) → p x ≡ q x) → only_firsts r p ≡ only_firsts r q
+only-same r p q same = same_relation _ _ (λ x y. has-only r p x y ∙ ap (λ b. has r x y && b) (same x) ∙ sym (has-only r q x y))
+
+pub only-all : (r : Relation) (p : ℕ → Bool) → ((x : ℕ) → p x ≡ true) → r ≡ only_firsts r p
+only-all r p all = same_relation _ _ (λ x y. sym (has-only r p x y ∙ ap (λ b. has r x y && b) (all x) ∙ and_true (has r x y)))
+
+-- another process waits as before
+others_wait : (waits : Relation) (a h p : ℕ) → p ≢ a → has_some (without_pair waits a h) p ≡ has_some waits p
+others_wait waits a h p other =
+    let same = λ (y : ℕ). has-without_other waits a h p y (λ both. other both.0) in
+    elim (cases_Bool (has_some waits p)) [
+      | inl e ↦ let one = has_some-to waits p e in has_some-from (without_pair waits a h) p one.0 (same one.0 ∙ one.1) ∙ sym e
+      | inr e ↦ elim (cases_Bool (has_some (without_pair waits a h) p)) [
+        | inl f ↦ let one = has_some-to (without_pair waits a h) p f in absurd (true≢false (sym (has_some-from waits p one.0 (sym (same one.0) ∙ one.1)) ∙ e))
+        | inr f ↦ f ∙ sym e
+      ]
+    ]
+
+stays : (b : Bool) → not (b && not b) ≡ true
+stays true = refl
+stays false = refl
+
+-- whether a process keeps its dependents where the wait of a for h is gone
+abbrev pub keeps : Relation → ℕ → ℕ → ℕ → Bool
+keeps waits a h k = not (has_some waits k && not (has_some (without_pair waits a h) k))
+
+keeps_other : (waits : Relation) (a h p : ℕ) → p ≢ a → keeps waits a h p ≡ true
+keeps_other waits a h p other = ap (λ b. not (has_some waits p && not b)) (others_wait waits a h p other) ∙ stays (has_some waits p)
+
+-- it became active
+pub dependents_gone : (deps waits : Relation) (a h : ℕ) → has_some waits a ≡ true → has_some (without_pair waits a h) a ≡ false → only_firsts deps (λ p. not (p == a)) ≡ only_firsts deps (keeps waits a h)
+dependents_gone deps waits a h was is = only-same deps _ _ (λ p. elim (cases_eq p a) as (λ _. not (p == a) ≡ keeps waits a h p) [
+  | inl e ↦ ap not (eq-eqb p a e) ∙ sym (ap (keeps waits a h) e ∙ ap (λ b. not (b && not (has_some (without_pair waits a h) a))) was ∙ ap (λ b. not (true && not b)) is)
+  | inr e ↦ ap not (ne_eqb p a e) ∙ sym (keeps_other waits a h p e)
+])
+
+-- it was active, or still waits
+pub dependents_kept : (deps waits : Relation) (a h : ℕ) → keeps waits a h a ≡ true → deps ≡ only_firsts deps (keeps waits a h)
+dependents_kept deps waits a h here = only-all deps _ (λ p. elim (cases_eq p a) as (λ _. keeps waits a h p ≡ true) [
+  | inl e ↦ ap (keeps waits a h) e ∙ here
+  | inr e ↦ keeps_other waits a h p e
+])
+
+pub still_blocked : (a b : Bool) → b ≡ true → not (a && not b) ≡ true
+still_blocked true true e = refl
+still_blocked false true e = refl
+still_blocked a false e = absurd (true≢false (sym e))
+
+pub was_active : (a b : Bool) → a ≡ false → not (a && not b) ≡ true
+was_active a b e = ap (λ x. not (x && not b)) e
+
+-- ---- the state after a wait for h of a ended
+
+-- where what depends on a is forgotten if and only if a was blocked and is active now
+pub forgets : (deps waits : Relation) (a h : ℕ) → (has_some waits a && not (has_some (without_pair waits a h) a)) ≡ true → only_firsts deps (λ p. not (p == a)) ≡ only_firsts deps (keeps waits a h)
+forgets deps waits a h woke =
+    let both = and_parts (has_some waits a) (not (has_some (without_pair waits a h) a)) woke in
+    dependents_gone deps waits a h both.0 (not_true (has_some (without_pair waits a h) a) both.1)
+  where
+    not_true : (b : Bool) → not b ≡ true → b ≡ false
+    not_true true e = sym e
+    not_true false e = refl
+
+pub remembers : (deps waits : Relation) (a h : ℕ) → (has_some waits a && not (has_some (without_pair waits a h) a)) ≡ false → deps ≡ only_firsts deps (keeps waits a h)
+remembers deps waits a h not_woke = dependents_kept deps waits a h (ap not not_woke)

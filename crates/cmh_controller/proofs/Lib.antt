@@ -1,0 +1,8 @@
+pub mod Ascending
+pub mod Asking
+pub mod Changes
+pub mod Deduped
+pub mod Fewer
+pub mod OfSite
+pub mod Probing
+pub mod Replaying

@@ -1,0 +1,41 @@
+use Rattle.std.proofs.Common.{◌≡◌, ◌++◌, IsSome, List, ℕ, None, Some, if◌then◌else◌, map, sym, subst, ◌∙◌, ap}
+use Rattle.std.specs.FinSet as set
+use Rattle.std.specs.List.{AllByRecursion}
+use Rattle.cmh_frames.specs.declared.frame.Frame.{Frame}
+use Rattle.cmh_frames.specs.declared.frame.Frame.TheVariants.{Probe}
+use Rattle.cmh_frames.specs.Topology.{At, home}
+use Rattle.cmh_model.specs.declared.event.Event.TheVariants.{Got}
+use Rattle.cmh_model.specs.Rules.{Sends}
+use Rattle.cmh_controller.specs.Controller.{Controller}
+use Rattle.cmh_controller.specs.Destinations.{addressed, receiver_of}
+use Rattle.cmh_controller.proofs.OfSite.{member_here}
+use Rattle.cmh_controller.proofs.Probing.{receivers_known, receipt_declared, receipt_forward}
+use Rattle.cmh_controller.proofs.controller.Controller.got_probe.Goals as goal
+
+pub on_probe-requires : goal.on_probe-requires
+on_probe-requires c =
+    let here = subst (λ (v : Controller). At v.topology c.args.to v.site) (sym c.self.view_is) c.requires.2 in
+    member_here c.self.inside.topology c.self.inside.site c.self.inside.waits c.args.to c.self.invariant here
+
+pub send_each-requires : goal.send_each-requires
+send_each-requires c =
+    let verdict = rw c.in-Forward.is at c.in_ok-on_probe.ensures in
+    subst (λ (fs : List Frame). AllByRecursion (λ frame. IsSome (home c.self.inside.topology (receiver_of frame))) fs) (sym c.deref.ensures.value)
+    (receivers_known c.self.inside.topology c.self.inside.site c.self.inside.waits c.self.invariant c.args.origin c.args.to c.in-Forward.frames.items verdict.2)
+
+pub returns-in_ok-add-in-Declared-clause-sent : goal.returns-in_ok-add-in-Declared-clause-sent
+returns-in_ok-add-in-Declared-clause-sent c =
+    let inside = c.self.inside in
+    let verdict = rw c.in-Declared.is at c.in_ok-on_probe.ensures in
+    let new = subst (λ known. c.in_ok-declared-in-Declared.declared ≡ if set.contains known c.args.origin then None else Some c.args.origin) c.in_ok-known-in-Declared.ensures c.in_ok-declared-in-Declared.ensures.new in
+    subst (λ (v : Controller). Sends v.topology v.site v.state (Got c.args.sender (Probe (c.args.origin, c.args.from, c.args.to))) c.new-in-Declared.result c.in_ok-declared-in-Declared.declared) c.self.view_is
+    (receipt_declared inside.topology inside.site inside.waits c.self.invariant inside.dependents inside.declared c.args.sender c.args.origin c.args.from c.args.to _ _ verdict.0 verdict.2 (c.new-in-Declared.ensures ∙ c.new.ensures.items) new)
+
+pub returns-in_ok-add-in-Forward-clause-sent : goal.returns-in_ok-add-in-Forward-clause-sent
+returns-in_ok-add-in-Forward-clause-sent c =
+    let inside = c.self.inside in
+    let verdict = rw c.in-Forward.is at c.in_ok-on_probe.ensures in
+    let added = subst (λ (fs : List Frame). c.send_each.new.sent.items ≡ c.new-sent.result.items ++ map (addressed inside.topology) fs) c.deref.ensures.value c.in_ok-send_each-in-Forward.ensures in
+    let sent = c.new-in-Forward.ensures ∙ added ∙ ap (λ fs. fs ++ map (addressed inside.topology) c.in-Forward.frames.items) c.new-sent.ensures.items in
+    subst (λ (v : Controller). Sends v.topology v.site v.state (Got c.args.sender (Probe (c.args.origin, c.args.from, c.args.to))) c.new-in-Forward.result None) c.self.view_is
+    (receipt_forward inside.topology inside.site inside.waits c.self.invariant inside.dependents inside.declared c.args.sender c.args.origin c.args.from c.args.to c.in-Forward.frames.items _ verdict.0 verdict.1 verdict.2 sent)

@@ -1,0 +1,5 @@
+pub mod Beginnings
+pub mod Controller
+pub mod Destinations
+pub mod Refusals
+pub mod Replays

@@ -1,0 +1,54 @@
+//! What the start of a probe computation does at a controller.
+
+ghost use Rattle.std.specs.Prelude.{◌≡◌, IfOk, OnErr, None, Some, if◌then◌else◌};
+ghost use Rattle.std.specs.FinSet as set;
+ghost use Rattle.cmh_model.specs.Rules.{declared_after};
+ghost use Rattle.cmh_waits.specs.Held.{IsMember};
+ghost use Rattle.cmh_controller.specs.Controller.{IsOfSite};
+ghost use Rattle.cmh_controller.specs.Beginnings.{Begins};
+
+use crate::proc_set::ProcSet;
+use crate::sending::send_each;
+use cmh_frames::{Frame, ProcId, SiteId, Topology};
+use cmh_rules::{StartVerdict, start};
+use cmh_waits::LocalWaits;
+use std::alloc::{AllocError, Global};
+
+/// Starts a probe computation: adds its probes to those that go out, or declares the process. It answers the process
+/// where that was not declared before. On an error nothing is declared.
+pub fn begin(
+    alloc: Global,
+    topology: &Topology,
+    site: SiteId,
+    waits: &LocalWaits,
+    declared: &mut ProcSet,
+    process: ProcId,
+    sent: &mut Vec<(SiteId, Frame)>,
+) -> Result<Option<ProcId>, AllocError>
+    requires of_site { IsOfSite topology.now site waits.now }
+    requires member { IsMember waits.now process }
+    ensures begins { IfOk result (λ found. Begins topology.now site waits.now.waits declared.old process sent.old.items sent.new.items found) }
+    ensures declared { IfOk result (λ found. declared.new ≡ declared_after declared.old found) }
+    ensures err { OnErr result (declared.new ≡ declared.old) }
+{
+    match start(alloc, waits, process)? {
+        StartVerdict::Declared => declare(declared, process),
+        StartVerdict::Send(frames) => {
+            send_each(topology, &frames, sent)?;
+            Ok(None)
+        }
+    }
+}
+
+/// Declares a process. It answers the process where that was not declared before.
+pub fn declare(declared: &mut ProcSet, process: ProcId) -> Result<Option<ProcId>, AllocError>
+    ensures new { IfOk result (λ found. found ≡ if set.contains declared.old process then None else Some process) }
+    ensures declared { IfOk result (λ found. declared.new ≡ declared_after declared.old found) }
+    ensures err { OnErr result (declared.new ≡ declared.old) }
+{
+    if declared.contains(process) {
+        return Ok(None);
+    }
+    declared.insert(process)?;
+    Ok(Some(process))
+}

@@ -1,0 +1,17 @@
+//! The controller of one site: which events it accepts, what it sends and declares, and its state afterwards.
+#![tactic(auto)]
+
+mod beginning;
+mod controller;
+mod proc_set;
+mod refusal;
+mod replayed;
+mod sending;
+
+pub use crate::controller::Controller;
+pub use crate::refusal::Refusal;
+pub use crate::replayed::{Replayed, replay};
+pub use cmh_model::{Entry, Event, Outcome, Sendings, Targets};
+
+#[cfg(test)]
+mod tests;

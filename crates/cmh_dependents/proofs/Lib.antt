@@ -1,0 +1,6 @@
+pub mod Exploring
+pub mod Found
+pub mod Cycles
+pub mod Places
+pub mod Marked
+pub mod Waking

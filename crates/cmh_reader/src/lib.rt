@@ -1,0 +1,14 @@
+//! A reader of a link's bytes that come in pieces, cut anywhere.
+#![tactic(auto)]
+
+mod fault;
+pub mod laws;
+mod reader;
+mod reading;
+mod rest;
+mod standing;
+#[cfg(test)]
+mod tests;
+
+pub use crate::fault::ReadFault;
+pub use crate::reader::FrameReader;

@@ -1,0 +1,186 @@
+-- The waits that leave a site, collected process by process.
+use Rattle.std.proofs.Common.{inl, inr, zero, suc, ◌≡◌, ◌↔◌, ℕ, ◌+◌, ◌<◌, false, true, true≢false, List, [], ◌∷◌, ◌++◌, length, get_or, map, refl, sym, ap, ◌∙◌, subst, arith, add-one, Contains, Less, nat_cmp, slice_index, take, not, ◌&&◌, ◌==◌}
+use Rattle.std.specs.List.{AllByRecursion, list_any}
+use Rattle.std.specs.List.Sorted.{IsStrictlySortedBy, IsStrictlyIncreasing}
+use Rattle.std.specs.Ordering.{ordering_then}
+use Rattle.std.specs.Cmp.{nat_cmp_is, nat_cmp_total, tied_itself}
+use Rattle.std.proofs.Math.Seq.{take-suc}
+use Rattle.std.proofs.lemmas.Bool.{and_from, eqb-true, eq-eqb}
+use Rattle.std.proofs.lemmas.List.{map-append}
+use Rattle.std.proofs.lemmas.List.Elements.{Contains-append_left, Contains-append_right, Contains-append_cases}
+use Rattle.std.proofs.lemmas.List.Folds.{Any-from_list_any, list_any_at}
+use Rattle.cmh_frames.specs.declared.frame.Frame.{Frame}
+use Rattle.cmh_frames.specs.declared.frame.Frame.TheVariants.{Probe}
+use Rattle.cmh_model.specs.Relation.{Relation, pair_cmp, has, has_some}
+use Rattle.cmh_model.specs.Paths.{IsPath, WaitsAmong}
+use Rattle.cmh_waits.specs.Held.{Held, is_member, IsMember}
+use Rattle.cmh_rules.specs.Verdicts.{AreProbesFrom, Reaches, acts}
+
+-- the probe along a wait
+abbrev pub along : ℕ → ℕ × ℕ → Frame
+along origin edge = Probe (origin, edge.0, edge.1)
+
+-- the probes along the waits that leave the site from some processes
+pub record AreProbesOf (v : Held) (processes : List ℕ) (origin : ℕ) (frames : List Frame) : Type 0 where
+  pub edges : List (ℕ × ℕ)
+  pub ascending : IsStrictlySortedBy pair_cmp edges
+  pub all : (edge : ℕ × ℕ) → Contains edges edge ↔ (Contains processes edge.0 × (has v.waits edge.0 edge.1 ≡ true) × (is_member v edge.1 ≡ false))
+  pub are : frames ≡ map (along origin) edges
+
+no_item : {X : Type 0} (x : X) → Contains [] x → ⊥
+no_item x c = let h : c.0 < 0 = c.1 in omega arith
+
+pub none_yet : (v : Held) (origin : ℕ) → AreProbesOf v [] origin []
+unfolding IsStrictlySortedBy
+none_yet v origin = record {
+  edges = [];
+  ascending = tt;
+  all = λ edge. (λ c. absurd (no_item edge c), λ h. absurd (no_item edge.0 h.0));
+  are = refl;
+}
+
+-- ---- two lists in order, the first below the second
+
+all_append : {X : Type 0} (P : X → Type 0) (xs ys : List X) → AllByRecursion P xs → AllByRecursion P ys → AllByRecursion P (xs ++ ys)
+all_append P [] ys a b = b
+all_append P (x ∷ xs) ys a b = (a.0, all_append P xs ys a.1 b)
+
+sorted_append : (xs ys : List (ℕ × ℕ)) → IsStrictlySortedBy pair_cmp xs → IsStrictlySortedBy pair_cmp ys → ((x : ℕ × ℕ) → Contains xs x → AllByRecursion (λ y. pair_cmp x y ≡ Less) ys) → IsStrictlySortedBy pair_cmp (xs ++ ys)
+unfolding IsStrictlySortedBy
+sorted_append [] ys a b below = b
+sorted_append (x ∷ xs) ys a b below =
+    (all_append _ xs ys a.0 (below x (0, omega arith, refl)), sorted_append xs ys a.1 b (λ z c. below z (suc c.0, (let h : c.0 < length xs = c.1 in omega arith), c.2)))
+
+-- ---- pairs in order
+
+lesser_first : (x y : ℕ × ℕ) → x.0 < y.0 → pair_cmp x y ≡ Less
+lesser_first x y h = ap (λ r. ordering_then r (nat_cmp x.1 y.1)) (sym (nat_cmp_is x.0 y.0 Less h))
+
+lesser_second : (p a b : ℕ) → a < b → pair_cmp (p, a) (p, b) ≡ Less
+lesser_second p a b h = ap (λ r. ordering_then r (nat_cmp a b)) (tied_itself nat_cmp_total p) ∙ sym (nat_cmp_is a b Less h)
+
+increasing_tail : (x : ℕ) (xs : List ℕ) → IsStrictlyIncreasing (x ∷ xs) → IsStrictlyIncreasing xs
+increasing_tail x xs up = λ k h. let e : suc k + 1 ≡ suc (k + 1) = omega arith in subst (λ m. slice_index xs k < slice_index (x ∷ xs) m) e (up (suc k) (omega arith))
+
+head_below : (x : ℕ) (xs : List ℕ) → IsStrictlyIncreasing (x ∷ xs) → AllByRecursion (λ y. x < y) xs
+head_below x [] up = tt
+head_below x (y ∷ ys) up =
+    let first : x < y = up 0 (omega arith) in
+    (first, further ys (head_below y ys (increasing_tail x (y ∷ ys) up)) first)
+  where
+    further : (zs : List ℕ) → AllByRecursion (λ z. y < z) zs → x < y → AllByRecursion (λ z. x < z) zs
+    further [] all h = tt
+    further (z ∷ zs) all h = ((let above : y < z = all.0 in omega arith), further zs all.1 h)
+
+pairs_ascend : (p : ℕ) (xs : List ℕ) → IsStrictlyIncreasing xs → IsStrictlySortedBy pair_cmp (map (λ to. (p, to)) xs)
+unfolding IsStrictlySortedBy
+pairs_ascend p [] up = tt
+pairs_ascend p (x ∷ xs) up = (each xs (head_below x xs up), pairs_ascend p xs (increasing_tail x xs up))
+  where
+    each : (ys : List ℕ) → AllByRecursion (λ y. x < y) ys → AllByRecursion (λ y. pair_cmp (p, x) y ≡ Less) (map (λ to. (p, to)) ys)
+    each [] all = tt
+    each (y ∷ ys) all = (lesser_second p x y all.0, each ys all.1)
+
+all_above : (q p b : ℕ) (xs : List ℕ) → q < p → AllByRecursion (λ y. pair_cmp (q, b) y ≡ Less) (map (λ to. (p, to)) xs)
+all_above q p b [] h = tt
+all_above q p b (x ∷ xs) h = (lesser_first (q, b) (p, x) h, all_above q p b xs h)
+
+-- ---- members of a list of pairs
+
+in_pairs : (p : ℕ) (xs : List ℕ) (k : ℕ) → Contains xs k → Contains {X = ℕ × ℕ} (map (λ to. (p, to)) xs) (p, k)
+in_pairs p [] k c = absurd (no_item k c)
+in_pairs p (x ∷ xs) k (zero, h, e) = (0, omega arith, ap (λ y. (p, y)) e)
+in_pairs p (x ∷ xs) k (suc n, h, e) = let c = in_pairs p xs k (n, omega arith, e) in (suc c.0, (let h : c.0 < length (map (λ to. (p, to)) xs) = c.1 in omega arith), c.2)
+
+from_pairs : (p : ℕ) (xs : List ℕ) (e : ℕ × ℕ) → Contains (map (λ to. (p, to)) xs) e → (p ≡ e.0) × Contains xs e.1
+from_pairs p [] e c = absurd (no_item e c)
+from_pairs p (x ∷ xs) e (zero, h, i) = (ap (λ (y : ℕ × ℕ). y.0) i, (0, omega arith, ap (λ (y : ℕ × ℕ). y.1) i))
+from_pairs p (x ∷ xs) e (suc n, h, i) = let c = from_pairs p xs e (n, omega arith, i) in (c.0, (suc c.1.0, (let h : c.1.0 < length xs = c.1.1 in omega arith), c.1.2))
+
+-- ---- one more process
+
+-- the waits of one more process, whose number is greater
+pub more_probes : (v : Held) (processes : List ℕ) (p : ℕ) (targets : List ℕ) (origin : ℕ) (frames : List Frame) → ((q : ℕ) → Contains processes q → q < p) → IsStrictlyIncreasing targets → ((k : ℕ) → Contains targets k ↔ ((has v.waits p k ≡ true) × (is_member v k ≡ false))) → AreProbesOf v processes origin frames → AreProbesOf v (processes ++ p ∷ []) origin (frames ++ map (λ to. Probe (origin, p, to)) targets)
+more_probes v processes p targets origin frames below up each so_far =
+    let new = map (λ to. (p, to)) targets in
+    record {
+      edges = so_far.edges ++ new;
+      ascending = sorted_append so_far.edges new so_far.ascending (pairs_ascend p targets up) (λ x c. all_above x.0 p x.1 targets (below x.0 ((so_far.all x).0 c).0));
+      all = λ edge. (
+        λ c. elim (Contains-append_cases so_far.edges new edge c) [
+          | inl d ↦ let old = (so_far.all edge).0 d in (Contains-append_left processes (p ∷ []) edge.0 old.0, old.1, old.2)
+          | inr d ↦
+            let pair = from_pairs p targets edge d in
+            let wait = (each edge.1).0 pair.1 in
+            (subst (λ q. Contains (processes ++ p ∷ []) q) pair.0 (Contains-append_right processes (p ∷ []) p (0, omega arith, refl)), subst (λ q. has v.waits q edge.1 ≡ true) pair.0 wait.0, wait.1)
+        ],
+        λ h. elim (Contains-append_cases processes (p ∷ []) edge.0 h.0) [
+          | inl d ↦ Contains-append_left so_far.edges new edge ((so_far.all edge).1 (d, h.1, h.2))
+          | inr d ↦
+            let is : p ≡ edge.0 = only d in
+            Contains-append_right so_far.edges new edge (subst (λ q. Contains {X = ℕ × ℕ} new (q, edge.1)) is (in_pairs p targets edge.1 ((each edge.1).1 (subst (λ q. has v.waits q edge.1 ≡ true) (sym is) h.1, h.2))))
+        ]);
+      are = ap (λ fs. fs ++ map (λ to. Probe (origin, p, to)) targets) so_far.are ∙ sym (map-append (along origin) so_far.edges new ∙ ap (λ fs. map (along origin) so_far.edges ++ fs) (along_pairs targets));
+    }
+  where
+    only : {q : ℕ} → Contains (p ∷ []) q → p ≡ q
+    only (zero, h, e) = e
+    only (suc n, h, e) = absurd (omega arith)
+
+    along_pairs : (ks : List ℕ) → map (along origin) (map (λ to. (p, to)) ks) ≡ map (λ to. Probe (origin, p, to)) ks
+    along_pairs [] = refl
+    along_pairs (k ∷ ks) = ap (λ fs. Probe (origin, p, k) ∷ fs) (along_pairs ks)
+
+-- of those that a process reaches, they are those of the rule
+pub probes_are : (v : Held) (reached : List ℕ) (origin from : ℕ) (frames : List Frame) → ((q : ℕ) → Contains reached q ↔ Reaches v from q) → AreProbesOf v reached origin frames → AreProbesFrom v origin from frames
+probes_are v reached origin from frames all p = record {
+  edges = p.edges;
+  ascending = p.ascending;
+  all = λ edge.
+    (λ c. let e = (p.all edge).0 c in ((all edge.0).0 e.0, e.1, e.2),
+     λ e. (p.all edge).1 ((all edge.0).1 e.0, e.1, e.2));
+  are = p.are;
+}
+
+-- ---- the processes in turn
+
+path_end : (v : Held) (p : ℕ) (members : List ℕ) (q : ℕ) → IsMember v p → IsPath (WaitsAmong (λ r. IsMember v r) v.waits) p members q → IsMember v q
+path_end v p [] q here h = subst (λ r. IsMember v r) h here
+path_end v p (x ∷ xs) q here h = path_end v x xs q h.0.1 h.1
+
+-- a process that is reached is a member, so it is none of another site
+pub reached_apart : (v : Held) (from q to : ℕ) → Reaches v from q → is_member v to ≡ false → q ≡ to → ⊥
+reached_apart v from q to r away e = true≢false (sym (subst (λ p. IsMember v p) e (path_end v from r.1.0 q r.0 r.1.1)) ∙ away)
+
+-- those before a place are below the one there
+pub below_place : (xs : List ℕ) (i p : ℕ) → IsStrictlyIncreasing xs → i < length xs → p ≡ get_or xs i p → (q : ℕ) → Contains (take i xs) q → q < p
+below_place [] i p up h is q c = absurd (omega arith)
+below_place (x ∷ xs) zero p up h is q c = absurd (no_item q c)
+below_place (x ∷ xs) (suc i) p up h is q (zero, l, e) = subst (λ y. y < p) e (all_at xs i (head_below x xs up) (omega arith) is)
+  where
+    all_at : (ys : List ℕ) (k : ℕ) → AllByRecursion (λ y. x < y) ys → k < length ys → p ≡ get_or ys k p → x < p
+    all_at [] k all h is = absurd (omega arith)
+    all_at (y ∷ ys) zero all h is = subst (λ z. x < z) (sym is) all.0
+    all_at (y ∷ ys) (suc k) all h is = all_at ys k all.1 (omega arith) is
+below_place (x ∷ xs) (suc i) p up h is q (suc k, l, e) = below_place xs i p (increasing_tail x xs up) (omega arith) is q (k, omega arith, e)
+
+pub take_next : (xs : List ℕ) (i p : ℕ) → i < length xs → p ≡ get_or xs i p → take (i + 1) xs ≡ take i xs ++ p ∷ []
+take_next xs i p h is = ap (λ k. take k xs) (add-one i) ∙ take-suc xs i p h ∙ ap (λ y. take i xs ++ y ∷ []) (sym is)
+
+pub at_place : (xs : List ℕ) (i p : ℕ) → i < length xs → p ≡ get_or xs i p → Contains xs p
+at_place xs i p h is = (i, h, sym is)
+
+-- a probe to a blocked process acts where that is not yet known to depend on the origin, and still owes the sender
+pub acts_where : (v : Held) (dependents : Relation) (origin from to : ℕ) → has_some v.waits to ≡ true → has dependents to origin ≡ false → has v.owed to from ≡ true → acts v dependents origin from to ≡ true
+acts_where v dependents origin from to blocked new owes =
+    and_from (has_some v.waits to) (not (has dependents to origin) && has v.owed to from) blocked (and_from (not (has dependents to origin)) (has v.owed to from) (ap not new) owes)
+
+-- ---- a number that a test finds in a list
+
+pub contains_found : (xs : List ℕ) (q : ℕ) → list_any (λ y. y == q) xs ≡ true → Contains xs q
+contains_found xs q t =
+    let one = Any-from_list_any (λ y. y == q) xs t in
+    subst (λ v. Contains xs v) (eqb-true one.1 q one.4) (one.0, one.2, one.3)
+
+pub found_contained : (xs : List ℕ) (q : ℕ) → Contains xs q → list_any (λ y. y == q) xs ≡ true
+found_contained xs q c = list_any_at (λ y. y == q) xs c.0 q c.1 (ap (λ y. y == q) c.2 ∙ eq-eqb q q refl)

@@ -1,0 +1,34 @@
+//! The start of a probe computation.
+
+ghost use Rattle.std.specs.Prelude.{IfOk};
+ghost use Rattle.cmh_waits.specs.Held.{IsMember};
+ghost use Rattle.cmh_rules.specs.Verdicts.{IsStart};
+
+use std::alloc::{AllocError, Global};
+
+use cmh_dependents::on_local_cycle;
+use cmh_frames::{Frame, ProcId};
+use cmh_waits::LocalWaits;
+
+use crate::edges::probes_from;
+
+/// What the start of a probe computation for a process comes to.
+#[derive(Debug, Drop)]
+pub enum StartVerdict {
+    /// The process depends on itself by waits inside the site.
+    Declared,
+    /// Probes go out, ascending by the process that waits and then by the one it waits for. There may be none.
+    Send(Vec<Frame>),
+}
+
+/// Starts a probe computation for a process of the site (Chandy, Misra and Haas 1983). The only error is want of memory.
+pub fn start(alloc: Global, waits: &LocalWaits, process: ProcId) -> Result<StartVerdict, AllocError>
+    requires { IsMember waits.now process }
+    ensures { IfOk result (IsStart waits.now process) }
+{
+    if on_local_cycle(alloc, waits, process)? {
+        return Ok(StartVerdict::Declared);
+    }
+    let frames = probes_from(alloc, waits, process, process)?;
+    Ok(StartVerdict::Send(frames))
+}

@@ -1,0 +1,4 @@
+pub mod Sets
+pub mod Ordered
+pub mod Seconds
+pub mod Targets
