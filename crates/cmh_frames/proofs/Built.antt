@@ -1,13 +1,13 @@
 -- Rows that are built from given rows without a fault.
 use Rattle.std.proofs.Common.{inl, inr, ◌⊎◌, ◌≡◌, ◌≢◌, ℕ, ◌<◌, ◌≤◌, Bool, true, false, ◌||◌, List, [], ◌∷◌, length, map, get_or, Option, None, Some, unwrap_or, refl, sym, ap, ◌∙◌, subst, arith, ◌==◌}
-use Rattle.std.specs.Prelude.{nat_lt, if◌then◌else◌}
+use Rattle.std.specs.Prelude.{nat_le, nat_lt, if◌then◌else◌}
 use Rattle.std.specs.Option.{is_some}
 use Rattle.std.specs.Ordering.{nat_cmp}
 use Rattle.std.specs.declared.cmp.Ordering.TheVariants.{Less}
 use Rattle.std.specs.Cmp.{nat_cmp_total}
 use Rattle.std.specs.List.{list_any, AllByRecursion, All, IsDistinct}
 use Rattle.std.specs.List.Sorted.{IsSorted, IsPermutation, IsStrictlyIncreasing, IsStrictlySortedBy}
-use Rattle.std.proofs.lemmas.Bool.{cases_eq, cases_Bool, eqb-true, eq-eqb, ne_eqb, or_cases, or_parts, or_left, or_right, ltb-true, ltb-false}
+use Rattle.std.proofs.lemmas.Bool.{cases_eq, cases_Bool, eqb-true, eq-eqb, ne_eqb, or_cases, or_parts, or_left, or_right, and_parts, not-false, leb-true, ltb-true, ltb-false}
 use Rattle.std.proofs.lemmas.Cmp.{ranked}
 use Rattle.std.proofs.lemmas.List.{length-map, get_or_default, get_or-map}
 use Rattle.std.proofs.lemmas.List.Sorted.{sorted_far, ranks_by, list_any-IsPermutation, length_permutation}
@@ -19,8 +19,9 @@ use Rattle.cmh_frames.specs.declared.edition.Edition.TheVariants.{One, Two}
 use Rattle.cmh_frames.specs.declared.rows.TopologyFault.{TopologyFault}
 use Rattle.cmh_frames.specs.declared.rows.TopologyFault.TheVariants.{Limit, RepeatedSite, RepeatedProcess, BadNumber}
 use Rattle.cmh_frames.specs.Edition.{site_limit, member_limit}
+use Rattle.cmh_frames.specs.Number.{IsNumber, is_number}
 use Rattle.cmh_frames.specs.Rows.{Row, is_bad, is_over_limit, has_site, repeats_site, repeats_process, has_bad_number, fault_of}
-use Rattle.cmh_frames.specs.Topology.{Topology, home_in, members_in, AreApart, all_members, IsTopologyOf, AreTidy, AreHomes, site_in, AreInOrder, HasMembersOf}
+use Rattle.cmh_frames.specs.Topology.{Topology, home_in, members_in, AreApart, all_members, IsTopologyOf, HasNumbers, AreTidy, AreHomes, site_in, AreInOrder, HasMembersOf}
 use Rattle.cmh_frames.proofs.Apart.{none_some, some_same, not_both, eqb_comm, home_first, home_later, members_first, members_later, home_has_row, apart, distinct_members, distinct_sites, any_site, named_at, home_of_member}
 use Rattle.cmh_frames.proofs.Homes.{at_home}
 
@@ -148,6 +149,35 @@ members_few limit given [] h all = tt
 members_few limit given (row ∷ rows) h all =
     (subst (λ n. n ≤ limit) (sym (length_permutation _ _ all.0.same)) (few_members limit given row.0 h), members_few limit given rows h all.1)
 
+-- ---- numbers
+
+-- what is not bad is a number
+number_from : (n : ℕ) → is_bad n ≡ false → IsNumber n
+number_from n h = let parts = and_parts (nat_le 1 n) (nat_le n 9999) (not-false (is_number n) h) in record { least = leb-true 1 n parts.0; most = leb-true n 9999 parts.1 }
+
+-- and so is each of a list
+numbers_from : (ns : List ℕ) → list_any is_bad ns ≡ false → AllByRecursion IsNumber ns
+numbers_from [] h = tt
+numbers_from (n ∷ ns) h = let parts = or_parts (is_bad n) (list_any is_bad ns) h in (number_from n parts.0, numbers_from ns parts.1)
+
+-- the sites have numbers
+good_sites : (rows : List Row) → has_bad_number rows ≡ false → list_any is_bad (map (λ (row : Row). row.0) rows) ≡ false
+good_sites [] h = refl
+good_sites (row ∷ rows) h =
+    let parts = or_parts (is_bad row.0 || list_any is_bad row.1) (has_bad_number rows) h in
+    ap (λ b. b || list_any is_bad (map (λ (row : Row). row.0) rows)) (or_parts (is_bad row.0) (list_any is_bad row.1) parts.0).0 ∙ good_sites rows parts.1
+
+-- and so have rows of these sites with the given processes
+have_numbers : (given rows : List Row) → has_bad_number given ≡ false → list_any is_bad (map (λ (row : Row). row.0) rows) ≡ false → AllByRecursion (HasMembersOf given) rows → AllByRecursion HasNumbers rows
+have_numbers given [] good sites all = tt
+have_numbers given (row ∷ rows) good sites all =
+    let parts = or_parts (is_bad row.0) _ sites in (
+      (number_from row.0 parts.0, numbers_from row.1 (sym (list_any-IsPermutation is_bad _ _ all.0.same) ∙ good_members given row.0 good)),
+      have_numbers given rows good parts.1 all.1,
+    )
+
+-- ---- the processes of a site
+
 pub members_at_rise : (rows : List Row) (s : ℕ) → AllByRecursion (λ (row : Row). IsStrictlyIncreasing row.1) rows → IsStrictlyIncreasing (members_in rows s)
 members_at_rise [] s all = λ k within. absurd (omega arith)
 members_at_rise (row ∷ rows) s all = elim (cases_eq row.0 s) [
@@ -192,6 +222,7 @@ module _ (edition : Edition) (given rows : List Row) (sites : List ℕ) (free : 
         members_ascend = members_rise given rows none.processes all;
         few_members = members_few (member_limit edition) given rows members.0 all;
         few_sites = subst (λ n. n ≤ site_limit edition) (sym many) (ltb-false (site_limit edition) (length given) limits.0);
+        numbers = have_numbers given rows none.numbers (ap (list_any is_bad) sites_are ∙ sym (list_any-IsPermutation is_bad _ _ ordered.same) ∙ good_sites given none.numbers) all;
       }
 
   pub is_topology_of : (t : Topology) → t.edition ≡ edition → t.rows ≡ rows → IsTopologyOf edition given t

@@ -5,6 +5,7 @@ use Rattle.std.specs.List.{list_any, AllByRecursion}
 use Rattle.std.specs.List.Sorted.{IsNonDecreasing, IsPermutation, IsStrictlyIncreasing}
 use Rattle.cmh_frames.specs.declared.edition.Edition.{Edition}
 use Rattle.cmh_frames.specs.Edition.{site_limit, member_limit}
+use Rattle.cmh_frames.specs.Number.{IsNumber}
 use Rattle.cmh_frames.specs.Rows.{Row, fault_of, has_site}
 
 -- the sites in ascending order, each with its processes in ascending order
@@ -74,6 +75,21 @@ pub record IsTopologyOf (edition : Edition) (rows : List Row) (t : Topology) : T
 
 -- ---- what every topology keeps
 
+-- a topology as there is one: what it holds are numbers, ascending and within the limits of its edition, and the
+-- processes of a site are those that have it for their home
+pub record IsWellFormed (t : Topology) : Type 0 where
+  pub numbers : (p s : ℕ) → At t p s → IsNumber p × IsNumber s
+  pub sites : (s : ℕ) → is_site t s ≡ true → IsNumber s
+  pub members : (p s : ℕ) → (list_any (λ q. q == p) (members_of t s) ≡ true) ↔ At t p s
+  pub sites_ascend : IsStrictlyIncreasing (sites_of t)
+  pub members_ascend : (s : ℕ) → IsStrictlyIncreasing (members_of t s)
+  pub few_sites : length (sites_of t) ≤ site_limit t.edition
+  pub few_members : (s : ℕ) → length (members_of t s) ≤ member_limit t.edition
+
+-- the site and the processes of a row have numbers
+abbrev pub HasNumbers : Row → Type 0
+HasNumbers row = IsNumber row.0 × AllByRecursion IsNumber row.1
+
 -- rows within the limits of the edition, ascending, and with nothing twice
 pub record AreTidy (edition : Edition) (rows : List Row) : Type 0 where
   pub apart : AreApart rows
@@ -81,6 +97,7 @@ pub record AreTidy (edition : Edition) (rows : List Row) : Type 0 where
   pub members_ascend : AllByRecursion (λ (row : Row). IsStrictlyIncreasing row.1) rows
   pub few_members : AllByRecursion (λ (row : Row). length row.1 ≤ member_limit edition) rows
   pub few_sites : length rows ≤ site_limit edition
+  pub numbers : AllByRecursion HasNumbers rows
 
 -- the site in whose row a process stands, where there is one
 abbrev pub site_in : List Row → ℕ → ℕ

@@ -23,7 +23,7 @@ reach_ends t s waits p [] q at path = subst (λ x. At t x s) path at
 reach_ends t s waits p (x ∷ xs) q at path = reach_ends t s waits x xs q path.0.1 path.1
 
 -- each edge of the probes is one from the place where the computation is
-each_edge : (t : Topology) (s : ℕ) (waits : Relation) (i p : ℕ) (sent : List (ℕ × Frame)) (a : AreProbes t s waits i p sent) → AllByRecursion (IsEdgeFrom t s waits p) a.edges
+pub each_edge : (t : Topology) (s : ℕ) (waits : Relation) (i p : ℕ) (sent : List (ℕ × Frame)) (a : AreProbes t s waits i p sent) → AllByRecursion (IsEdgeFrom t s waits p) a.edges
 each_edge t s waits i p sent a = recursion_from_All (IsEdgeFrom t s waits p) a.edges (λ k d l. (a.all (get_or a.edges k d)).0 (Contains-get_or a.edges k d l))
 
 -- the first of two equal lists of frames that begin with probes

@@ -24,7 +24,7 @@ any_known P k (x ∷ xs) each h = elim (or_cases (x == k) (list_any (λ q. q == 
 ]
 
 -- a known process has a home
-some_home : (o : Option ℕ) → IsSome o → (b : ℕ) × (o ≡ Some b)
+pub some_home : (o : Option ℕ) → IsSome o → (b : ℕ) × (o ≡ Some b)
 some_home None h = absurd (true≢false (sym h))
 some_home (Some b) h = (b, refl)
 

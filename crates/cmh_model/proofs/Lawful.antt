@@ -6,8 +6,9 @@ use Rattle.cmh_frames.specs.declared.frame.Frame.TheVariants.{Request, Reply as 
 use Rattle.cmh_model.specs.declared.event.Event.{Event}
 use Rattle.cmh_model.specs.declared.event.Event.TheVariants.{Ask, Reply, Start, Got}
 use Rattle.cmh_model.specs.declared.journal.Entry.{Entry}
+use Rattle.cmh_frames.specs.Edition.{target_limit}
 use Rattle.cmh_frames.specs.Topology.{Topology, At, is_at}
-use Rattle.cmh_model.specs.Relation.{Relation, has, has_some, with_pair, without_pair, with_each}
+use Rattle.cmh_model.specs.Relation.{Relation, IsNarrow, has, has_some, with_pair, without_pair, with_each}
 use Rattle.cmh_model.specs.State.{State, empty_state, is_blocked}
 use Rattle.cmh_model.specs.Rules.{Accepts, after, owed_after_ask}
 use Rattle.cmh_model.specs.Journals.{LawfulFrom, state_after}
@@ -18,6 +19,7 @@ use Rattle.cmh_model.proofs.Places.{at_from-is_at, is_at-yes}
 use Rattle.cmh_model.proofs.Moves.{both_or_not, both_yes, reply_waits, reply_owed, probe_waits, probe_owed, waits_move, owed_move}
 use Rattle.cmh_model.proofs.Effects.{asks_means, grants_means, none_from_own, dependents_after}
 use Rattle.cmh_model.proofs.Bits.{bit_zero, bit_one}
+use Rattle.cmh_model.proofs.Narrow.{narrow_first, narrow_after}
 
 -- what a smaller relation has the greater one had
 without_old : (r : Relation) (a b x y : ℕ) → has (without_pair r a b) x y ≡ true → has r x y ≡ true
@@ -79,6 +81,10 @@ and_yes : (x y : Bool) → y ≡ true → (x && y) ≡ x
 and_yes true y h = h
 and_yes false y h = refl
 
+-- after an accepted event no process waits for more than an ask may name, where none did
+pub stays_narrow : (t : Topology) (s : ℕ) (v : State) (ev : Event) (d : Option ℕ) → Accepts t s v ev → IsNarrow (target_limit t.edition) v.waits → IsNarrow (target_limit t.edition) (after t s v ev d).waits
+stays_narrow t s v ev d acc old = narrow_after t s v ev (after t s v ev d).waits acc (waits_means t s v ev d) old
+
 -- an accepted event keeps it
 facts_after : (t : Topology) (s : ℕ) (v : State) (ev : Event) (d : Option ℕ) → Accepts t s v ev → JournalFacts t s v → JournalFacts t s (after t s v ev d)
 facts_after t s v ev d acc old = record {
@@ -103,6 +109,7 @@ facts_after t s v ev d acc old = record {
       let here = ap bit (and_yes (grants k j ev) (is_at t k s) (is_at-yes t k s at_k)) in
       let there = ap bit (and_yes (asks_for j k ev) (is_at t j s) (is_at-yes t j s at_j)) in
       same_bit _ _ (omega arith);
+  narrow = stays_narrow t s v ev d acc old.narrow;
 }
 
 -- it holds of the empty state
@@ -112,6 +119,7 @@ facts_first t s = record {
   owed_home = λ k j h. absurd (true≢false (sym h ∙ has-empty k j));
   dependents_blocked = λ k i h. absurd (true≢false (sym h ∙ has-empty k i));
   local = λ j k at_j at_k. has-empty j k ∙ sym (has-empty k j);
+  narrow = narrow_first (target_limit t.edition);
 }
 
 -- a lawful journal keeps it

@@ -9,7 +9,10 @@ pub mod Effects
 pub mod Journals
 pub mod Marks
 pub mod Outcomes
+pub mod Narrow
 pub mod Lawful
+pub mod Few
+pub mod Numbers
 pub mod LongerRuns
 pub mod Listed
 mod Scripts

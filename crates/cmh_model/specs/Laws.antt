@@ -3,11 +3,12 @@ use Rattle.std.specs.Prelude.{◌≡◌, ◌≢◌, ℕ, ◌+◌, Bool, true, fa
 use Rattle.std.specs.List.{list_any, AllByRecursion}
 use Rattle.cmh_frames.specs.declared.frame.Frame.{Frame}
 use Rattle.cmh_frames.specs.declared.frame.Frame.TheVariants.{Request, Reply as Reply_frame, Probe}
+use Rattle.cmh_frames.specs.Edition.{target_limit}
 use Rattle.cmh_frames.specs.Topology.{Topology, At}
 use Rattle.cmh_model.specs.declared.event.Event.{Event}
 use Rattle.cmh_model.specs.declared.journal.Entry.{Entry}
 use Rattle.cmh_model.specs.declared.journal.WorldEvent.{WorldEvent}
-use Rattle.cmh_model.specs.Relation.{has}
+use Rattle.cmh_model.specs.Relation.{has, IsNarrow}
 use Rattle.cmh_model.specs.State.{State, is_blocked}
 use Rattle.cmh_model.specs.Rules.{Sends}
 use Rattle.cmh_model.specs.Journals.{IsLawful, value}
@@ -89,6 +90,8 @@ pub record JournalFacts (t : Topology) (s : ℕ) (v : State) : Type 0 where
   pub dependents_blocked : (k i : ℕ) → has v.dependents k i ≡ true → At t k s × (is_blocked v k ≡ true)
   -- between two processes of the site a wait is what is owed
   pub local : (j k : ℕ) → At t j s → At t k s → has v.waits j k ≡ has v.owed k j
+  -- no process waits for more than an ask may name
+  pub narrow : IsNarrow (target_limit t.edition) v.waits
 
 abbrev pub LawfulStates : Topology → Type 0
 LawfulStates t = (s : ℕ) (journal : List Entry) → IsLawful t s journal → JournalFacts t s (value t s journal)

@@ -1,5 +1,5 @@
 -- Finite relations between numbers, as sets of pairs. Two with the same pairs are equal.
-use Rattle.std.specs.Prelude.{ℕ, Bool, ◌&&◌, List, [], ◌∷◌, ◌==◌}
+use Rattle.std.specs.Prelude.{◌≡◌, ℕ, ◌≤◌, Bool, true, ◌&&◌, List, [], ◌∷◌, length, ◌==◌}
 use Rattle.std.specs.declared.cmp.Ordering.{Ordering}
 use Rattle.std.specs.Ordering.{nat_cmp, on, then_cmp}
 use Rattle.std.specs.FinSet as set
@@ -35,6 +35,16 @@ with_each r a (b ∷ bs) = with_pair (with_each r a bs) a b
 -- whether a is related to anything
 abbrev pub has_some : Relation → ℕ → Bool
 has_some r a = list_any (λ (p : ℕ × ℕ). p.0 == a) (set.items r)
+
+-- some list of no more than so many numbers holds all to which a is related
+pub record RelatesToFew (limit : ℕ) (r : Relation) (a : ℕ) : Type 0 where
+  pub others : List ℕ
+  pub few : length others ≤ limit
+  pub all : (b : ℕ) → has r a b ≡ true → list_any (λ q. q == b) others ≡ true
+
+-- nothing is related to more than so many
+abbrev pub IsNarrow : ℕ → Relation → Type 0
+IsNarrow limit r = (a : ℕ) → RelatesToFew limit r a
 
 -- the pairs whose first number passes the test
 abbrev pub only_firsts : Relation → (ℕ → Bool) → Relation
