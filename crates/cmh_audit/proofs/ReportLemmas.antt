@@ -1,0 +1,149 @@
+-- From the lists of a report to what it says of every run.
+use Rattle.std.proofs.Common.{◌≡◌, ◌≢◌, ℕ, zero, suc, ◌+◌, ◌<◌, ◌≤◌, ◌↔◌, true, false, List, [], ◌∷◌, ◌++◌, length, take, drop, get_or, Option, None, Some, ⊎_elim, sym, ap, subst, refl, ◌∙◌, if◌then◌else◌, arith, length-append}
+use Rattle.std.specs.Prelude.{Contains, MatchOption}
+use Rattle.std.proofs.lemmas.Bool.{cases_eq, eq-eqb, ne_eqb}
+use Rattle.std.proofs.lemmas.List.{take_more}
+use Rattle.std.proofs.Math.Seq.{drop-append_seam}
+use Rattle.cmh_frames.specs.Topology.{Topology, sites_of}
+use Rattle.cmh_model.specs.declared.journal.WorldEvent.{WorldEvent}
+use Rattle.cmh_model.specs.Journals.{sendings_of, receipts_of}
+use Rattle.cmh_model.specs.Runs.{IsRun, ComesFrom, under_way, receipts}
+use Rattle.cmh_model.specs.Waits.{Waits, IsCycle, IsDeclared}
+use Rattle.cmh_model.proofs.PathLemmas.{path_map}
+use Rattle.cmh_world.proofs.RunsSoFar.{dark_path}
+use Rattle.cmh_journal.specs.Journal.{Journal}
+use Rattle.cmh_audit.specs.Declarations.{declares}
+use Rattle.cmh_audit.specs.Journals.{journal_of, OneEach}
+use Rattle.cmh_audit.specs.Links.{Links, waiting}
+use Rattle.cmh_audit.specs.Sums.{in_journals}
+use Rattle.cmh_audit.specs.Transit.{sum_over, in_transit}
+use Rattle.cmh_audit.specs.Turns.{turned, turns}
+use Rattle.cmh_audit.specs.Cycles.{WaitsIn, IsCycleIn}
+use Rattle.cmh_audit.specs.Reports.{beside, IsFirstCycle, IsFirstCycleIn, AreFirstCycles, AreOnCycles}
+use Rattle.cmh_audit.proofs.CountingLemmas.{Fresh, sum_same}
+use Rattle.cmh_audit.proofs.DeclarationLemmas.{declared_at_end}
+use Rattle.cmh_audit.proofs.TurnLemmas.{waits_at_end}
+
+fresh_push : (x : ℕ) (ys : List ℕ) (y : ℕ) → Fresh x ys → x ≢ y → Fresh x (ys ++ y ∷ [])
+fresh_push x [] y fresh ne = (ne, tt)
+fresh_push x (z ∷ ys) y fresh ne = (fresh.0, fresh_push x ys y fresh.1 ne)
+
+-- one more of the list isn't x
+pub fresh_more : (x : ℕ) (ys : List ℕ) (i y : ℕ) → i < length ys → y ≡ get_or ys i y → Fresh x (take i ys) → x ≢ y → Fresh x (take (i + 1) ys)
+fresh_more x ys i y l here fresh ne = subst (Fresh x) (sym (take_more ys i y l ∙ ap (λ z. take i ys ++ z ∷ []) (sym here))) (fresh_push x (take i ys) y fresh ne)
+
+pub beside_none : (ds : List ℕ) (cs : List (List ℕ)) (i : ℕ) → Fresh i ds → beside ds cs i ≡ None
+beside_none [] cs i fresh = refl
+beside_none (d ∷ ds) [] i fresh = refl
+beside_none (d ∷ ds) (c ∷ cs) i fresh = ap (λ t. if t then Some c else beside ds cs i) (ne_eqb d i (λ e. fresh.0 (sym e))) ∙ beside_none ds cs i fresh.1
+
+pub beside_here : (ds : List ℕ) (cs : List (List ℕ)) (i k d : ℕ) (c : List ℕ) → length cs ≡ length ds → k < length ds → d ≡ get_or ds k d → d ≡ i → c ≡ get_or cs k c → Fresh i (take k ds) → beside ds cs i ≡ Some c
+beside_here [] cs i k d c long l here is there fresh = absurd (omega arith)
+beside_here (x ∷ ds) [] i k d c long l here is there fresh = absurd (omega arith)
+beside_here (x ∷ ds) (y ∷ cs) i zero d c long l here is there fresh = ap (λ t. if t then Some y else beside ds cs i) (eq-eqb x i (sym here ∙ is)) ∙ ap (λ z. Some z) (sym there)
+beside_here (x ∷ ds) (y ∷ cs) i (suc k) d c long l here is there fresh =
+    ap (λ t. if t then Some y else beside ds cs i) (ne_eqb x i (λ e. fresh.0 (sym e))) ∙ beside_here ds cs i k d c (omega arith) (omega arith) here is there fresh.1
+
+-- ---- the cycles
+
+firsts_push : (waits : List (ℕ × ℕ)) (is : List ℕ) (cs : List (List ℕ)) (i : ℕ) (c : List ℕ) → AreFirstCycles waits is cs → IsFirstCycleIn waits i c → AreFirstCycles waits (is ++ i ∷ []) (cs ++ c ∷ [])
+firsts_push waits [] [] i c are first = (first, tt)
+firsts_push waits [] (d ∷ cs) i c are first = absurd are
+firsts_push waits (j ∷ is) [] i c are first = absurd are
+firsts_push waits (j ∷ is) (d ∷ cs) i c are first = (are.0, firsts_push waits is cs i c are.1 first)
+
+pub firsts_more : (waits : List (ℕ × ℕ)) (is : List ℕ) (cs : List (List ℕ)) (k i : ℕ) (c : List ℕ) → k < length is → i ≡ get_or is k i → AreFirstCycles waits (take k is) cs → IsFirstCycleIn waits i c → AreFirstCycles waits (take (k + 1) is) (cs ++ c ∷ [])
+firsts_more waits is cs k i c l here are first =
+    subst (λ js. AreFirstCycles waits js (cs ++ c ∷ [])) (sym (take_more is k i l ∙ ap (λ z. take k is ++ z ∷ []) (sym here))) (firsts_push waits (take k is) cs i c are first)
+
+pub firsts-length : (waits : List (ℕ × ℕ)) (is : List ℕ) (cs : List (List ℕ)) → AreFirstCycles waits is cs → length cs ≡ length is
+firsts-length waits [] [] are = refl
+firsts-length waits [] (c ∷ cs) are = absurd are
+firsts-length waits (i ∷ is) [] are = absurd are
+firsts-length waits (i ∷ is) (c ∷ cs) are = ap suc (firsts-length waits is cs are.1)
+
+not_first : (i d : ℕ) (is : List ℕ) → d ≢ i → Contains (d ∷ is) i → Contains is i
+not_first i d is ne c = go c.0 c.1 c.2
+  where
+    go : (k : ℕ) → k < length (d ∷ is) → get_or (d ∷ is) k i ≡ i → Contains is i
+    go zero l e = absurd (ne e)
+    go (suc k) l e = (k, omega arith, e)
+
+later : (i d : ℕ) (is : List ℕ) → Contains is i → Contains (d ∷ is) i
+later i d is c = (suc c.0, let l = c.1 in omega (arith, l), c.2)
+
+-- what is beside a process is its first cycle, and a process without one isn't in the list
+pub beside_is : (waits : List (ℕ × ℕ)) (is : List ℕ) (cs : List (List ℕ)) (i : ℕ) → AreFirstCycles waits is cs → MatchOption (beside is cs i) (Contains is i → ⊥) (λ c. Contains is i × IsFirstCycleIn waits i c)
+beside_is waits [] cs i are = λ c. let l = c.1 in absurd (omega (arith, l))
+beside_is waits (d ∷ is) [] i are = absurd are
+beside_is waits (d ∷ is) (m ∷ cs) i are =
+    let M : Option (List ℕ) → Type 0 = λ o. MatchOption o (Contains (d ∷ is) i → ⊥) (λ c. Contains (d ∷ is) i × IsFirstCycleIn waits i c) in
+    ⊎_elim
+    (λ (e : d ≡ i). subst M (sym (ap (λ t. if t then Some m else beside is cs i) (eq-eqb d i e))) ((0, omega arith, e), subst (λ x. IsFirstCycleIn waits x m) e are.0))
+    (λ (ne : d ≢ i). subst M (sym (ap (λ t. if t then Some m else beside is cs i) (ne_eqb d i ne))) (wider (beside is cs i) ne (beside_is waits is cs i are.1)))
+    (cases_eq d i)
+  where
+    wider : (o : Option (List ℕ)) → d ≢ i → MatchOption o (Contains is i → ⊥) (λ c. Contains is i × IsFirstCycleIn waits i c) → MatchOption o (Contains (d ∷ is) i → ⊥) (λ c. Contains (d ∷ is) i × IsFirstCycleIn waits i c)
+    wider None ne h = λ c. h (not_first i d is ne c)
+    wider (Some c) ne h = (later i d is h.0, h.1)
+
+-- ---- the waits of the list are those at the end of the run
+
+module _ (waits : List (ℕ × ℕ)) (run : List WorldEvent) (same : (j k : ℕ) → WaitsIn waits j k ↔ Waits run j k) where
+  pub cycle_to : (i : ℕ) (members : List ℕ) → IsCycleIn waits i members → IsCycle run i members
+  cycle_to i [] h = h
+  cycle_to i (x ∷ []) h = h
+  cycle_to i (x ∷ y ∷ others) h = (h.0, path_map (WaitsIn waits) (Waits run) (λ p q w. (same p q).0 w) x (y ∷ others) i h.1)
+
+  pub cycle_from : (i : ℕ) (members : List ℕ) → IsCycle run i members → IsCycleIn waits i members
+  cycle_from i [] h = h
+  cycle_from i (x ∷ []) h = h
+  cycle_from i (x ∷ y ∷ others) h = (h.0, path_map (Waits run) (WaitsIn waits) (λ p q w. (same p q).1 w) x (y ∷ others) i h.1)
+
+  pub first_to : (i : ℕ) (members : List ℕ) → IsFirstCycleIn waits i members → IsFirstCycle run i members
+  first_to i members h = record {
+    cycle = cycle_to i members h.cycle;
+    first = λ other c. h.first other (cycle_from i other c);
+  }
+
+  pub cycles_to : (o : Option (List ℕ)) (i : ℕ) (In : Type 0) → In ↔ IsDeclared run i → MatchOption o (In → ⊥) (λ c. In × IsFirstCycleIn waits i c) → MatchOption o (IsDeclared run i → ⊥) (λ c. IsDeclared run i × IsFirstCycle run i c)
+  cycles_to None i In is h = λ d. h (is.1 d)
+  cycles_to (Some c) i In is h = (is.0 h.0, first_to i c h.1)
+
+-- ---- what the parts of a report come to, of every run from which the journals come
+
+module _ (t : Topology) (js : List Journal) (run : List WorldEvent) (one : OneEach js) (is_run : IsRun t run) (come : ComesFrom (journal_of js) run) where
+  pub waits_same : (waits : List (ℕ × ℕ)) → ((j k : ℕ) → Contains waits (j, k) ↔ (turned (in_journals (turns j k) js) false ≡ true)) → (j k : ℕ) → WaitsIn waits j k ↔ Waits run j k
+  waits_same waits are j k =
+      let end = waits_at_end t js run one is_run come j k in
+      (λ c. sym end ∙ (are j k).0 c, λ w. (are j k).1 (end ∙ w))
+
+  pub declared_same : (declared : List ℕ) → ((i : ℕ) → Contains declared i ↔ (0 < in_journals (declares i) js)) → (i : ℕ) → Contains declared i ↔ IsDeclared run i
+  declared_same declared are i =
+      let end = declared_at_end js run one come i in
+      (λ c. end.0 ((are i).0 c), λ d. (are i).1 (end.1 d))
+
+  -- by the dark path law each declared process is on a cycle
+  pub on_cycles : (waits : List (ℕ × ℕ)) (declared : List ℕ) → ((j k : ℕ) → WaitsIn waits j k ↔ Waits run j k) → ((i : ℕ) → Contains declared i ↔ IsDeclared run i) → AreOnCycles waits declared
+  on_cycles waits declared same are i c =
+      let found = (dark_path t run is_run).declared i ((are i).0 c) in
+      (found.0, cycle_from waits run same i found.0 found.1)
+
+  -- what is left on the links is what is under way at the end
+  pub under_way_left : (links : Links) → ((a b : ℕ) → receipts_of a (journal_of js b) ++ waiting links a b ≡ sendings_of b (journal_of js a)) → (a b : ℕ) → length (waiting links a b) ≡ length (under_way a b run)
+  under_way_left links left a b =
+      ap length (sym (drop-append_seam (receipts_of a (journal_of js b)) (waiting links a b)))
+      ∙ ap (λ fs. length (drop (length (receipts_of a (journal_of js b))) fs)) (left a b)
+      ∙ ap (λ es. length (drop (length (receipts_of a es)) (sendings_of b (journal_of js a)))) (sym (come b))
+      ∙ ap (λ es. length (drop (length (receipts a b run)) (sendings_of b es))) (sym (come a))
+
+  pub in_transit_is : (links : Links) → ((a b : ℕ) → receipts_of a (journal_of js b) ++ waiting links a b ≡ sendings_of b (journal_of js a)) →
+      sum_over (λ a. sum_over (λ b. length (waiting links a b)) (sites_of t)) (sites_of t) ≡ in_transit t run
+  in_transit_is links left =
+      sum_same (λ a. sum_over (λ b. length (waiting links a b)) (sites_of t)) (λ a. sum_over (λ b. length (under_way a b run)) (sites_of t)) (sites_of t)
+      (λ a. sum_same (λ b. length (waiting links a b)) (λ b. length (under_way a b run)) (sites_of t) (λ b. under_way_left links left a b))
+
+-- what is left is within what was sent
+pub left_within : (js : List Journal) (links : Links) → ((a b : ℕ) → receipts_of a (journal_of js b) ++ waiting links a b ≡ sendings_of b (journal_of js a)) → (a b : ℕ) → length (waiting links a b) ≤ length (sendings_of b (journal_of js a))
+left_within js links left a b =
+    let e = ap length (left a b) in let n = length-append (receipts_of a (journal_of js b)) (waiting links a b) in omega (arith, e, n)

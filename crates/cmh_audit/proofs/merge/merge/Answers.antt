@@ -1,0 +1,91 @@
+use Rattle.std.proofs.Common.{◌≡◌, ℕ, List, [], ◌∷◌, length, replicate, subst, sym, ap, ◌∙◌, refl, arith, true≢false, length-append, rules}
+use Rattle.cmh_audit.proofs.Beginnings.{empty_list}
+use Rattle.cmh_audit.proofs.CountLemmas.{length-limits}
+use Rattle.cmh_audit.proofs.MoveLemmas.{next_other}
+use Rattle.cmh_audit.proofs.ReadyLemmas.{Listed, listed_start, listed_end, listed_tries, place_in, looked_done, looked_past, looked_parked, looked_took, work_step}
+use Rattle.cmh_audit.proofs.merge.merge.Goals as goal
+
+pub loop-i-init : goal.loop-i-init
+loop-i-init c =
+    let zeros : c.in_ok-taken.taken.items ≡ replicate (length c.args.journals.now) 0 = search rules in
+    let L : List ℕ → Type 0 = λ counts. Listed c.args.topology.now c.args.journals.now c.in_ok-limits.limits.items counts c.new-links.result c.in_ok-lacks.lacks.items c.in_ok-ready.ready.items 0 in
+    let whole = c.in_ok-lacks.lacks.ok.0 in
+    let long = c.in_ok-lacks.ensures.len in
+    subst L (sym zeros) (listed_start c.args.topology.now c.args.journals.now c.in_ok-limits.limits.items c.new-links.result c.in_ok-lacks.lacks.items c.in_ok-ready.ready.items c.new-links.ensures.empty (omega (arith, whole, long)) c.in_ok-ready.ensures)
+
+pub bounds-journals-i : goal.bounds-journals-i
+bounds-journals-i c = place_in c.args.topology.now c.args.journals.now c.in_ok-limits.limits.items c.loop-i.taken.items c.loop-i.links c.loop-i.lacks.items c.loop-i.ready.items c.pop.new.self.items c.loop-i.tries c.in-Some.i c.loop-i.invariant c.in-Some.ensures.items
+
+pub offset_bounds-journals-i : goal.offset_bounds-journals-i
+offset_bounds-journals-i c = let h = place_in c.args.topology.now c.args.journals.now c.in_ok-limits.limits.items c.loop-i.taken.items c.loop-i.links c.loop-i.lacks.items c.loop-i.ready.items c.pop.new.self.items c.loop-i.tries c.in-Some.i c.loop-i.invariant c.in-Some.ensures.items in let few = c.requires.few in omega (arith, h, few)
+
+pub index-at-requires : goal.index-at-requires
+index-at-requires c = let h = place_in c.args.topology.now c.args.journals.now c.in_ok-limits.limits.items c.loop-i.taken.items c.loop-i.links c.loop-i.lacks.items c.loop-i.ready.items c.pop.new.self.items c.loop-i.tries c.in-Some.i c.loop-i.invariant c.in-Some.ensures.items in let n = c.loop-i.invariant.merging.each in let w = c.loop-i.taken.ok.0 in omega (arith, h, n, w)
+
+pub index-limit-requires : goal.index-limit-requires
+index-limit-requires c =
+    let h = place_in c.args.topology.now c.args.journals.now c.in_ok-limits.limits.items c.loop-i.taken.items c.loop-i.links c.loop-i.lacks.items c.loop-i.ready.items c.pop.new.self.items c.loop-i.tries c.in-Some.i c.loop-i.invariant c.in-Some.ensures.items in
+    let n = length-limits c.args.topology.now c.args.journals.now c.in_ok-limits.limits.items c.in_ok-limits.ensures in
+    let w = c.in_ok-limits.limits.ok.0 in
+    omega (arith, h, n, w)
+
+pub index_mut-requires : goal.index_mut-requires
+index_mut-requires c = let h = place_in c.args.topology.now c.args.journals.now c.in_ok-limits.limits.items c.loop-i.taken.items c.loop-i.links c.loop-i.lacks.items c.loop-i.ready.items c.pop.new.self.items c.loop-i.tries c.in-Some.i c.loop-i.invariant c.in-Some.ensures.items in let n = c.loop-i.invariant.merging.each in let w = c.loop-i.taken.ok.0 in omega (arith, h, n, w)
+
+pub index_mut-requires-in-Got : goal.index_mut-requires-in-Got
+index_mut-requires-in-Got c = let h = place_in c.args.topology.now c.args.journals.now c.in_ok-limits.limits.items c.loop-i.taken.items c.loop-i.links c.loop-i.lacks.items c.loop-i.ready.items c.pop.new.self.items c.loop-i.tries c.in-Some.i c.loop-i.invariant c.in-Some.ensures.items in let n = c.loop-i.invariant.long in let w = c.loop-i.lacks.ok.0 in omega (arith, h, n, w)
+
+pub overflow_add-tries : goal.overflow_add-tries
+overflow_add-tries c =
+    let b = listed_tries c.args.topology.now c.args.journals.now c.in_ok-limits.limits.items c.loop-i.taken.items c.loop-i.links c.loop-i.lacks.items c.loop-i.ready.items c.loop-i.tries c.in_ok-limits.ensures c.loop-i.invariant in
+    let n = ap length c.in-Some.ensures.items ∙ length-append c.pop.new.self.items (c.in-Some.i ∷ []) in
+    let s = c.requires.small in
+    omega (arith, b, n, s)
+
+pub move_frames-requires : goal.move_frames-requires
+move_frames-requires c = c.if-is_next.ensures.0 refl
+
+pub loop-i-preserved-in-Continue-branch-6 : goal.loop-i-preserved-in-Continue-branch-6
+loop-i-preserved-in-Continue-branch-6 c =
+    looked_took c.args.topology.now c.args.journals.now c.in_ok-limits.limits.items c.loop-i.taken.items c.loop-i.links c.move_frames.new.links c.loop-i.lacks.items c.deref_mut.result.now c.wake.new.lacks c.loop-i.ready.items c.pop.new.self.items c.wake.new.ready.items
+    c.loop-i.tries c.in-Some.i c.index-at.result.now c.index-limit.result.now c.site-site.result c.loop-i.lacks.len c.index-journals-i.result c.entries-entries.result.now c.index-entries-at.result c.requires.once c.in_ok-limits.ensures c.loop-i.invariant c.in-Some.ensures.items
+    c.index-at.ensures c.index-limit.ensures c.index-journals-i.is c.site-site.ensures c.entries-entries.ensures.value c.if-at-limit.true c.index-entries-at.is (c.if-is_next.ensures.0 refl) c.in_ok-move_frames.ensures c.in_ok-wake.ensures c.deref_mut.ensures.value c.wake.auto.lacks c.loop-i.lacks.ok.0
+
+pub loop-i-smaller-in-Continue-branch-6 : goal.loop-i-smaller-in-Continue-branch-6
+loop-i-smaller-in-Continue-branch-6 c =
+    work_step c.args.topology.now c.args.journals.now c.in_ok-limits.limits.items c.loop-i.taken.items c.loop-i.links c.loop-i.lacks.items c.deref_mut.result.now c.loop-i.ready.items c.pop.new.self.items c.wake.new.ready.items _ c.move_frames.new.links 0
+    c.loop-i.tries c.in-Some.i c.index-at.result.now c.in_ok-limits.ensures c.loop-i.invariant c.in-Some.ensures.items c.index-at.ensures
+    (looked_took c.args.topology.now c.args.journals.now c.in_ok-limits.limits.items c.loop-i.taken.items c.loop-i.links c.move_frames.new.links c.loop-i.lacks.items c.deref_mut.result.now c.wake.new.lacks c.loop-i.ready.items c.pop.new.self.items c.wake.new.ready.items
+    c.loop-i.tries c.in-Some.i c.index-at.result.now c.index-limit.result.now c.site-site.result c.loop-i.lacks.len c.index-journals-i.result c.entries-entries.result.now c.index-entries-at.result c.requires.once c.in_ok-limits.ensures c.loop-i.invariant c.in-Some.ensures.items
+    c.index-at.ensures c.index-limit.ensures c.index-journals-i.is c.site-site.ensures c.entries-entries.ensures.value c.if-at-limit.true c.index-entries-at.is (c.if-is_next.ensures.0 refl) c.in_ok-move_frames.ensures c.in_ok-wake.ensures c.deref_mut.ensures.value c.wake.auto.lacks c.loop-i.lacks.ok.0)
+    c.deref_mut.ensures.value c.in_ok-wake.ensures.bound
+
+pub loop-i-preserved-in-Got : goal.loop-i-preserved-in-Got
+loop-i-preserved-in-Got c =
+    looked_parked c.args.topology.now c.args.journals.now c.in_ok-limits.limits.items c.loop-i.taken.items c.loop-i.links c.loop-i.lacks.items c.loop-i.ready.items c.pop.new.self.items c.loop-i.tries c.in-Some.i c.index-at.result.now c.index-limit.result.now c.site-site.result c.index-journals-i.result c.entries-entries.result.now c.in-Got.from c.in-Got.frame c.index-entries-at.result
+    c.in_ok-limits.ensures c.loop-i.invariant c.in-Some.ensures.items c.index-at.ensures c.index-limit.ensures c.index-journals-i.is c.site-site.ensures c.entries-entries.ensures.value
+    c.if-at-limit.true c.index-entries-at.is c.in-Got.is (λ h. true≢false (sym (c.if-is_next.ensures.1 h)))
+
+pub loop-i-preserved-in_default-event : goal.loop-i-preserved-in_default-event
+loop-i-preserved-in_default-event c =
+    absurd (true≢false (sym (c.if-is_next.ensures.1 (next_other c.loop-i.links c.site-site.result c.index-entries-at.result.event c.in_default-event.not-Got))))
+
+pub loop-i-preserved-else-at-limit : goal.loop-i-preserved-else-at-limit
+loop-i-preserved-else-at-limit c =
+    looked_done c.args.topology.now c.args.journals.now c.in_ok-limits.limits.items c.loop-i.taken.items c.loop-i.links c.loop-i.lacks.items c.loop-i.ready.items c.pop.new.self.items c.loop-i.tries c.in-Some.i c.index-at.result.now c.index-limit.result.now c.in_ok-limits.ensures c.loop-i.invariant c.in-Some.ensures.items c.index-at.ensures c.index-limit.ensures c.if-at-limit.false
+
+pub loop-i-preserved : goal.loop-i-preserved
+loop-i-preserved c =
+    looked_past c.args.topology.now c.args.journals.now c.in_ok-limits.limits.items c.loop-i.taken.items c.loop-i.links c.loop-i.lacks.items c.loop-i.ready.items c.pop.new.self.items c.loop-i.tries c.in-Some.i c.index-at.result.now c.index-journals-i.result c.entries-entries.result.now c.in_ok-limits.ensures c.loop-i.invariant c.in-Some.ensures.items c.index-at.ensures c.index-journals-i.is c.entries-entries.ensures.value c.if-at-entries.false
+
+pub returns-clause-stuck : goal.returns-clause-stuck
+returns-clause-stuck c =
+    let none : c.loop-i.ready.items ≡ [] = empty_list c.loop-i.ready.items (sym c.loop-i.ready.ok.0 ∙ c.in_default.ensures.cases.0) in
+    listed_end c.args.topology.now c.args.journals.now c.in_ok-limits.limits.items c.loop-i.taken.items c.loop-i.links c.loop-i.lacks.items c.loop-i.tries c.requires.once c.in_ok-limits.ensures
+    (subst (λ r. Listed c.args.topology.now c.args.journals.now c.in_ok-limits.limits.items c.loop-i.taken.items c.loop-i.links c.loop-i.lacks.items r c.loop-i.tries) none c.loop-i.invariant)
+
+pub returns-clause-left : goal.returns-clause-left
+returns-clause-left c = c.loop-i.invariant.merging.frames
+
+pub returns-clause-tries : goal.returns-clause-tries
+returns-clause-tries c = let b = listed_tries c.args.topology.now c.args.journals.now c.in_ok-limits.limits.items c.loop-i.taken.items c.loop-i.links c.loop-i.lacks.items c.loop-i.ready.items c.loop-i.tries c.in_ok-limits.ensures c.loop-i.invariant in omega (arith, b)

@@ -1,0 +1,54 @@
+use Rattle.std.proofs.Common.{◌≡◌, ◌<◌, ◌≤◌, ◌*◌, ℕ, List, [], length, sym, subst, ap, ◌∙◌, arith}
+use Rattle.std.proofs.lemmas.Bool.{eqb-true, eqb-false}
+use Rattle.std.specs.List.Sorted.{IsStrictlyIncreasing}
+use Rattle.cmh_frames.specs.Topology.{sites_of}
+use Rattle.cmh_audit.specs.Journals.{entry_count}
+use Rattle.cmh_audit.specs.Stops.{stops_at, AreStops}
+use Rattle.cmh_audit.proofs.AuditLemmas.{set_few, tries_fit, all_left}
+use Rattle.cmh_audit.proofs.Beginnings.{empty_list, some_list}
+use Rattle.cmh_audit.proofs.StopLemmas.{are_stops, come_from, stops_refuse}
+use Rattle.cmh_audit.proofs.verdict.audit.Goals as goal
+
+pub count_entries-events-requires : goal.count_entries-events-requires
+count_entries-events-requires c = let few = set_few c.args.topology.now c.args.journals.now c.sites-sites.result.now c.sites-sites.ensures.value c.sites-sites.ensures.few c.requires in omega (arith, few)
+
+pub merge-requires-clause-few : goal.merge-requires-clause-few
+merge-requires-clause-few c = let few = set_few c.args.topology.now c.args.journals.now c.sites-sites.result.now c.sites-sites.ensures.value c.sites-sites.ensures.few c.requires in omega (arith, few)
+
+pub merge-requires-clause-small : goal.merge-requires-clause-small
+merge-requires-clause-small c =
+    let limited : entry_count c.args.journals.now ≤ length c.args.journals.now * 1000000 = subst (λ n. n ≤ length c.args.journals.now * 1000000) c.count_entries-events.ensures.value c.count_entries-events.ensures.limited in
+    tries_fit (entry_count c.args.journals.now) (length c.args.journals.now) limited (set_few c.args.topology.now c.args.journals.now c.sites-sites.result.now c.sites-sites.ensures.value c.sites-sites.ensures.few c.requires)
+
+pub report_of-requires-clause-comes : goal.report_of-requires-clause-comes
+report_of-requires-clause-comes c =
+    let none : stops_at (sites_of c.args.topology.now) c.args.journals.now c.in_ok-merged.merged.taken.items ≡ [] = sym (c.in_ok-rows.ensures ∙ ap (λ ss. stops_at ss c.args.journals.now c.deref.result.now) c.sites-sites.ensures.value ∙ ap (stops_at (sites_of c.args.topology.now) c.args.journals.now) c.deref.ensures.value) ∙ empty_list c.in_ok-rows.rows.items (sym c.in_ok-rows.rows.ok.0 ∙ eqb-true c.in_ok-rows.rows.len 0 (sym c.is_empty.ensures ∙ c.if-is_empty.true)) in
+    come_from c.args.topology.now c.args.journals.now c.in_ok-merged.merged.taken.items c.requires c.in_ok-merged.ensures.stuck none
+
+pub report_of-requires-clause-left : goal.report_of-requires-clause-left
+report_of-requires-clause-left c =
+    let none : stops_at (sites_of c.args.topology.now) c.args.journals.now c.in_ok-merged.merged.taken.items ≡ [] = sym (c.in_ok-rows.ensures ∙ ap (λ ss. stops_at ss c.args.journals.now c.deref.result.now) c.sites-sites.ensures.value ∙ ap (stops_at (sites_of c.args.topology.now) c.args.journals.now) c.deref.ensures.value) ∙ empty_list c.in_ok-rows.rows.items (sym c.in_ok-rows.rows.ok.0 ∙ eqb-true c.in_ok-rows.rows.len 0 (sym c.is_empty.ensures ∙ c.if-is_empty.true)) in
+    all_left c.args.topology.now c.args.journals.now c.in_ok-merged.merged.taken.items c.in_ok-merged.merged.links c.requires c.in_ok-merged.ensures.stuck none c.in_ok-merged.ensures.left
+
+pub report_of-requires-clause-small : goal.report_of-requires-clause-small
+report_of-requires-clause-small c = let few = set_few c.args.topology.now c.args.journals.now c.sites-sites.result.now c.sites-sites.ensures.value c.sites-sites.ensures.few c.requires in let sent = c.count_entries-events.ensures.sent in omega (arith, few, sent)
+
+pub returns-then-is_empty-clause-accepted : goal.returns-then-is_empty-clause-accepted
+returns-then-is_empty-clause-accepted c =
+    let none : stops_at (sites_of c.args.topology.now) c.args.journals.now c.in_ok-merged.merged.taken.items ≡ [] = sym (c.in_ok-rows.ensures ∙ ap (λ ss. stops_at ss c.args.journals.now c.deref.result.now) c.sites-sites.ensures.value ∙ ap (stops_at (sites_of c.args.topology.now) c.args.journals.now) c.deref.ensures.value) ∙ empty_list c.in_ok-rows.rows.items (sym c.in_ok-rows.rows.ok.0 ∙ eqb-true c.in_ok-rows.rows.len 0 (sym c.is_empty.ensures ∙ c.if-is_empty.true)) in
+    (λ _. come_from c.args.topology.now c.args.journals.now c.in_ok-merged.merged.taken.items c.requires c.in_ok-merged.ensures.stuck none, λ _. tt)
+
+-- the rows are stops where there is one
+rows_stop : (c : goal.After-drop-merged-3) → AreStops c.args.topology.now c.args.journals.now c.in_ok-rows.rows.items
+rows_stop c =
+    let rows : c.in_ok-rows.rows.items ≡ stops_at (sites_of c.args.topology.now) c.args.journals.now c.in_ok-merged.merged.taken.items = c.in_ok-rows.ensures ∙ ap (λ ss. stops_at ss c.args.journals.now c.deref.result.now) c.sites-sites.ensures.value ∙ ap (stops_at (sites_of c.args.topology.now) c.args.journals.now) c.deref.ensures.value in
+    let some : 0 < length c.in_ok-rows.rows.items = some_list c.in_ok-rows.rows.items (λ h. eqb-false c.in_ok-rows.rows.len 0 (sym c.is_empty.ensures ∙ c.if-is_empty.false) (c.in_ok-rows.rows.ok.0 ∙ h)) in
+    subst (AreStops c.args.topology.now c.args.journals.now) (sym rows)
+    (are_stops c.args.topology.now c.args.journals.now c.in_ok-merged.merged.taken.items (subst IsStrictlyIncreasing c.sites-sites.ensures.value c.sites-sites.ensures.ascending) c.requires c.in_ok-merged.ensures.stuck
+    (subst (λ (l : List (ℕ × ℕ)). 0 < length l) rows some))
+
+pub returns-clause-accepted : goal.returns-clause-accepted
+returns-clause-accepted c = (λ h. absurd h, λ come. stops_refuse c.args.topology.now c.args.journals.now c.in_ok-rows.rows.items (rows_stop c) come)
+
+pub returns-clause-stops : goal.returns-clause-stops
+returns-clause-stops c = subst (AreStops c.args.topology.now c.args.journals.now) (sym c.new.ensures.rows) (rows_stop c)

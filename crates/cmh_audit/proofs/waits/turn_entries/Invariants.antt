@@ -1,0 +1,7 @@
+use Rattle.std.proofs.Common.{take}
+use Rattle.cmh_audit.specs.Sums.{in_entries}
+use Rattle.cmh_audit.specs.Turns.{Turns, turns}
+use Rattle.cmh_audit.proofs.waits.turn_entries.Given as goal
+
+abbrev pub invariant-loop-entry : goal.invariant-loop-entry
+invariant-loop-entry l = Turns l.fn.pairs l.pairs (λ j k. in_entries (turns j k) (take l.entry-index l.entries))

@@ -1,0 +1,66 @@
+-- How far the journals were taken, and what can be taken next.
+use Rattle.std.specs.Prelude.{◌≡◌, ℕ, ◌+◌, ◌<◌, ◌≤◌, ◌==◌, List, [], ◌∷◌, ◌++◌, length, take, if◌then◌else◌}
+use Rattle.cmh_frames.specs.declared.frame.Frame.{Frame}
+use Rattle.cmh_frames.specs.Topology.{Topology}
+use Rattle.cmh_model.specs.declared.event.Event.{Event}
+use Rattle.cmh_model.specs.declared.journal.Entry.{Entry}
+use Rattle.cmh_model.specs.declared.journal.WorldEvent.{WorldEvent}
+use Rattle.cmh_model.specs.Journals.{IsLawful, frames_to, frame_from, sendings_of, receipts_of}
+use Rattle.cmh_model.specs.Runs.{IsBeginningOf, IsRun, ComesFrom}
+use Rattle.cmh_journal.specs.Journal.{Journal}
+use Rattle.cmh_audit.specs.Journals.{journal_of}
+use Rattle.cmh_audit.specs.Links.{Links, waiting}
+
+-- the entries of a site that were taken, given how many of each journal were
+abbrev pub taken_of : List Journal → List ℕ → ℕ → List Entry
+taken_of [] counts site = []
+taken_of (j ∷ journals) [] site = []
+taken_of (j ∷ journals) (n ∷ counts) site = if j.site == site then take n j.entries else taken_of journals counts site
+
+-- the site may take this entry next, where each site holds these entries
+pub record CanGrow (t : Topology) (site : ℕ) (held : ℕ → List Entry) (e : Entry) : Type 0 where
+  pub lawful : IsLawful t site (held site ++ e ∷ [])
+  pub got : (a : ℕ) → IsBeginningOf (receipts_of a (held site ++ e ∷ [])) (sendings_of site (held a))
+
+-- the frame that the event got, if it got one, is the next of its link
+abbrev pub IsNext : Links → ℕ → Event → Type 0
+IsNext links site event = (a : ℕ) → IsBeginningOf (frame_from a event) (waiting links a site)
+
+-- the links after the site sent these frames
+abbrev pub Sends : Links → Links → ℕ → List (ℕ × Frame) → Type 0
+Sends old new site sent = (a b : ℕ) → waiting new a b ≡ waiting old a b ++ (if site == a then frames_to b sent else [])
+
+-- the links after an entry of the site: what it got is gone, what it sent came in
+abbrev pub Moves : Links → Links → ℕ → Entry → Type 0
+Moves old new site entry =
+    (a b : ℕ) → (if site == b then frame_from a entry.event else []) ++ waiting new a b
+    ≡ waiting old a b ++ (if site == a then frames_to b entry.sent else [])
+
+-- the longest lawful beginning has n entries
+pub record IsLawfulLength (t : Topology) (site : ℕ) (entries : List Entry) (n : ℕ) : Type 0 where
+  pub within : n ≤ length entries
+  pub lawful : IsLawful t site (take n entries)
+  pub stops : n < length entries → IsLawful t site (take (n + 1) entries) → ⊥
+
+-- one for each journal
+abbrev pub AreLawfulLengths : Topology → List Journal → List ℕ → Type 0
+AreLawfulLengths t [] [] = Unit {0}
+AreLawfulLengths t [] (n ∷ limits) = ⊥
+AreLawfulLengths t (j ∷ journals) [] = ⊥
+AreLawfulLengths t (j ∷ journals) (n ∷ limits) = IsLawfulLength t j.site j.entries n × AreLawfulLengths t journals limits
+
+-- a merge that can't go on: what was taken comes from a run, and no site can take its next entry
+pub record IsStuck (t : Topology) (journals : List Journal) (counts : List ℕ) : Type 0 where
+  pub each : length counts ≡ length journals
+  pub comes : (events : List WorldEvent) × IsRun t events × ComesFrom (taken_of journals counts) events
+  pub within : (site : ℕ) → IsBeginningOf (taken_of journals counts site) (journal_of journals site)
+  pub stuck : (site : ℕ) (e : Entry) → IsBeginningOf (taken_of journals counts site ++ e ∷ []) (journal_of journals site)
+      → CanGrow t site (taken_of journals counts) e → ⊥
+
+-- the links have just what was sent and not got by the entries that were taken
+abbrev pub AreLeft : List Journal → List ℕ → Links → Type 0
+AreLeft journals counts links = (a b : ℕ) → receipts_of a (taken_of journals counts b) ++ waiting links a b ≡ sendings_of b (taken_of journals counts a)
+
+-- the same where all entries were taken
+abbrev pub AreAllLeft : List Journal → Links → Type 0
+AreAllLeft journals links = (a b : ℕ) → receipts_of a (journal_of journals b) ++ waiting links a b ≡ sendings_of b (journal_of journals a)

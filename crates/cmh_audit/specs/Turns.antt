@@ -1,0 +1,34 @@
+-- Asks and replies turn the waits of two processes.
+use Rattle.std.specs.Prelude.{◌≡◌, ℕ, zero, suc, Bool, not, ◌&&◌, ◌==◌, if◌then◌else◌}
+use Rattle.std.specs.BTreeSet.{BTreeSet, contains}
+use Rattle.cmh_model.specs.declared.event.Event.{Event}
+use Rattle.cmh_model.specs.declared.event.Event.TheVariants.{Ask, Reply, Start, Got}
+use Rattle.cmh_model.specs.declared.journal.Entry.{Entry}
+use Rattle.cmh_model.specs.Relation.{pair_cmp}
+use Rattle.cmh_model.specs.Laws.{bit, count_of}
+
+-- a truth value turned so many times
+abbrev pub turned : ℕ → Bool → Bool
+turned zero b = b
+turned (suc n) b = not (turned n b)
+
+-- how often an event turns the wait of j for k
+abbrev pub turns_of : ℕ → ℕ → Event → ℕ
+turns_of j k (Ask asker targets) = if asker == j then count_of (λ q. q == k) targets else 0
+turns_of j k (Reply holder asker) = bit ((holder == k) && (asker == j))
+turns_of j k (Start i) = 0
+turns_of j k (Got from frame) = 0
+
+abbrev pub turns : ℕ → ℕ → Entry → ℕ
+turns j k e = turns_of j k e.event
+
+-- whether the set has the pair of j and k
+abbrev pub is_open : BTreeSet (ℕ × ℕ) → ℕ → ℕ → Bool
+is_open pairs j k = contains pair_cmp pairs (j, k)
+
+-- each pair was turned f times
+abbrev pub Turns : BTreeSet (ℕ × ℕ) → BTreeSet (ℕ × ℕ) → (ℕ → ℕ → ℕ) → Type 0
+Turns old new f = (j k : ℕ) → is_open new j k ≡ turned (f j k) (is_open old j k)
+
+abbrev pub one_at : ℕ → ℕ → ℕ → ℕ → ℕ
+one_at asker holder j k = bit ((holder == k) && (asker == j))

@@ -1,0 +1,22 @@
+//! The auditor: whether the journals of all sites come from one run, and what that run comes to.
+#![tactic(auto)]
+
+mod count;
+mod cycle;
+mod declared;
+mod graph;
+mod lawful;
+mod links;
+mod merge;
+mod report;
+mod set;
+mod stops;
+#[cfg(test)]
+mod tests;
+mod verdict;
+mod waits;
+
+pub use crate::report::Report;
+pub use crate::set::{SetFault, check_set};
+pub use crate::stops::Stops;
+pub use crate::verdict::{AuditMemory, Verdict, audit};

@@ -1,0 +1,136 @@
+//! The merge of journals: entries are taken, one at a time, while any can be.
+
+ghost use Rattle.std.specs.Prelude.{◌≡◌, ◌↔◌, ◌+◌, ◌*◌, ◌≤◌, ◌<◌, ◌^◌, length, OnOk, IfOk, IsTrue};
+ghost use Rattle.cmh_audit.specs.Journals.{OneEach, entry_count};
+ghost use Rattle.cmh_audit.specs.Merging.{IsNext, Sends, Moves, IsStuck, AreLeft};
+ghost use Rattle.cmh_audit.specs.Ready.{Wakes, ArePlaces};
+
+use crate::lawful::lawful_lengths;
+use crate::links::{Links, next_frame, receive, send};
+use cmh_frames::{Frame, SiteId, Topology};
+use cmh_journal::Journal;
+use cmh_model::{Entry, Event};
+use std::alloc::{AllocError, Global};
+use std::collections::BTreeMap;
+
+/// Whether the frame that the event got, if it got one, is the next of its link.
+fn is_next(links: &Links, site: SiteId, event: &Event) -> bool
+    ensures { IsTrue result ↔ IsNext links.now site event.now }
+{
+    match event {
+        Event::Got { from, frame } => next_frame(links, *from, site) == Some(*frame),
+        _ => true,
+    }
+}
+
+/// Puts the sent frames on their links.
+fn send_all(
+    alloc: Global,
+    links: &mut Links,
+    site: SiteId,
+    sent: &[(SiteId, Frame)],
+) -> Result<(), AllocError>
+    ensures { OnOk result (Sends links.old links.new site sent.now) }
+{
+    for (to, frame) in sent {
+        send(alloc, links, site, *to, *frame)?;
+    }
+    Ok(())
+}
+
+/// Takes what the entry got from its link, and puts what it sent on theirs.
+fn move_frames(
+    alloc: Global,
+    links: &mut Links,
+    site: SiteId,
+    entry: &Entry,
+) -> Result<(), AllocError>
+    requires { IsNext links.old site entry.now.event }
+    ensures { OnOk result (Moves links.old links.new site entry.now) }
+{
+    if let Event::Got { from, .. } = &entry.event {
+        receive(links, *from, site);
+    }
+    send_all(alloc, links, site, entry.sent.as_slice())
+}
+
+/// Puts the site itself, and each that lacks a frame of it, on the list.
+fn wake(
+    ready: &mut Vec<usize>,
+    lacks: &mut [Option<SiteId>],
+    from: SiteId,
+    own: usize,
+) -> Result<(), AllocError>
+    ensures { OnOk result (Wakes ready.old.items ready.new.items lacks.old lacks.new from own (length lacks.old)) }
+{
+    for k in 0..lacks.len() {
+        if k == own || lacks[k] == Some(from) {
+            lacks[k] = None;
+            ready.push(k)?;
+        }
+    }
+    Ok(())
+}
+
+/// The places below n.
+fn places(alloc: Global, n: usize) -> Result<Vec<usize>, AllocError>
+    ensures { IfOk result (λ all. ArePlaces all.items n) }
+{
+    let mut all = Vec::new(alloc);
+    for k in 0..n {
+        all.push(k)?;
+    }
+    Ok(all)
+}
+
+/// How far the journals were taken, and what is under way then.
+#[derive(Drop)]
+pub struct Merged {
+    /// How many entries of each journal were taken.
+    pub taken: Vec<usize>,
+    pub links: Links,
+    /// How often it was looked whether a site's next entry can be taken.
+    pub tries: u64,
+}
+
+/// Takes entries while any can be taken. A site that lacks a frame is tried again only after the frame's sender took an entry.
+pub fn merge(alloc: Global, topology: &Topology, journals: &[Journal]) -> Result<Merged, AllocError>
+    requires once { OneEach journals.now }
+    requires few { length journals.now ≤ 65536 }
+    requires small { (entry_count journals.now + 1) * length journals.now < 2 ^ 64 }
+    ensures stuck { IfOk result (λ m. IsStuck topology.now journals.now m.taken.items) }
+    ensures left { IfOk result (λ m. AreLeft journals.now m.taken.items m.links) }
+    ensures tries { IfOk result (λ m. m.tries ≤ (entry_count journals.now + 1) * length journals.now) }
+{
+    let limits = lawful_lengths(alloc, topology, journals)?;
+    let mut links: Links = BTreeMap::new(alloc);
+    let mut taken = vec![in alloc; 0; journals.len()]?;
+    let mut lacks: Vec<Option<SiteId>> = vec![in alloc; None; journals.len()]?;
+    let mut ready = places(alloc, journals.len())?;
+    let mut tries: u64 = 0;
+    while let Some(i) = ready.pop() {
+        let journal = &journals[i];
+        let site = journal.site();
+        let entries = journal.entries();
+        let at = taken[i];
+        if at < entries.len() {
+            tries += 1;
+            let limit = limits[i];
+            if at < limit {
+                let entry = &entries[at];
+                if is_next(&links, site, &entry.event) {
+                    move_frames(alloc, &mut links, site, entry)?;
+                    taken[i] = at + 1;
+                    wake(&mut ready, &mut lacks, site, i)?;
+                } else if let Event::Got { from, .. } = &entry.event {
+                    lacks[i] = Some(*from);
+                }
+            }
+        }
+    }
+    Ok(Merged {
+        taken,
+        links,
+        tries,
+    })
+}

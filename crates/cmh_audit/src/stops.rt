@@ -1,0 +1,87 @@
+//! Where a merge stopped.
+
+ghost use Rattle.std.specs.Prelude.{◌≡◌, ◌<◌, length, IfOk, MatchOption};
+ghost use Rattle.std.specs.List.{HoldsAt};
+ghost use Rattle.cmh_journal.specs.Journal as journal;
+ghost use Rattle.cmh_audit.specs.Journals.{NoneAt, OneEach};
+ghost use Rattle.cmh_audit.specs.Stops.{stops_at};
+
+use cmh_frames::SiteId;
+use cmh_journal::Journal;
+use std::alloc::{AllocError, Global};
+use std::marker::Model;
+
+/// Where the journals stop: the entries before the stops come from a run, and there is no run with more of them.
+#[derive(Debug, Drop)]
+pub struct Stops {
+    rows: Vec<(SiteId, usize)>,
+    tries: u64,
+}
+
+impl Model for Stops {
+    ghost use Rattle.cmh_audit.specs.Stops as spec;
+
+    ghost Value = { spec.Stops };
+
+    ghost view = { λ s. record { rows = s.rows.items; tries = s.tries } };
+}
+
+impl Stops {
+    pub fn new(rows: Vec<(SiteId, usize)>, tries: u64) -> Self
+        ensures rows { result.rows ≡ rows.items }
+        ensures tries { result.tries ≡ tries }
+    {
+        Stops { rows, tries }
+    }
+
+    /// Each unfinished site, ascending, with the number, from 1, of its entry that couldn't be taken.
+    pub fn rows(&self) -> &[(SiteId, usize)]
+        ensures { result.now ≡ self.now.rows }
+    {
+        &self.rows
+    }
+
+    /// How often it was looked whether a site's next entry can be taken.
+    pub fn tries(&self) -> u64
+        ensures { result ≡ self.now.tries }
+    {
+        self.tries
+    }
+}
+
+/// The place of a site's journal.
+fn place_of(journals: &[Journal], site: SiteId) -> Option<usize>
+    ensures { MatchOption result (NoneAt site journals.now)
+        (λ i. (i < length journals.now) × HoldsAt (λ (j : journal.Journal). j.site ≡ site) journals.now i) }
+{
+    for (i, journal) in journals.iter().enumerate() {
+        if journal.site() == site {
+            return Some(i);
+        }
+    }
+    None
+}
+
+/// The stop of each of these sites that has one, in their order.
+pub fn stops_of(
+    alloc: Global,
+    sites: &[SiteId],
+    journals: &[Journal],
+    taken: &[usize],
+) -> Result<Vec<(SiteId, usize)>, AllocError>
+    requires once { OneEach journals.now }
+    requires each { length taken.now ≡ length journals.now }
+    ensures { IfOk result (λ rows. rows.items ≡ stops_at sites.now journals.now taken.now) }
+{
+    let mut rows = Vec::new(alloc);
+    for site in sites {
+        if let Some(i) = place_of(journals, *site) {
+            let entries = journals[i].entries();
+            let done = taken[i];
+            if done < entries.len() {
+                rows.push((*site, done + 1))?;
+            }
+        }
+    }
+    Ok(rows)
+}

@@ -1,0 +1,76 @@
+//! The auditor's verdict.
+
+ghost use Rattle.std.specs.Prelude.{◌≡◌, ◌↔◌, ◌+◌, ◌*◌, ◌≤◌, List, length, IfOk};
+ghost use Rattle.cmh_model.specs.declared.journal.WorldEvent.{WorldEvent};
+ghost use Rattle.cmh_model.specs.Runs.{IsRun, ComesFrom};
+ghost use Rattle.cmh_audit.specs.Journals.{journal_of, entry_count};
+ghost use Rattle.cmh_audit.specs.Reports.{Reports, IsInOrder};
+ghost use Rattle.cmh_audit.specs.Set.{IsSet};
+ghost use Rattle.cmh_audit.specs.Stops.{AreStops};
+ghost use Rattle.cmh_audit.specs.Verdicts.{IsAccepted, IfAccepted, IfRefused, tries_of};
+
+use crate::count::count_entries;
+use crate::merge::merge;
+use crate::report::{Report, report_of};
+use crate::stops::{Stops, stops_of};
+use cmh_frames::Topology;
+use cmh_journal::Journal;
+use std::alloc::{AllocError, Global};
+use thiserror::Error;
+
+/// Memory was refused, so there is no verdict.
+#[derive(Clone, Copy, Debug, PartialEq, Eq, Error)]
+#[error("there is not enough memory for the audit")]
+pub struct AuditMemory;
+
+impl From<AllocError> for AuditMemory {
+    fn from(_: AllocError) -> Self {
+        AuditMemory
+    }
+}
+
+/// Whether the journals of all sites come from one run.
+#[derive(Debug, Drop)]
+pub enum Verdict {
+    /// They do.
+    Accepted(Report),
+    /// They don't.
+    Refused(Stops),
+}
+
+/// Merges the journals of all sites, in whatever order they are given, into one run, or says where they stop.
+///
+/// The journals are those of one world, as `check_set` tests. The only error is want of memory, after which nothing is
+/// said of the journals.
+pub fn audit(
+    alloc: Global,
+    topology: &Topology,
+    journals: &[Journal],
+) -> Result<Verdict, AuditMemory>
+    requires { IsSet topology.now journals.now }
+
+    // Accepted exactly where the journals come from a run.
+    ensures accepted { IfOk result (λ v. IsAccepted v
+        ↔ ((events : List WorldEvent) × IsRun topology.now events × ComesFrom (journal_of journals.now) events)) }
+
+    // The report holds of every run from which they come.
+    ensures report { IfOk result (λ v. IfAccepted v (λ report. (events : List WorldEvent) → IsRun topology.now events
+        → ComesFrom (journal_of journals.now) events → Reports topology.now events report)) }
+    ensures order { IfOk result (λ v. IfAccepted v IsInOrder) }
+    ensures events { IfOk result (λ v. IfAccepted v (λ report. report.events ≡ entry_count journals.now)) }
+
+    // The stops are the furthest that any run of these journals' beginnings gets.
+    ensures stops { IfOk result (λ v. IfRefused v (λ stops. AreStops topology.now journals.now stops.rows)) }
+    ensures tries { IfOk result (λ v. tries_of v ≤ (entry_count journals.now + 1) * length journals.now) }
+{
+    let sites = topology.sites();
+    let events = count_entries(journals);
+    let merged = merge(alloc, topology, journals)?;
+    let rows = stops_of(alloc, sites, journals, &merged.taken)?;
+    if rows.is_empty() {
+        let report = report_of(alloc, topology, journals, events, &merged)?;
+        Ok(Verdict::Accepted(report))
+    } else {
+        Ok(Verdict::Refused(Stops::new(rows, merged.tries)))
+    }
+}
