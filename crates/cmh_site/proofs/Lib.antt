@@ -1,0 +1,9 @@
+pub mod LinesSeen
+pub mod Deliveries
+pub mod Fresh
+pub mod Homes
+pub mod LinkSteps
+pub mod Numerals
+pub mod Sendings
+pub mod SiteSteps
+pub mod WordSplits

@@ -1,0 +1,244 @@
+//! The command `play`, from the bytes of a script to the bytes of its answers.
+
+use cmh_site::run_play;
+use std::io;
+use std::io::{ErrorKind, Read, Write};
+use std::process::Abort;
+use std::test::Fail;
+
+/// A script, its answers, and what the two show.
+struct Row {
+    shows: &'static str,
+    script: &'static str,
+    answers: &'static str,
+}
+
+const ONE_SITE: [Row; 6] = [
+    Row {
+        shows: "a deadlock of two is declared once",
+        script: "site 1 1 2\nask 1 2\nask 2 1\nstart 1\nstart 1\n",
+        answers: "ok\nok sent 0\nok sent 0\nok sent 0 declared 1\nrefused 7\n",
+    },
+    Row {
+        shows: "a lone process has nobody to ask or answer",
+        script: "site 1 1\nask 1 1\nask 9 1\nstart 1\nreply 1 1\n",
+        answers: "ok\nrefused 3\nrefused 1\nrefused 5\nrefused 6\n",
+    },
+    Row {
+        shows: "a blocked process neither asks nor replies",
+        script: "site 1 1 2\nask 1 2\nask 1 2\nreply 1 2\nreply 2 1\nask 1 2\n",
+        answers: "ok\nok sent 0\nrefused 4\nrefused 4\nok sent 0\nok sent 0\n",
+    },
+    Row {
+        shows: "sites and the edition are named before the first command",
+        script: "edition 2\nedition 1\nsite 1 1 1\nsite 1 1 2\nedition 1\nask 1 2\nsite 2 3\n",
+        answers: "ok\nok\ntopology 3\nok\nlate\nok sent 0\nlate\n",
+    },
+    Row {
+        shows: "lines that fit no form change nothing",
+        script: "site 1 1\nask 1\nask 1 0\nask 1 12345\ngo\n",
+        answers: "ok\nbad line\nbad line\nbad line\nbad line\n",
+    },
+    Row {
+        shows: "a line ends with or without a carriage return, the last also with nothing",
+        script: "site 1 1 2\r\n\r\n# a note\r\n  ask  0001 2  \nstart 1\r\r\nstart 1",
+        answers: "ok\nok sent 0\nbad line\nok sent 0\n",
+    },
+];
+
+const SEVERAL_SITES: [Row; 9] = [
+    Row {
+        shows: "a probe comes home over two sites",
+        script: "site 1 1\nsite 2 2\nask 1 2\nask 2 1\ndeliver 1 2\ndeliver 2 1\nstart 1\ndeliver 1 2\ndeliver 2 1\n",
+        answers: "ok\nok\nok sent 1\nok sent 1\ngot request 1 2 sent 0\ngot request 2 1 sent 0\nok sent 1\ngot probe 1 1 2 sent 1\ngot probe 1 2 1 sent 0 declared 1\n",
+    },
+    Row {
+        shows: "a probe declares its origin by local dependence",
+        script: "site 1 1 3\nsite 2 2\nask 1 2\nask 3 1\nask 2 3\ndeliver 1 2\ndeliver 2 1\nstart 1\ndeliver 1 2\ndeliver 2 1\n",
+        answers: "ok\nok\nok sent 1\nok sent 0\nok sent 1\ngot request 1 2 sent 0\ngot request 2 3 sent 0\nok sent 1\ngot probe 1 1 2 sent 1\ngot probe 1 2 3 sent 0 declared 1\n",
+    },
+    Row {
+        shows: "a process that no longer owes ignores the probe",
+        script: "site 1 1\nsite 2 2 3\nask 1 2 3\ndeliver 1 2\ndeliver 1 2\nreply 2 1\nstart 1\nask 2 1\ndeliver 1 2\ndeliver 1 2\ndeliver 2 1\ndeliver 2 1\n",
+        answers: "ok\nok\nok sent 2\ngot request 1 2 sent 0\ngot request 1 3 sent 0\nok sent 1\nok sent 2\nok sent 1\ngot probe 1 1 2 sent 0\ngot probe 1 1 3 sent 0\ngot reply 2 1 sent 0\ngot request 2 1 sent 0\n",
+    },
+    Row {
+        shows: "a newer request stands behind the probe",
+        script: "site 1 1\nsite 2 2\nask 1 2\ndeliver 1 2\nreply 2 1\nstart 1\ndeliver 2 1\nask 2 1\nask 1 2\ndeliver 1 2\ndeliver 1 2\ndeliver 2 1\n",
+        answers: "ok\nok\nok sent 1\ngot request 1 2 sent 0\nok sent 1\nok sent 1\ngot reply 2 1 sent 0\nok sent 1\nok sent 1\ngot probe 1 1 2 sent 0\ngot request 1 2 sent 0\ngot request 2 1 sent 0\n",
+    },
+    Row {
+        shows: "a cut link loses its frames and those sent later",
+        script: "site 1 1\nsite 2 2\nask 1 2\ncut 1 2\nstart 1\ndeliver 1 2\ncut 1 2\ndeliver 2 1\n",
+        answers: "ok\nok\nok sent 1\nok lost 1\nok sent 1\nclosed\nclosed\nempty\n",
+    },
+    Row {
+        shows: "links are between two different known sites",
+        script: "site 1 1\nsite 2 2\ndeliver 1 3\ndeliver 1 1\ndeliver 1 2\ncut 2 1\ndeliver 2 1\n",
+        answers: "ok\nok\nbad link\nbad link\nempty\nok lost 0\nclosed\n",
+    },
+    Row {
+        shows: "a faulty row is left out",
+        script: "site 1 1\nsite 1 2\nsite 2 1\nsite 2 2\n",
+        answers: "ok\ntopology 2\ntopology 3\nok\n",
+    },
+    Row {
+        shows: "edition 1 misses a deadlock whose start came too early",
+        script: "site 1 1\nsite 2 2 3\nask 1 2\nask 2 3\ndeliver 1 2\nstart 1\ndeliver 1 2\nask 3 1\ndeliver 2 1\nstart 1\ndeliver 1 2\n",
+        answers: "ok\nok\nok sent 1\nok sent 0\ngot request 1 2 sent 0\nok sent 1\ngot probe 1 1 2 sent 0\nok sent 1\ngot request 3 1 sent 0\nok sent 1\ngot probe 1 1 2 sent 0\n",
+    },
+    Row {
+        shows: "edition 2 finds that deadlock by itself",
+        script: "edition 2\nsite 1 1\nsite 2 2 3\nask 1 2\nask 2 3\ndeliver 1 2\ndeliver 1 2\nask 3 1\ndeliver 2 1\ndeliver 2 1\ndeliver 1 2\n",
+        answers: "ok\nok\nok\nok sent 2\nok sent 0\ngot request 1 2 sent 0\ngot probe 1 1 2 sent 0\nok sent 2\ngot request 3 1 sent 0\ngot probe 3 3 1 sent 1\ngot probe 3 1 2 sent 0 declared 3\n",
+    },
+];
+
+/// A script that is read in pieces, until its reads fail.
+#[derive(Drop)]
+struct Pieces<'a> {
+    bytes: &'a [u8],
+    piece: usize,
+    reads: u64,
+}
+
+impl<'a> Read for Pieces<'a> {
+    fn read(&mut self, buf: &mut [u8]) -> io::Result<usize> {
+        if self.reads == 0 {
+            return Err(io::Error::from(ErrorKind::Other));
+        }
+        self.reads -= 1;
+        let len = self.piece.min(buf.len()).min(self.bytes.len());
+        buf[..len].copy_from_slice(&self.bytes[..len]);
+        self.bytes = &self.bytes[len..];
+        Ok(len)
+    }
+}
+
+/// Answers that are taken in pieces, until the writes fail.
+#[derive(Drop)]
+struct Taken {
+    bytes: Vec<u8>,
+    piece: usize,
+    writes: u64,
+}
+
+impl Write for Taken {
+    fn write(&mut self, buf: &[u8]) -> io::Result<usize> {
+        if self.writes == 0 {
+            return Err(io::Error::from(ErrorKind::Other));
+        }
+        self.writes -= 1;
+        let len = self.piece.min(buf.len());
+        self.bytes.extend_from_slice(&buf[..len])?;
+        Ok(len)
+    }
+
+    fn flush(&mut self) -> io::Result<()> {
+        Ok(())
+    }
+}
+
+/// The status, the answers and the fault line of a script that is read and answered in pieces.
+#[derive(Drop)]
+struct Played {
+    status: u8,
+    answers: Vec<u8>,
+    fault: Vec<u8>,
+}
+
+fn play<R: AllocGlobal>(rt: &R, script: &str, piece: usize, reads: u64, writes: u64) -> Played {
+    let mut input = Pieces {
+        bytes: script.as_bytes(),
+        piece,
+        reads,
+    };
+    let mut out = Taken {
+        bytes: Vec::new(rt.alloc()),
+        piece,
+        writes,
+    };
+    let mut fault = Vec::new(rt.alloc());
+    let status = run_play(rt.alloc(), &mut input, &mut out, &mut fault);
+    Played {
+        status,
+        answers: out.bytes,
+        fault,
+    }
+}
+
+fn check<R: Abort + AllocGlobal>(rt: &R, rows: &[Row]) {
+    for row in rows {
+        for piece in [1, 7, 512] {
+            let played = play(rt, row.script, piece, u64::MAX, u64::MAX);
+            let shows = row.shows;
+            assert_eq!(rt; played.status, 0, "{shows}");
+            assert!(rt;
+                played.answers.as_slice() == row.answers.as_bytes(),
+                "{shows}"
+            );
+            assert!(rt; played.fault.is_empty(), "{shows}");
+        }
+    }
+}
+
+#[test]
+fn plays_one_site(rt: HostRuntime) {
+    check(&rt, &ONE_SITE);
+}
+
+#[test]
+fn plays_several_sites(rt: HostRuntime) {
+    check(&rt, &SEVERAL_SITES);
+}
+
+#[test]
+fn a_failed_read_ends_with_status_3(rt: HostRuntime) {
+    let script = ONE_SITE[0].script;
+    for reads in 0..script.len() as u64 + 1 {
+        let played = play(&rt, script, 1, reads, u64::MAX);
+        assert_eq!(rt; played.status, 3, "after {reads} reads");
+        assert!(rt;
+            played.fault.as_slice() == b"fault input\n".as_slice(),
+            "after {reads} reads"
+        );
+        assert!(rt;
+            ONE_SITE[0].answers.as_bytes().starts_with(&played.answers),
+            "after {reads} reads"
+        );
+    }
+}
+
+#[test]
+fn a_failed_write_ends_with_status_3(rt: HostRuntime) {
+    let answers = ONE_SITE[0].answers.as_bytes();
+    for writes in 0..answers.len() {
+        let played = play(&rt, ONE_SITE[0].script, 1, u64::MAX, writes as u64);
+        assert_eq!(rt; played.status, 3, "after {writes} writes");
+        assert!(rt;
+            played.fault.as_slice() == b"fault output\n".as_slice(),
+            "after {writes} writes"
+        );
+        assert!(rt;
+            played.answers.as_slice() == &answers[..writes],
+            "after {writes} writes"
+        );
+    }
+}
+
+#[test]
+fn a_line_has_at_most_1024_bytes(rt: HostRuntime) -> Result<(), Fail> {
+    for (spaces, answers) in [(1016, "ok\n"), (1017, "bad line\n")] {
+        let mut script = Vec::new(rt.alloc());
+        for _ in 0..spaces {
+            script.push(b' ')?;
+        }
+        script.extend_from_slice(b"site 1 1\r\n")?;
+        let mut input = script.as_slice();
+        let mut out = Vec::new(rt.alloc());
+        let mut err = Vec::new(rt.alloc());
+        assert_eq!(rt; run_play(rt.alloc(), &mut input, &mut out, &mut err), 0);
+        assert!(rt; out.as_slice() == answers.as_bytes(), "{spaces} spaces");
+    }
+    Ok(())
+}
