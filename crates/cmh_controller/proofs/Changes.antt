@@ -1,13 +1,11 @@
 -- A controller after each kind of event, from what its parts have become.
-use Rattle.std.proofs.Common.{inl, inr, ◌≡◌, ◌≢◌, ℕ, Bool, true, false, cond, if◌then◌else◌, not, ◌&&◌, ◌==◌, List, Option, None, Some, MatchBool, refl, sym, ap, ◌∙◌, subst, true≢false}
-use Rattle.std.specs.FinSet as set
-use Rattle.std.proofs.lemmas.Bool.{cases_Bool}
+use Rattle.std.proofs.Common.{◌≡◌, ℕ, Bool, true, false, cond, if◌then◌else◌, not, ◌&&◌, ◌==◌, Option, refl, sym, ap, ◌∙◌, subst}
 use Rattle.cmh_frames.specs.Topology.{Topology, is_at}
-use Rattle.cmh_model.specs.declared.event.Event.TheVariants.{Ask, Reply}
+use Rattle.cmh_model.specs.declared.event.Event.TheVariants.{Reply}
 use Rattle.cmh_model.specs.Relation.{Relation, Numbers, has_some, without_pair, only_firsts}
 use Rattle.cmh_model.specs.State.{State}
-use Rattle.cmh_model.specs.Rules.{after, with_fewer_waits, declared_after, owed_after_ask}
-use Rattle.cmh_waits.specs.Held.{Held, is_member, asked, replied, got_reply, wakes}
+use Rattle.cmh_model.specs.Rules.{after, with_fewer_waits}
+use Rattle.cmh_waits.specs.Held.{Held, is_member, replied, got_reply, wakes}
 use Rattle.cmh_controller.specs.Controller.{Controller, state_of, IsOfSite}
 use Rattle.cmh_controller.proofs.Fewer.{keeps, forgets, remembers}
 

@@ -1,10 +1,7 @@
 -- What a removed wait leaves of the other sets.
-use Rattle.std.proofs.Common.{inl, inr, ◌≡◌, ◌≢◌, ℕ, Bool, true, false, not, ◌&&◌, ◌||◌, List, [], ◌∷◌, ◌==◌, refl, sym, ap, ◌∙◌, subst, true≢false}
-use Rattle.std.proofs.lemmas.Bool.{cases_Bool, cases_eq, and_parts, and_from, eqb-true, eq-eqb, ne_eqb}
-use Rattle.cmh_frames.specs.Topology.{Topology, is_at}
-use Rattle.cmh_model.specs.State.{State}
-use Rattle.cmh_model.specs.Rules.{with_fewer_waits, after}
-use Rattle.cmh_model.specs.Relation.{Relation, Numbers, has, has_some, without_pair, only_firsts}
+use Rattle.std.proofs.Common.{inl, inr, ◌≡◌, ◌≢◌, ℕ, Bool, true, false, not, ◌&&◌, ◌==◌, refl, sym, ap, ◌∙◌, true≢false}
+use Rattle.std.proofs.lemmas.Bool.{cases_Bool, cases_eq, and_parts, eq-eqb, ne_eqb}
+use Rattle.cmh_model.specs.Relation.{Relation, has, has_some, without_pair, only_firsts}
 use Rattle.cmh_model.proofs.Pairs.{has-only, has_some-from, has_some-to, has-without_other}
 use Rattle.cmh_waits.proofs.Sets.{same_relation}
 

@@ -1,5 +1,5 @@
 -- What a site holds is of its topology, at first and after each call.
-use Rattle.std.proofs.Common.{inl, inr, ◌≡◌, ◌≢◌, ◌↔◌, ℕ, Bool, true, false, true≢false, not, ◌&&◌, ◌||◌, ◌==◌, cond, List, [], ◌∷◌, Option, None, Some, IsSome, refl, sym, ap, ◌∙◌, subst}
+use Rattle.std.proofs.Common.{inl, inr, ◌≡◌, ◌≢◌, ◌↔◌, ℕ, Bool, true, false, true≢false, not, ◌&&◌, ◌==◌, cond, List, [], ◌∷◌, Some, IsSome, refl, sym, ◌∙◌, subst}
 use Rattle.std.specs.List.{AllByRecursion, list_any}
 use Rattle.std.proofs.lemmas.Bool.{cases_Bool, cases_eq, or_cases, and_parts, eqb-true}
 use Rattle.cmh_frames.specs.Topology.{Topology, At, home, is_at}

@@ -1,18 +1,17 @@
 -- The probes of a verdict are those of the rules.
-use Rattle.std.proofs.Common.{inl, inr, if◌then◌else◌, zero, suc, ◌≡◌, ◌≢◌, ◌↔◌, ℕ, ◌<◌, Bool, true, false, true≢false, List, [], ◌∷◌, ◌++◌, map, length, Contains, Option, None, Some, IsSome, MatchBool, refl, sym, ap, ◌∙◌, subst, arith}
+use Rattle.std.proofs.Common.{inl, inr, if◌then◌else◌, suc, ◌≡◌, ℕ, ◌<◌, Bool, true, false, true≢false, List, [], ◌∷◌, ◌++◌, map, length, Contains, Option, None, Some, IsSome, MatchBool, refl, sym, ap, ◌∙◌, subst, arith}
 use Rattle.std.specs.FinSet as set
 use Rattle.std.specs.List.{AllByRecursion}
-use Rattle.std.proofs.lemmas.Bool.{cases_Bool}
 use Rattle.cmh_frames.specs.declared.frame.Frame.{Frame}
 use Rattle.cmh_frames.specs.declared.frame.Frame.TheVariants.{Probe}
 use Rattle.cmh_frames.specs.Edition.{starts_at_ask}
-use Rattle.cmh_frames.specs.Topology.{Topology, At, home, is_at, site_of}
-use Rattle.cmh_model.specs.Relation.{Relation, Numbers, has, with_each}
+use Rattle.cmh_frames.specs.Topology.{Topology, At, home, site_of}
+use Rattle.cmh_model.specs.Relation.{Relation, Numbers, with_each}
 use Rattle.cmh_model.specs.Paths.{WaitsAmong, WaitsLocally, ReachesLocally, DependsOnItself as DependsLocally}
 use Rattle.cmh_model.specs.declared.event.Event.TheVariants.{Ask, Got}
 use Rattle.cmh_model.specs.Rules.{AreProbes, IsEdgeFrom, Sends, requests}
 use Rattle.cmh_model.proofs.PathLemmas.{path_map}
-use Rattle.cmh_waits.specs.Held.{Held, IsMember, is_member}
+use Rattle.cmh_waits.specs.Held.{Held, IsMember}
 use Rattle.cmh_rules.specs.Verdicts.{Reaches, DependsOnItself, LeavesFrom, AreProbesFrom, acts}
 use Rattle.cmh_controller.specs.Controller.{IsOfSite, state_of}
 use Rattle.cmh_controller.specs.Destinations.{addressed, receiver_of}

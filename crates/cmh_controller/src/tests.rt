@@ -116,123 +116,157 @@ fn declared(alloc: Global, controller: &Controller) -> Result<String, Fail> {
     Ok(text)
 }
 
-#[test]
-fn frames_and_asks_are_accepted_by_the_rules(rt: HostRuntime) -> Result<(), Fail> {
-    let alloc = rt.alloc();
-    let topology = topology(alloc, Edition::One, &[1], &[2])?;
-    let mut two = controller(alloc, &topology, 2)?;
-    let table = [
-        (got(1, reply(1, 2)?)?, "8"),
-        (got(2, request(1, 2)?)?, "8"),
-        (got(1, request(1, 2)?)?, "ok"),
-        (got(1, request(1, 2)?)?, "8"),
-        (ask(alloc, 1, &[2])?, "2"),
-        (ask(alloc, 9, &[2])?, "1"),
-        (got(1, probe(9, 1, 2)?)?, "8"),
-        (got(1, probe(1, 1, 2)?)?, "ok"),
-        (got(9, request(1, 2)?)?, "8"),
-    ];
-    for (event, want) in &table {
-        let text = answer(alloc, &mut two, event)?;
-        assert_eq!(rt; text.as_str(), *want, "at {event:?}");
+/// A step that must come to this.
+fn comes_to(
+    alloc: Global,
+    controller: &mut Controller,
+    event: Event,
+    want: &str,
+) -> Result<(), Fail> {
+    let text = answer(alloc, controller, &event)?;
+    if text.as_str() != want {
+        return Err(Fail::new("another answer"));
     }
     Ok(())
+}
+
+/// The controller of site 2, where process 1 is at site 1 and 2 at site 2.
+fn second(alloc: Global) -> Result<Controller, Fail> {
+    let topology = topology(alloc, Edition::One, &[1], &[2])?;
+    controller(alloc, &topology, 2)
+}
+
+#[test]
+fn a_request_is_taken_once_and_from_its_own_site(rt: HostRuntime) -> Result<(), Fail> {
+    let alloc = rt.alloc();
+    let mut two = second(alloc)?;
+    for (from, want) in [(2, "8"), (1, "ok"), (1, "8"), (9, "8")] {
+        comes_to(alloc, &mut two, got(from, request(1, 2)?)?, want)?;
+    }
+    Ok(())
+}
+
+#[test]
+fn only_what_is_waited_for_is_taken(rt: HostRuntime) -> Result<(), Fail> {
+    let alloc = rt.alloc();
+    let mut two = second(alloc)?;
+    comes_to(alloc, &mut two, got(1, reply(1, 2)?)?, "8")?;
+    for (origin, want) in [(9, "8"), (1, "ok")] {
+        comes_to(alloc, &mut two, got(1, probe(origin, 1, 2)?)?, want)?;
+    }
+    Ok(())
+}
+
+#[test]
+fn processes_of_other_sites_ask_there(rt: HostRuntime) -> Result<(), Fail> {
+    let alloc = rt.alloc();
+    let mut two = second(alloc)?;
+    for (asker, want) in [(1, "2"), (9, "1")] {
+        comes_to(alloc, &mut two, ask(alloc, asker, &[2])?, want)?;
+    }
+    Ok(())
+}
+
+/// A site whose processes 1 and 2 wait for each other.
+fn deadlocked(alloc: Global) -> Result<Controller, Fail> {
+    let topology = topology(alloc, Edition::One, &[1, 2], &[])?;
+    let mut one = controller(alloc, &topology, 1)?;
+    comes_to(alloc, &mut one, ask(alloc, 1, &[2])?, "ok")?;
+    comes_to(alloc, &mut one, ask(alloc, 2, &[1])?, "ok")?;
+    Ok(one)
 }
 
 #[test]
 fn two_that_wait_for_each_other_are_found(rt: HostRuntime) -> Result<(), Fail> {
     let alloc = rt.alloc();
-    let topology = topology(alloc, Edition::One, &[1, 2], &[])?;
-    let mut one = controller(alloc, &topology, 1)?;
-    let table = [
-        (ask(alloc, 1, &[2])?, "ok"),
-        (ask(alloc, 2, &[1])?, "ok"),
-        (start(1)?, "ok, declared 1"),
-        (start(1)?, "7"),
-    ];
-    for (event, want) in &table {
-        let text = answer(alloc, &mut one, event)?;
-        assert_eq!(rt; text.as_str(), *want, "at {event:?}");
+    let mut one = deadlocked(alloc)?;
+    for want in ["ok, declared 1", "7"] {
+        comes_to(alloc, &mut one, start(1)?, want)?;
     }
-    assert_eq!(rt; declared(alloc, &one.copy(alloc)?)?.as_str(), "1 ");
+    let copy = one.copy(alloc)?;
+    let text = declared(alloc, &copy)?;
+    assert_eq!(rt; text.as_str(), "1 ");
     Ok(())
 }
 
-/// In edition 2 an active process can be declared where a peer lies; its later asks still start computations.
+/// A site of edition 2 at which a lying peer had process 3 declared, which is active.
+fn deceived(alloc: Global) -> Result<Controller, Fail> {
+    let topology = topology(alloc, Edition::Two, &[1, 3], &[2])?;
+    let mut one = controller(alloc, &topology, 1)?;
+    comes_to(alloc, &mut one, ask(alloc, 1, &[3])?, "ok")?;
+    comes_to(alloc, &mut one, got(2, request(2, 1)?)?, "ok")?;
+    comes_to(alloc, &mut one, got(2, probe(3, 2, 1)?)?, "ok, declared 3")?;
+    Ok(one)
+}
+
+/// What an ask of the declared process comes to, and that no start of it is accepted afterwards.
+fn asks_of_declared(alloc: Global, targets: &[u16], want: &str) -> Result<(), Fail> {
+    let mut one = deceived(alloc)?;
+    comes_to(alloc, &mut one, ask(alloc, 3, targets)?, want)?;
+    comes_to(alloc, &mut one, start(3)?, "7")
+}
+
 #[test]
 fn an_ask_of_a_declared_process_starts_a_computation(rt: HostRuntime) -> Result<(), Fail> {
     let alloc = rt.alloc();
-    let topology = topology(alloc, Edition::Two, &[1, 3], &[2])?;
-    let mut one = controller(alloc, &topology, 1)?;
-    let before = [
-        (ask(alloc, 1, &[3])?, "ok"),
-        (got(2, request(2, 1)?)?, "ok"),
-        (got(2, probe(3, 2, 1)?)?, "ok, declared 3"),
-    ];
-    for (event, want) in &before {
-        let text = answer(alloc, &mut one, event)?;
-        assert_eq!(rt; text.as_str(), *want, "at {event:?}");
-    }
-    let asks = [
-        (
-            ask(alloc, 3, &[2])?,
-            "ok, request 3 2 to 2, probe 3 3 2 to 2",
-        ),
-        (ask(alloc, 3, &[1])?, "ok"),
-        (ask(alloc, 3, &[1, 2])?, "ok, request 3 2 to 2"),
-    ];
-    for (event, want) in &asks {
-        let mut copy = one.copy(alloc)?;
-        let text = answer(alloc, &mut copy, event)?;
-        assert_eq!(rt; text.as_str(), *want, "at {event:?}");
-        assert_eq!(rt; answer(alloc, &mut copy, &start(3)?)?.as_str(), "7");
-    }
-    Ok(())
+    asks_of_declared(alloc, &[2], "ok, request 3 2 to 2, probe 3 3 2 to 2")?;
+    asks_of_declared(alloc, &[1], "ok")?;
+    asks_of_declared(alloc, &[1, 2], "ok, request 3 2 to 2")
 }
 
-/// How far a replay of two entries comes: an ask of 1 for 2 that sent a frame, and a start.
-fn replayed(
-    alloc: Global,
-    number: u16,
-    frame: Frame,
-    started: Option<ProcId>,
-) -> Result<String, Fail> {
+fn sendings(alloc: Global, frame: Frame) -> Result<Sendings, Fail> {
+    let mut frames = Vec::new(alloc);
+    frames.push((site(2)?, frame))?;
+    Ok(Sendings::new(frames))
+}
+
+/// An ask of 1 for 2 that sent a frame, and a start that sent the probe of 1 and declared a process.
+fn entries(alloc: Global, frame: Frame, declared: Option<ProcId>) -> Result<Vec<Entry>, Fail> {
+    let mut entries = Vec::new(alloc);
+    entries.push(Entry {
+        event: ask(alloc, 1, &[2])?,
+        sent: sendings(alloc, frame)?,
+        declared: None,
+    })?;
+    entries.push(Entry {
+        event: start(1)?,
+        sent: sendings(alloc, probe(1, 1, 2)?)?,
+        declared,
+    })?;
+    Ok(entries)
+}
+
+/// How far a replay at a site comes.
+fn replayed(alloc: Global, number: u16, entries: &[Entry]) -> Result<String, Fail> {
     let topology = topology(alloc, Edition::One, &[1], &[2])?;
-    let mut asked = Vec::new(alloc);
-    asked.push((site(2)?, frame))?;
-    let mut probes = Vec::new(alloc);
-    probes.push((site(2)?, probe(1, 1, 2)?))?;
-    let entries = [
-        Entry {
-            event: ask(alloc, 1, &[2])?,
-            sent: Sendings::new(asked),
-            declared: None,
-        },
-        Entry {
-            event: start(1)?,
-            sent: Sendings::new(probes),
-            declared: started,
-        },
-    ];
-    match replay(alloc, &topology, site(number)?, &entries)? {
+    match replay(alloc, &topology, site(number)?, entries)? {
         Replayed::Whole(controller) => Ok(format!(in alloc; "site {}", controller.site().get())?),
         Replayed::StopsAt(entry) => Ok(format!(in alloc; "stops at {entry}")?),
     }
 }
 
 #[test]
+fn a_lawful_journal_is_replayed_whole_at_its_own_site(rt: HostRuntime) -> Result<(), Fail> {
+    let alloc = rt.alloc();
+    let entries = entries(alloc, request(1, 2)?, None)?;
+    for (number, want) in [(1, "site 1"), (2, "stops at 1"), (9, "stops at 1")] {
+        let text = replayed(alloc, number, &entries)?;
+        assert_eq!(rt; text.as_str(), want);
+    }
+    Ok(())
+}
+
+#[test]
 fn a_replay_stops_at_the_first_entry_that_differs(rt: HostRuntime) -> Result<(), Fail> {
     let alloc = rt.alloc();
-    let sent = request(1, 2)?;
-    let declared = Some(process(1)?);
-    assert_eq!(rt; replayed(alloc, 1, sent, None)?.as_str(), "site 1");
-    assert_eq!(rt; replayed(alloc, 1, sent, declared)?.as_str(), "stops at 2");
-    assert_eq!(rt;
-        replayed(alloc, 1, probe(1, 1, 2)?, None)?.as_str(),
-        "stops at 1"
-    );
-    assert_eq!(rt; replayed(alloc, 2, sent, None)?.as_str(), "stops at 1");
-    assert_eq!(rt; replayed(alloc, 9, sent, None)?.as_str(), "stops at 1");
+    let text = replayed(
+        alloc,
+        1,
+        &entries(alloc, request(1, 2)?, Some(process(1)?))?,
+    )?;
+    assert_eq!(rt; text.as_str(), "stops at 2");
+    let text = replayed(alloc, 1, &entries(alloc, probe(1, 1, 2)?, None)?)?;
+    assert_eq!(rt; text.as_str(), "stops at 1");
     Ok(())
 }
 

@@ -110,16 +110,17 @@ more_probes v processes p targets origin frames below up each so_far =
         λ c. elim (Contains-append_cases so_far.edges new edge c) [
           | inl d ↦ let old = (so_far.all edge).0 d in (Contains-append_left processes (p ∷ []) edge.0 old.0, old.1, old.2)
           | inr d ↦
-            let pair = from_pairs p targets edge d in
-            let wait = (each edge.1).0 pair.1 in
-            (subst (λ q. Contains (processes ++ p ∷ []) q) pair.0 (Contains-append_right processes (p ∷ []) p (0, omega arith, refl)), subst (λ q. has v.waits q edge.1 ≡ true) pair.0 wait.0, wait.1)
+              let pair = from_pairs p targets edge d in
+              let wait = (each edge.1).0 pair.1 in
+              (subst (λ q. Contains (processes ++ p ∷ []) q) pair.0 (Contains-append_right processes (p ∷ []) p (0, omega arith, refl)), subst (λ q. has v.waits q edge.1 ≡ true) pair.0 wait.0, wait.1)
         ],
         λ h. elim (Contains-append_cases processes (p ∷ []) edge.0 h.0) [
           | inl d ↦ Contains-append_left so_far.edges new edge ((so_far.all edge).1 (d, h.1, h.2))
           | inr d ↦
-            let is : p ≡ edge.0 = only d in
-            Contains-append_right so_far.edges new edge (subst (λ q. Contains {X = ℕ × ℕ} new (q, edge.1)) is (in_pairs p targets edge.1 ((each edge.1).1 (subst (λ q. has v.waits q edge.1 ≡ true) (sym is) h.1, h.2))))
-        ]);
+              let is : p ≡ edge.0 = only d in
+              Contains-append_right so_far.edges new edge (subst (λ q. Contains {X = ℕ × ℕ} new (q, edge.1)) is (in_pairs p targets edge.1 ((each edge.1).1 (subst (λ q. has v.waits q edge.1 ≡ true) (sym is) h.1, h.2))))
+        ],
+      );
       are = ap (λ fs. fs ++ map (λ to. Probe (origin, p, to)) targets) so_far.are ∙ sym (map-append (along origin) so_far.edges new ∙ ap (λ fs. map (along origin) so_far.edges ++ fs) (along_pairs targets));
     }
   where
@@ -136,9 +137,10 @@ pub probes_are : (v : Held) (reached : List ℕ) (origin from : ℕ) (frames : L
 probes_are v reached origin from frames all p = record {
   edges = p.edges;
   ascending = p.ascending;
-  all = λ edge.
-    (λ c. let e = (p.all edge).0 c in ((all edge.0).0 e.0, e.1, e.2),
-     λ e. (p.all edge).1 ((all edge.0).1 e.0, e.1, e.2));
+  all = λ edge. (
+    λ c. let e = (p.all edge).0 c in ((all edge.0).0 e.0, e.1, e.2),
+    λ e. (p.all edge).1 ((all edge.0).1 e.0, e.1, e.2),
+  );
   are = p.are;
 }
 

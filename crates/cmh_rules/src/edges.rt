@@ -4,11 +4,10 @@ ghost use Rattle.std.specs.Prelude.{◌≡◌, ◌≢◌, ℕ, ◌++◌, map, If
 ghost use Rattle.cmh_waits.specs.Held.{IsMember};
 ghost use Rattle.cmh_rules.specs.Verdicts.{AreProbesFrom};
 
-use std::alloc::{AllocError, Global};
-
 use cmh_dependents::local_reach;
 use cmh_frames::{Frame, Probe, ProcId};
 use cmh_waits::LocalWaits;
+use std::alloc::{AllocError, Global};
 
 /// The probes of the computation of `origin` along each wait that leaves the site from what `from` reaches.
 pub fn probes_from(

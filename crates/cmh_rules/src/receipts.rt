@@ -4,13 +4,11 @@ ghost use Rattle.std.specs.Prelude.{IfOk};
 ghost use Rattle.cmh_waits.specs.Held.{IsMember};
 ghost use Rattle.cmh_rules.specs.Verdicts.{IsReceipt};
 
-use std::alloc::{AllocError, Global};
-
+use crate::edges::probes_from;
 use cmh_dependents::{DependentSets, local_reach};
 use cmh_frames::{Frame, ProcId};
 use cmh_waits::LocalWaits;
-
-use crate::edges::probes_from;
+use std::alloc::{AllocError, Global};
 
 /// What the receipt of a probe comes to.
 #[derive(Debug, Drop)]

@@ -4,13 +4,11 @@ ghost use Rattle.std.specs.Prelude.{IfOk};
 ghost use Rattle.cmh_waits.specs.Held.{IsMember};
 ghost use Rattle.cmh_rules.specs.Verdicts.{IsStart};
 
-use std::alloc::{AllocError, Global};
-
+use crate::edges::probes_from;
 use cmh_dependents::on_local_cycle;
 use cmh_frames::{Frame, ProcId};
 use cmh_waits::LocalWaits;
-
-use crate::edges::probes_from;
+use std::alloc::{AllocError, Global};
 
 /// What the start of a probe computation for a process comes to.
 #[derive(Debug, Drop)]

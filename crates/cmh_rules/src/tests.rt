@@ -1,8 +1,5 @@
 //! Each verdict once, with ample memory.
 
-ghost use Rattle.std.specs.Prelude.{◌≤◌, length};
-ghost use Rattle.std.specs.List.Sorted.{IsStrictlyIncreasing};
-
 use crate::{ProbeVerdict, StartVerdict, on_probe, start};
 use cmh_dependents::DependentSets;
 use cmh_frames::{Frame, ProcId};
@@ -65,44 +62,60 @@ fn ask(waits: &mut LocalWaits, asker: u16, target: u16) -> Result<(), Fail> {
 }
 
 /// A site of processes 1 and 2, where 1 waits for 2 and 2 for another.
-fn waits_for(alloc: Global, members: &[ProcId], last: u16) -> Result<LocalWaits, Fail>
-    requires ascending { IsStrictlyIncreasing members.now }
-    requires few { length members.now ≤ 64 }
-{
-    let mut waits = LocalWaits::new(alloc, members)?;
+fn waits_for(alloc: Global, last: u16) -> Result<LocalWaits, Fail> {
+    let (one, two) = (process(1)?, process(2)?);
+    if one >= two {
+        return Err(Fail::new("no members"));
+    }
+    let mut waits = LocalWaits::new(alloc, &[one, two])?;
     ask(&mut waits, 1, 2)?;
     ask(&mut waits, 2, last)?;
     Ok(waits)
 }
 
-#[test]
-fn a_start_finds_a_cycle_or_sends_probes(rt: HostRuntime) -> Result<(), Fail> {
-    let alloc = rt.alloc();
-    let one = ProcId::new(1).expect(&rt, "a process");
-    let two = ProcId::new(2).expect(&rt, "a process");
-    let open = waits_for(alloc, &[one, two], 8)?;
-    assert_eq!(rt; start_text(alloc, &open, 1)?.as_str(), "frames, probe 1 2 8");
-    let closed = waits_for(alloc, &[one, two], 1)?;
-    assert_eq!(rt; start_text(alloc, &closed, 1)?.as_str(), "declared");
-    Ok(())
-}
-
-#[test]
-fn a_probe_acts_once_where_its_receiver_owes_the_sender(rt: HostRuntime) -> Result<(), Fail> {
-    let alloc = rt.alloc();
-    let one = ProcId::new(1).expect(&rt, "a process");
-    let two = ProcId::new(2).expect(&rt, "a process");
-    let nine = ProcId::new(9).expect(&rt, "a process");
-    let mut waits = waits_for(alloc, &[one, two], 8)?;
-    let mut dependents = DependentSets::new(alloc);
-    assert_eq!(rt; probe_text(alloc, &waits, &dependents, 5)?.as_str(), "ignored");
+/// Process 9, of another site, asks for what 1 holds.
+fn asked_by_another(waits: &mut LocalWaits) -> Result<(), Fail> {
+    let (one, nine) = (process(1)?, process(9)?);
     if !waits.is_member(one) || waits.is_member(nine) || waits.owes(one, nine) {
         return Err(Fail::new("no request"));
     }
     waits.got_request(one, nine)?;
-    assert_eq!(rt; probe_text(alloc, &waits, &dependents, 5)?.as_str(), "frames, probe 5 2 8");
-    assert_eq!(rt; probe_text(alloc, &waits, &dependents, 2)?.as_str(), "declared 2");
-    dependents.add(one, two)?;
-    assert_eq!(rt; probe_text(alloc, &waits, &dependents, 2)?.as_str(), "ignored");
+    Ok(())
+}
+
+#[test]
+fn a_start_finds_a_cycle_or_sends_probes(rt: HostRuntime) -> Result<(), Fail> {
+    let alloc = rt.alloc();
+    for (last, want) in [(8, "frames, probe 1 2 8"), (1, "declared")] {
+        let text = start_text(alloc, &waits_for(alloc, last)?, 1)?;
+        assert_eq!(rt; text.as_str(), want);
+    }
+    Ok(())
+}
+
+#[test]
+fn a_probe_to_one_that_owes_the_sender_nothing_is_ignored(rt: HostRuntime) -> Result<(), Fail> {
+    let alloc = rt.alloc();
+    let dependents = DependentSets::new(alloc);
+    let text = probe_text(alloc, &waits_for(alloc, 8)?, &dependents, 5)?;
+    assert_eq!(rt; text.as_str(), "ignored");
+    Ok(())
+}
+
+#[test]
+fn a_probe_finds_its_origin_or_goes_on(rt: HostRuntime) -> Result<(), Fail> {
+    let alloc = rt.alloc();
+    let mut waits = waits_for(alloc, 8)?;
+    asked_by_another(&mut waits)?;
+    let mut dependents = DependentSets::new(alloc);
+    dependents.add(process(1)?, process(7)?)?;
+    for (origin, want) in [
+        (5, "frames, probe 5 2 8"),
+        (2, "declared 2"),
+        (7, "ignored"),
+    ] {
+        let text = probe_text(alloc, &waits, &dependents, origin)?;
+        assert_eq!(rt; text.as_str(), want);
+    }
     Ok(())
 }

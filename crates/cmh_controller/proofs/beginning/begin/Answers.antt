@@ -1,4 +1,4 @@
-use Rattle.std.proofs.Common.{◌≡◌, List, ◌++◌, ℕ, IsSome, map, sym, subst}
+use Rattle.std.proofs.Common.{◌≡◌, List, ◌++◌, IsSome, map, sym, subst}
 use Rattle.std.specs.List.{AllByRecursion}
 use Rattle.std.proofs.lemmas.Result.{IfOk-weaker}
 use Rattle.cmh_frames.specs.declared.frame.Frame.{Frame}

@@ -1,4 +1,4 @@
-use Rattle.std.proofs.Common.{◌≡◌, ◌≤◌, ◌<◌, ◌↔◌, ℕ, List, Contains, length, take, arith, sym, ap, ◌∙◌, subst, ◌++◌, map}
+use Rattle.std.proofs.Common.{◌≡◌, ◌≤◌, ℕ, List, Contains, length, take, arith, sym, ap, ◌∙◌, subst, ◌++◌, map}
 use Rattle.std.specs.List.Sorted.{IsStrictlyIncreasing}
 use Rattle.std.proofs.Math.Seq.{take-length}
 use Rattle.cmh_frames.specs.declared.frame.Frame.TheVariants.{Probe}
@@ -37,4 +37,4 @@ returns c =
     let ended : i ≡ length reached = let past : length reached ≤ i = c.loop-process-test.false in omega arith in
     let all : take i reached ≡ c.in_ok-reached.reached.items = ap (λ k. take k reached) ended ∙ take-length reached ∙ c.deref-process-items.ensures.value in
     probes_are c.args.waits.now c.in_ok-reached.reached.items c.args.origin c.args.from c.loop-process.frames.items c.in_ok-reached.ensures.all
-      (subst (λ xs. AreProbesOf c.args.waits.now xs c.args.origin c.loop-process.frames.items) all c.loop-process.invariant)
+    (subst (λ xs. AreProbesOf c.args.waits.now xs c.args.origin c.loop-process.frames.items) all c.loop-process.invariant)

@@ -1,6 +1,6 @@
-use Rattle.std.proofs.Common.{◌≡◌, IsSome, List, ℕ, None, refl, sym, subst, ◌∙◌, ap}
+use Rattle.std.proofs.Common.{IsSome, None, refl, sym, subst, ◌∙◌, ap}
 use Rattle.cmh_frames.specs.Edition.{starts_at_ask}
-use Rattle.cmh_frames.specs.Topology.{Topology, At, home}
+use Rattle.cmh_frames.specs.Topology.{At, home}
 use Rattle.cmh_model.specs.declared.event.Event.TheVariants.{Ask}
 use Rattle.cmh_model.specs.Rules.{AreTargets, Sends}
 use Rattle.cmh_model.specs.Relation.{with_each}

@@ -1,4 +1,4 @@
-use Rattle.std.proofs.Common.{◌≡◌, ◌++◌, IsSome, List, ℕ, None, Some, if◌then◌else◌, map, sym, subst, ◌∙◌, ap}
+use Rattle.std.proofs.Common.{◌≡◌, ◌++◌, IsSome, List, None, Some, if◌then◌else◌, map, sym, subst, ◌∙◌, ap}
 use Rattle.std.specs.FinSet as set
 use Rattle.std.specs.List.{AllByRecursion}
 use Rattle.cmh_frames.specs.declared.frame.Frame.{Frame}
