@@ -9,20 +9,9 @@ beginning_refl xs = ([], append-nil xs)
 pub beginning_nil : {X : Type 0} (xs : List X) → IsBeginningOf [] xs
 beginning_nil xs = (xs, refl)
 
-pub beginning_append : {X : Type 0} (xs ys : List X) → IsBeginningOf xs (xs ++ ys)
-beginning_append xs ys = (ys, refl)
-
 pub beginning_trans : {X : Type 0} (xs ys zs : List X) → IsBeginningOf xs ys → IsBeginningOf ys zs → IsBeginningOf xs zs
 beginning_trans xs ys zs p q =
     (p.0 ++ q.0, sym (append_assoc xs p.0 q.0) ∙ ap (λ l. l ++ q.0) p.1 ∙ q.1)
-
--- a beginning of a longer list stays one
-pub beginning_longer : {X : Type 0} (xs ys zs : List X) → IsBeginningOf xs ys → IsBeginningOf xs (ys ++ zs)
-beginning_longer xs ys zs p = beginning_trans xs ys (ys ++ zs) p (zs, refl)
-
--- a beginning of a beginning, with one more before it
-pub beginning_cons : {X : Type 0} (x : X) (xs ys : List X) → IsBeginningOf xs ys → IsBeginningOf (x ∷ xs) (x ∷ ys)
-beginning_cons x xs ys p = (p.0, ap (λ l. x ∷ l) p.1)
 
 pub length-beginning : {X : Type 0} (xs ys : List X) → IsBeginningOf xs ys → length xs ≤ length ys
 length-beginning xs ys p = let e = length-append xs p.0 in let f = ap length p.1 in omega (arith, e, f)

@@ -1,10 +1,9 @@
 -- Journals read by a count for each.
-use Rattle.std.proofs.Common.{◌≡◌, ◌≢◌, ℕ, zero, suc, ◌+◌, ◌-◌, ◌<◌, ◌≤◌, ◌==◌, Bool, true, false, List, [], ◌∷◌, ◌++◌, length, take, drop, set, replicate, get_or, ◌⊎◌, inl, inr, ⊎_elim, sym, ap, subst, refl, ◌∙◌, if◌then◌else◌, arith, take-append-drop, take_all}
+use Rattle.std.proofs.Common.{◌≡◌, ◌≢◌, ℕ, zero, suc, ◌+◌, ◌<◌, ◌≤◌, ◌==◌, Bool, true, false, List, [], ◌∷◌, ◌++◌, length, take, drop, set, replicate, get_or, ◌⊎◌, inl, inr, ⊎_elim, sym, ap, subst, refl, ◌∙◌, if◌then◌else◌, arith, take-append-drop}
 use Rattle.std.proofs.lemmas.Bool.{cases_eq, eq-eqb, ne_eqb}
 use Rattle.std.proofs.lemmas.List.{take_more}
 use Rattle.cmh_frames.specs.Topology.{Topology}
 use Rattle.cmh_model.specs.declared.journal.Entry.{Entry}
-use Rattle.cmh_model.specs.Journals.{IsLawful}
 use Rattle.cmh_model.specs.Runs.{IsBeginningOf}
 use Rattle.cmh_journal.specs.Journal.{Journal}
 use Rattle.cmh_audit.specs.Journals.{journal_of, NoneAt, OneEach, entry_count}
@@ -124,17 +123,3 @@ lengths_more t js limits i j n l here are is =
     subst (λ xs. AreLawfulLengths t xs (limits ++ n ∷ [])) (sym (take_more js i j l ∙ ap (λ x. take i js ++ x ∷ []) (sym here))) (lengths_push t (take i js) limits j n are is)
 
 -- ---- a replay tells the lawful length
-
-pub whole_length : (t : Topology) (site : ℕ) (es : List Entry) → IsLawful t site es → IsLawfulLength t site es (length es)
-whole_length t site es lawful = record {
-  within = omega arith;
-  lawful = subst (IsLawful t site) (sym (take_all (length es) es (omega arith))) lawful;
-  stops = λ l. absurd (omega arith);
-}
-
-pub stop_length : (t : Topology) (site : ℕ) (es : List Entry) (n : ℕ) → 0 < n → n ≤ length es → IsLawful t site (take (n - 1) es) → (IsLawful t site (take n es) → ⊥) → IsLawfulLength t site es (n - 1)
-stop_length t site es n counted within lawful unlawful = record {
-  within = omega arith;
-  lawful = lawful;
-  stops = λ _ longer. let back : n - 1 + 1 ≡ n = omega arith in unlawful (subst (λ k. IsLawful t site (take k es)) back longer);
-}

@@ -46,9 +46,6 @@ or_false : (b : Bool) → (b || false) ≡ b
 or_false true = refl
 or_false false = refl
 
-pub adds_none : (a : BTreeSet ℕ) (e : Entry) → e.declared ≡ None → Adds a a (λ i. declares i e)
-adds_none a e none i = sym (ap (λ o. contains nat_cmp a i || is_positive (bit (is_some_of o i))) none ∙ or_false (contains nat_cmp a i))
-
 pub adds_one : (old new : BTreeSet ℕ) (e : Entry) (p : ℕ) → e.declared ≡ Some p → ((q : ℕ) → contains nat_cmp new q ≡ cond (is_at (nat_cmp p) q) true (contains nat_cmp old q)) → Adds old new (λ i. declares i e)
 adds_one old new e p is sets i =
     sets i ∙ ap (λ t. cond t true (contains nat_cmp old i)) (is_eq-nat_cmp p i) ∙ go (p == i) (contains nat_cmp old i)

@@ -25,15 +25,6 @@ other_number o n h e = true≢false (sym (eq-eqb n n refl) ∙ ap (λ p. option_
 
 -- ---- one round of waking
 
-pub wakes_start : (ready : List ℕ) (lacks : List (Option ℕ)) (from own : ℕ) → Wakes ready ready lacks lacks from own 0
-wakes_start ready lacks from own = record {
-  kept = λ k c. c;
-  inside = λ k c. inl c;
-  woken = λ k l. absurd (omega arith);
-  later = λ k l. refl;
-  bound = omega arith;
-}
-
 pub wakes_one : (first ready : List ℕ) (before lacks : List (Option ℕ)) (from own i : ℕ) → Wakes first ready before lacks from own i → i < length before → Wakes first (ready ++ i ∷ []) before (set lacks i None) from own (i + 1)
 wakes_one first ready before lacks from own i w l = record {
   kept = λ k c. contains_left ready (i ∷ []) k (w.kept k c);
@@ -208,9 +199,6 @@ listed_start t js limits links lacks ready empty long a = record {
 abbrev pub work : List Journal → List ℕ → List ℕ → ℕ
 work js counts ready = (entry_count js - total counts) * (length js + 1) + length ready
 
-pub work_popped : (js : List Journal) (counts first ready : List ℕ) (i : ℕ) → first ≡ ready ++ i ∷ [] → work js counts ready < work js counts first
-work_popped js counts first ready i e = let n = ap length e ∙ length-append ready (i ∷ []) in omega (arith, n)
-
 pub work_took : (t : Topology) (js : List Journal) (counts first ready before : List ℕ) (limits : List ℕ) (i lacking : ℕ) → AreLawfulLengths t js limits → length counts ≡ length js → total (set counts i (get_or counts i 0 + 1)) ≤ entry_count js → i < length js → before ≡ first ++ i ∷ [] → length ready ≤ length first + length js → work js (set counts i (get_or counts i 0 + 1)) ready < work js counts before
 work_took t js counts first ready before limits i lacking are each fits l e short =
     let n = ap length e ∙ length-append first (i ∷ []) in
@@ -270,9 +258,6 @@ work_step t js limits counts links lacks lent first ready next_ready after new f
     let F : ℕ → Type 0 = λ q. total (set counts i (q + 1)) ≤ entry_count js in
     let n = ap length same_lent ∙ s.long in
     subst W (sym same) (work_took t js counts ready next_ready first limits i 0 are s.merging.each (subst F same fits) inside p (omega (arith, short, n)))
-
-pub limit_within : (t : Topology) (js : List Journal) (limits : List ℕ) (i : ℕ) → AreLawfulLengths t js limits → (j : Journal) → i < length js → j ≡ get_or js i j → get_or limits i 0 ≤ length j.entries
-limit_within t js limits i are j l here = (limit_here t js limits i j are l here).within
 
 -- ---- a look, as the merge's loop has it: what it read is given by equations
 

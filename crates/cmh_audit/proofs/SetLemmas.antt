@@ -92,9 +92,6 @@ once_iff (j ∷ js) =
       λ one. none_or (has_journal js j.site) (repeats_site js) (at_none j.site js one.0) (more.1 one.1),
     )
 
-abbrev sites_in : List Journal → List ℕ
-sites_in js = map (λ (j : Journal). j.site) js
-
 has_in : (s : ℕ) (js : List Journal) → has_journal js s ≡ list_any (λ q. q == s) (map (λ (j : Journal). j.site) js)
 has_in s [] = refl
 has_in s (j ∷ js) = ap (λ t. (j.site == s) || t) (has_in s js)

@@ -1,7 +1,7 @@
 -- From where a merge is stuck to the stops, or to a run.
 use Rattle.std.proofs.Common.{◌≡◌, ◌≢◌, ℕ, zero, suc, ◌+◌, ◌-◌, ◌<◌, ◌≤◌, Bool, true, false, List, [], ◌∷◌, ◌++◌, length, map, take, get_or, ⊎_elim, sym, ap, subst, refl, ◌∙◌, append_assoc, append-nil, if◌then◌else◌, arith, take_all, length-take-le, take_at, lt_irrefl, lt_of_lt_of_le, cond}
 use Rattle.std.specs.Prelude.{nat_lt, Contains}
-use Rattle.std.specs.List.{HoldsAt, filter, AllByRecursion}
+use Rattle.std.specs.List.{filter, AllByRecursion}
 use Rattle.std.specs.List.Sorted.{IsStrictlyIncreasing}
 use Rattle.std.proofs.lemmas.Bool.{cases_eq, cases_lt, eq-eqb, ne_eqb, lt-ltb, le-ltb, ltb-true}
 use Rattle.std.proofs.lemmas.List.{take_more, get_or_read}
@@ -30,12 +30,6 @@ none_push site (x ∷ js) j none apart = (none.0, none_push site js j none.1 apa
 pub none_more : (site : ℕ) (js : List Journal) (i : ℕ) (j : Journal) → i < length js → j ≡ get_or js i j → j.site ≢ site → NoneAt site (take i js) → NoneAt site (take (i + 1) js)
 none_more site js i j l here apart none =
     subst (NoneAt site) (sym (take_more js i j l ∙ ap (λ x. take i js ++ x ∷ []) (sym here))) (none_push site (take i js) j none apart)
-
-pub none_all : (site : ℕ) (js : List Journal) (i : ℕ) → length js ≤ i → NoneAt site (take i js) → NoneAt site js
-none_all site js i l none = subst (NoneAt site) (take_all i js l) none
-
-pub at_place : (site : ℕ) (js : List Journal) (i : ℕ) (j : Journal) → i < length js → j ≡ get_or js i j → j.site ≡ site → (i < length js) × HoldsAt (λ (j : Journal). j.site ≡ site) js i
-at_place site js i j l here e = (l, λ d. ap (λ (y : Journal). y.site) (sym (get_or_read js i j l here d)) ∙ e)
 
 -- ---- the rows
 

@@ -47,9 +47,6 @@ pub turns_more : (a b c : BTreeSet (ℕ × ℕ)) (f g h : ℕ → ℕ → ℕ) �
 turns_more a b c f g h p q e j k =
     q j k ∙ ap (turned (g j k)) (p j k) ∙ sym (turned-plus (f j k) (g j k) (is_open a j k)) ∙ ap (λ n. turned n (is_open a j k)) (sym (e j k))
 
-pub turns_none : (a : BTreeSet (ℕ × ℕ)) (f : ℕ → ℕ → ℕ) → ((j k : ℕ) → f j k ≡ 0) → Turns a a f
-turns_none a f none j k = ap (λ n. turned n (is_open a j k)) (sym (none j k))
-
 at_pair : (asker holder j k : ℕ) → is_at (pair_cmp (asker, holder)) (j, k) ≡ ((asker == j) && (holder == k))
 at_pair asker holder j k =
     is_eq-then (nat_cmp asker j) (nat_cmp holder k) ∙ ap (λ x. x && is_eq (nat_cmp holder k)) (is_eq-nat_cmp asker j) ∙ ap (λ y. (asker == j) && y) (is_eq-nat_cmp holder k)

@@ -27,7 +27,7 @@ impl Model for Stops {
 }
 
 impl Stops {
-    pub fn new(rows: Vec<(SiteId, usize)>, tries: u64) -> Self
+    pub(crate) fn new(rows: Vec<(SiteId, usize)>, tries: u64) -> Self
         ensures rows { result.rows ≡ rows.items }
         ensures tries { result.tries ≡ tries }
     {
