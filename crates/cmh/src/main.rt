@@ -1,13 +1,19 @@
 //! The program: it reads its command line and calls a command.
 #![tactic(auto)]
 
-use clap::{Command, Error};
-use cmh_site::run_play;
+use clap::{Arg, ArgAction, ArgMatches, Command, Error, error};
+use cmh_site::{Fault, run_audit, run_play};
 use std::alloc::Global;
-use std::io::{Read, Write};
+use std::io::{ErrorKind, Read, Write};
 use std::process::ExitCode;
-use std::rt::Env;
-use std::{env, io};
+use std::rt::{Env, Files};
+use std::{env, fs, io};
+
+const AUDIT: &str = "audit";
+
+const TOPOLOGY: &str = "topology";
+
+const JOURNALS: &str = "journals";
 
 /// The command line.
 fn command<'a>(alloc: Global) -> Result<Command<'a>, Error> {
@@ -19,8 +25,30 @@ fn command<'a>(alloc: Global) -> Result<Command<'a>, Error> {
         .about(
             "Grants resources between processes of several sites, and finds their deadlocks by probes. Without a command it plays a script.",
         )
-        .subcommand(play)?;
+        .subcommand(play)?
+        .subcommand(audit_command(alloc)?)?;
     Ok(cmh)
+}
+
+fn audit_command<'a>(alloc: Global) -> Result<Command<'a>, Error> {
+    let topology = Arg::new(alloc, TOPOLOGY)
+        .long(TOPOLOGY)
+        .value_name("FILE")
+        .help("The JSON file that names the sites and their processes")
+        .required(true)
+        .action(ArgAction::Set);
+    let journals = Arg::new(alloc, JOURNALS)
+        .value_name("JOURNAL")
+        .help("The journal files of all sites, in any order")
+        .required(true)
+        .action(ArgAction::Append);
+    let audit = Command::new(alloc, AUDIT)
+        .about(
+            "Tells whether the journals of all sites come from one run, and who waits and is deadlocked at its end",
+        )
+        .arg(topology)?
+        .arg(journals)?;
+    Ok(audit)
 }
 
 fn words<R: Env + AllocGlobal>(rt: &R) -> io::Result<Vec<String>> {
@@ -32,7 +60,7 @@ fn words<R: Env + AllocGlobal>(rt: &R) -> io::Result<Vec<String>> {
 }
 
 /// Reads the command line and runs the command; answers the status.
-fn run<R: AllocGlobal + Env + Print + Eprint, I: Read, W: Write, E: Write>(
+fn run<R: AllocGlobal + Env + Files + Print + Eprint, I: Read, W: Write, E: Write>(
     rt: &R,
     input: &mut I,
     out: &mut W,
@@ -46,12 +74,61 @@ fn run<R: AllocGlobal + Env + Print + Eprint, I: Read, W: Write, E: Write>(
         return out_of_memory(err);
     };
     match command.try_get_matches_from(words.as_slice()) {
-        // `play` is what runs without a command, too.
-        Ok(_) => run_play(alloc, input, out, err),
+        Ok(matches) => carry_out(rt, &matches, input, out, err),
+        Err(error) if error.kind() == error::ErrorKind::OutOfMemory => out_of_memory(err),
         Err(error) => {
             let _ = error.print(rt);
             u8::try_from(error.exit_code()).unwrap_or(2)
         }
+    }
+}
+
+/// Runs the command that the words name; `play` where they name none.
+fn carry_out<R: AllocGlobal + Files, I: Read, W: Write, E: Write>(
+    rt: &R,
+    matches: &ArgMatches<'_>,
+    input: &mut I,
+    out: &mut W,
+    err: &mut E,
+) -> u8 {
+    let Some(audit) = matches.subcommand_matches(AUDIT) else {
+        return run_play(rt.alloc(), input, out, err);
+    };
+    match files_of(rt, audit) {
+        Ok(files) => run_audit(rt.alloc(), &files.topology, &files.journals, out, err),
+        Err(fault) => {
+            let _ = writeln!(err, "{fault}");
+            fault.status()
+        }
+    }
+}
+
+/// What the files of an audit hold.
+#[derive(Drop)]
+struct AuditFiles {
+    topology: Vec<u8>,
+    journals: Vec<Vec<u8>>,
+}
+
+/// Reads the files that the words name: the topology, and then the journals in their order.
+fn files_of<R: AllocGlobal + Files>(rt: &R, words: &ArgMatches<'_>) -> Result<AuditFiles, Fault> {
+    let path = words.get_str(TOPOLOGY).unwrap_or("");
+    let topology = read_file(rt, path, Fault::TopologyFile)?;
+    let mut journals = Vec::new(rt.alloc());
+    if let Some(paths) = words.get_strs(JOURNALS) {
+        for (i, path) in paths.iter().enumerate() {
+            journals.push(read_file(rt, *path, Fault::JournalFile(i + 1))?)?;
+        }
+    }
+    Ok(AuditFiles { topology, journals })
+}
+
+/// What a file holds; the fault is the one given, but where memory was refused.
+fn read_file<R: AllocGlobal + Files>(rt: &R, path: &str, fault: Fault) -> Result<Vec<u8>, Fault> {
+    match fs::read(rt, path) {
+        Ok(bytes) => Ok(bytes),
+        Err(error) if error.kind() == ErrorKind::OutOfMemory => Err(Fault::Memory),
+        Err(_) => Err(fault),
     }
 }
 

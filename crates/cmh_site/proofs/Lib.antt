@@ -1,9 +1,12 @@
 pub mod LinesSeen
 pub mod Deliveries
+pub mod FileLemmas
 pub mod Fresh
 pub mod Homes
+pub mod JsonLemmas
 pub mod LinkSteps
 pub mod Numerals
 pub mod Sendings
 pub mod SiteSteps
+pub mod TextLemmas
 pub mod WordSplits

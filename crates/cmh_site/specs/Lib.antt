@@ -1,7 +1,11 @@
-pub mod Lines
+pub mod AuditTexts
+pub mod Audits
 pub mod Draft
+pub mod Faults
+pub mod Lines
 pub mod Links
 pub mod Playground
 pub mod Sites
 pub mod Status
+pub mod TopologyFile
 pub mod Words

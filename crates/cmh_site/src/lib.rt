@@ -1,13 +1,19 @@
 //! The commands of the program `cmh`, over readers and writers.
 #![tactic(auto)]
 
+mod audit_texts;
+mod auditing;
 mod draft;
+mod faults;
 mod lines;
 mod links;
 mod play;
 mod playground;
 mod script;
 mod texts;
+mod topology_file;
 mod words;
 
+pub use crate::auditing::run_audit;
+pub use crate::faults::Fault;
 pub use crate::play::run_play;

@@ -1,68 +1,16 @@
 //! The command `play`: all sites of a world in memory, driven by a script.
 
-ghost use Rattle.std.specs.Prelude.{◌≡◌};
-ghost use Rattle.cmh_site.specs.declared.play.Fault.TheVariants.{Memory};
 ghost use Rattle.cmh_site.specs.Status.{IsStatus};
 
 use crate::draft::Draft;
-use crate::lines::{LineFault, NextLine, read_line};
+use crate::faults::Fault;
+use crate::lines::{NextLine, read_line};
 use crate::playground::{Delivery, Playground, Severance, Step};
 use crate::script::{Command, Line, parse};
 use crate::texts::Answer;
 use cmh_frames::{Edition, SiteRow};
 use std::alloc::{AllocError, Global};
-use std::fmt;
 use std::io::{BufReader, BufWriter, Read, Write};
-
-/// Why a script ends before all its lines are answered.
-#[derive(Clone, Copy, Debug, PartialEq, Eq)]
-enum Fault {
-    /// The script can't be read.
-    Input,
-    /// The answers can't be written.
-    Output,
-    /// Memory was refused, and no answer can say so.
-    Memory,
-}
-
-impl Fault {
-    /// The status with which the program ends.
-    fn status(self) -> u8
-        ensures { IsStatus result }
-    {
-        match self {
-            Fault::Memory => 1,
-            Fault::Input | Fault::Output => 3,
-        }
-    }
-}
-
-impl fmt::Display for Fault {
-    fn fmt<W: fmt::Write>(&self, f: &mut fmt::Formatter<W>) -> fmt::Result {
-        match self {
-            Fault::Input => write!(f, "fault input"),
-            Fault::Output => write!(f, "fault output"),
-            Fault::Memory => write!(f, "fault memory"),
-        }
-    }
-}
-
-impl From<AllocError> for Fault {
-    ghost from_gives = { λ _ e. e ≡ Memory };
-
-    fn from(_e: AllocError) -> Fault {
-        Fault::Memory
-    }
-}
-
-impl From<LineFault> for Fault {
-    fn from(fault: LineFault) -> Fault {
-        match fault {
-            LineFault::Input => Fault::Input,
-            LineFault::Memory => Fault::Memory,
-        }
-    }
-}
 
 /// Plays a script, and answers the status of the program: 0 at the script's end, 1 where memory ran out, 3 where the
 /// script can't be read or the answers can't be written. A fault is named on `err`, and a write to it that fails is
