@@ -1,9 +1,12 @@
 pub mod LinesSeen
 pub mod Deliveries
-pub mod Fresh
 pub mod Homes
 pub mod LinkSteps
 pub mod Numerals
 pub mod Sendings
-pub mod SiteSteps
 pub mod WordSplits
+pub mod Seats
+pub mod Takings
+pub mod Fresh
+pub mod Worlds
+pub mod TextLemmas

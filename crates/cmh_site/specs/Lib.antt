@@ -5,3 +5,4 @@ pub mod Playground
 pub mod Sites
 pub mod Status
 pub mod Words
+pub mod AuditTexts
