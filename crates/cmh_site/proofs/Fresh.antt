@@ -1,61 +1,51 @@
 -- The sites of a new world.
-use Rattle.std.proofs.Common.{◌≡◌, ℕ, Bool, true, false, cond, List, [], ◌∷◌, ◌++◌, Option, None, Some, ◌==◌, ◌||◌, refl, sym, ap, subst, ◌∙◌, nat_cmp, is_eq}
-use Rattle.std.proofs.lemmas.List.Folds.{list_any-append}
-use Rattle.std.specs.List.{list_any}
-use Rattle.std.specs.Map.{lookup}
-use Rattle.std.specs.Option.{ForSome, is_some}
-use Rattle.std.specs.Cmp.{unsigned_tied}
-use Rattle.std.specs.BTreeMap.{BTreeMap, get}
-use Rattle.cmh_frames.specs.Topology.{Topology, is_site, sites_of}
-use Rattle.cmh_controller.specs.Controller.{new_controller}
-use Rattle.cmh_site.specs.declared.playground.Site.{Site}
-use Rattle.cmh_site.specs.Sites.{IsPlaced, AreSitesOf}
-use Rattle.cmh_site.proofs.SiteSteps.{at_each}
+use Rattle.std.proofs.Common.{◌≡◌, ℕ, ◌==◌, Bool, true, false, List, [], ◌∷◌, ◌++◌, map, refl, sym, subst, ◌∙◌, arith}
+use Rattle.std.specs.Prelude.{if◌then◌else◌}
+use Rattle.std.proofs.lemmas.List.{map_push}
+use Rattle.std.proofs.lemmas.List.Elements.{All-push}
+use Rattle.cmh_frames.specs.Topology.{Topology}
+use Rattle.cmh_model.specs.declared.journal.Entry.{Entry}
+use Rattle.cmh_model.specs.Journals.{IsLawful, value}
+use Rattle.cmh_controller.specs.Controller.{Controller, new_controller}
+use Rattle.cmh_journal.specs.Journal.{Journal}
+use Rattle.cmh_audit.specs.Journals.{journal_of}
+use Rattle.cmh_site.specs.Sites.{controller_of, AreOfEdition, AreLawful, ArePlayed}
 
--- a site that took no step
-abbrev pub new_site : Topology → ℕ → Site
-new_site t s = record { controller = new_controller t s; steps = 0 }
+-- the sites of the list have a controller and a journal each, and none has taken a step
+pub record AreFresh (t : Topology) (cs : List Controller) (js : List Journal) (named : List ℕ) : Type 0 where
+  pub sites : map (λ (j : Journal). j.site) js ≡ named
+  pub edition : AreOfEdition t js
+  pub played : ArePlayed t cs js
+  pub no_entries : (s : ℕ) → journal_of js s ≡ []
 
--- the sites of the list stand in the map, and each is new
-pub record AreFresh (t : Topology) (sites : BTreeMap ℕ Site) (named : List ℕ) : Type 0 where
-  pub fresh : (s : ℕ) → ForSome (get nat_cmp sites s) (λ site. site ≡ new_site t s)
-  pub all : (s : ℕ) → is_some (get nat_cmp sites s) ≡ list_any (λ q. q == s) named
+pub fresh_none : (t : Topology) (cs : List Controller) (js : List Journal) → cs ≡ [] → js ≡ [] → AreFresh t cs js []
+fresh_none t cs js no_controllers no_journals =
+    subst (λ (xs : List Journal). AreFresh t cs xs []) (sym no_journals)
+    (record { sites = refl; edition = λ k d l. absurd (omega arith); played = no_controllers; no_entries = λ s. refl })
 
-pub fresh_none : (t : Topology) (m : BTreeMap ℕ Site) → m.entries ≡ [] → AreFresh t m []
-fresh_none t m empty = record {
-  fresh = λ s x e. let none = none_at s in absurd (cc);
-  all = λ s. ap is_some (none_at s);
+nothing_more : (js : List Journal) (j : Journal) (s : ℕ) → j.entries ≡ [] → journal_of js s ≡ [] → journal_of (js ++ j ∷ []) s ≡ []
+nothing_more [] j s none before = one (j.site == s)
+  where
+    one : (t : Bool) → (if t then j.entries else []) ≡ []
+    one true = none
+    one false = refl
+nothing_more (x ∷ js) j s none before = more (x.site == s) (λ e. nothing_more js j s none e) before
+  where
+    more : (t : Bool) → (journal_of js s ≡ [] → journal_of (js ++ j ∷ []) s ≡ []) → (if t then x.entries else journal_of js s) ≡ [] → (if t then x.entries else journal_of (js ++ j ∷ []) s) ≡ []
+    more true rest e = e
+    more false rest e = rest e
+
+pub fresh_more : (t : Topology) (cs : List Controller) (js : List Journal) (named : List ℕ) (s : ℕ) (c : Controller) (j : Journal) → AreFresh t cs js named
+    → c ≡ new_controller t s → j.site ≡ s → j.edition ≡ t.edition → j.entries ≡ [] → AreFresh t (cs ++ c ∷ []) (js ++ j ∷ []) (named ++ s ∷ [])
+fresh_more t cs js named s c j before made site edition entries = record {
+  sites = map_push (λ (x : Journal). x.site) js j ∙ (λ i. before.sites i ++ site i ∷ []);
+  edition = All-push (λ (x : Journal). x.edition ≡ t.edition) js j before.edition edition;
+  played = (λ i. before.played i ++ (made ∙ wrote) i ∷ []) ∙ sym (map_push (controller_of t) js j);
+  no_entries = λ q. nothing_more js j q entries (before.no_entries q);
 }
   where
-    none_at : (s : ℕ) → get nat_cmp m s ≡ None
-    none_at s = ap (lookup (λ k. is_eq (nat_cmp s k))) empty
+    wrote : new_controller t s ≡ controller_of t j
+    wrote = λ i. record { topology = t; site = sym site i; state = value t (sym site i) (sym entries i) }
 
-pub fresh_more : (t : Topology) (m n : BTreeMap ℕ Site) (named : List ℕ) (s : ℕ) (w : Site) → AreFresh t m named → w ≡ new_site t s
-    → ((q : ℕ) → get nat_cmp n q ≡ cond (is_eq (nat_cmp s q)) (Some w) (get nat_cmp m q)) → AreFresh t n (named ++ s ∷ [])
-fresh_more t m n named s w before made updates = record {
-  fresh = at_each m n s w updates (λ q o. ForSome o (λ x. x ≡ new_site t q)) (λ x e. let same : w ≡ x = cc in sym same ∙ made) before.fresh;
-  all = λ q. ap is_some (updates q) ∙ found (is_eq (nat_cmp s q)) (get nat_cmp m q) (list_any (λ x. x == q) named) (before.all q)
-      ∙ ap (λ t. list_any (λ x. x == q) named || (t || false)) (unsigned_tied s q)
-      ∙ sym (list_any-append (λ x. x == q) named (s ∷ []));
-}
-  where
-    found : (b : Bool) (o : Option Site) (any : Bool) → is_some o ≡ any → is_some (cond b (Some w) o) ≡ any || (b || false)
-    found true o true e = refl
-    found true o false e = refl
-    found false o true e = e
-    found false o false e = e
-
--- all sites of the topology stand there
-pub fresh_placed : (t u : Topology) (m : BTreeMap ℕ Site) (named : List ℕ) → AreFresh t m named → named ≡ sites_of t → u ≡ t → IsPlaced u m × AreSitesOf u m
-fresh_placed t u m named f same copied =
-    subst (λ (v : Topology). IsPlaced v m × AreSitesOf v m) (sym copied) (
-      (λ s x e. let made = f.fresh s x e in (ap (λ (y : Site). y.controller.topology) made, ap (λ (y : Site). y.controller.site) made)),
-      (λ s. f.all s ∙ ap (list_any (λ q. q == s)) same),
-    )
-
-pub fresh_at : (t : Topology) (m : BTreeMap ℕ Site) (named : List ℕ) → AreFresh t m named → named ≡ sites_of t → (s : ℕ) → is_site t s ≡ true → get nat_cmp m s ≡ Some (new_site t s)
-fresh_at t m named f same s known = go (get nat_cmp m s) refl (f.all s ∙ ap (list_any (λ q. q == s)) same ∙ known)
-  where
-    go : (o : Option Site) → get nat_cmp m s ≡ o → is_some (get nat_cmp m s) ≡ true → get nat_cmp m s ≡ Some (new_site t s)
-    go None e some = let no : false ≡ true = sym (ap is_some e) ∙ some in absurd (cc)
-    go (Some x) e some = e ∙ ap Some (f.fresh s x e)
+pub fresh_lawful : (t : Topology) (js : List Journal) → ((s : ℕ) → journal_of js s ≡ []) → AreLawful t js
+fresh_lawful t js none s = subst (λ (es : List Entry). ∥ IsLawful t s es ∥₁) (sym (none s)) ∣ tt ∣₁

@@ -7,6 +7,8 @@ pub mod JsonLemmas
 pub mod LinkSteps
 pub mod Numerals
 pub mod Sendings
-pub mod SiteSteps
 pub mod TextLemmas
 pub mod WordSplits
+pub mod Seats
+pub mod Takings
+pub mod Worlds

@@ -6,7 +6,7 @@ use Rattle.cmh_frames.specs.declared.rows.TopologyFault.{TopologyFault}
 use Rattle.cmh_frames.specs.declared.rows.TopologyFault.TheVariants.{Memory as NoTopology}
 use Rattle.cmh_journal.specs.Journal as journal
 use Rattle.cmh_journal.specs.declared.journal.JournalFault.{JournalFault}
-use Rattle.cmh_journal.specs.declared.journal.JournalFault.TheVariants.{BadHeader, BadEntry, Full, Memory as NoMemory}
+use Rattle.cmh_journal.specs.declared.journal.JournalFault.TheVariants.{BadEntry, Memory as NoMemory}
 use Rattle.cmh_audit.specs.Set as set
 use Rattle.cmh_site.specs.declared.faults.Fault.{Fault}
 use Rattle.cmh_site.specs.declared.lines.LineFault.{LineFault}

@@ -1,30 +1,35 @@
--- A world that is played: what its sites hold, what is under way on its links, and what each call does to them.
-use Rattle.std.specs.Prelude.{◌≡◌, ◌≢◌, ℕ, Bool, true, ◌&&◌, not, ◌==◌, ◌≤◌, ◌+◌, List, [], length, if◌then◌else◌, Option, None, Some, MatchOption, false}
-use Rattle.std.specs.Ordering.{nat_cmp}
-use Rattle.std.specs.BTreeMap.{get}
+-- A world that is played: the journals of its sites, what is under way on its links, and what each call does to them.
+use Rattle.std.specs.Prelude.{◌≡◌, ◌≢◌, ℕ, Bool, true, ◌&&◌, not, ◌==◌, List, [], ◌∷◌, ◌++◌, length, if◌then◌else◌, Option, None, Some, MatchOption, false}
 use Rattle.cmh_frames.specs.declared.frame.Frame.{Frame}
 use Rattle.cmh_frames.specs.Topology.{home, is_site}
 use Rattle.cmh_model.specs.declared.event.Event.{Event}
 use Rattle.cmh_model.specs.declared.event.Event.TheVariants.{Got}
-use Rattle.cmh_model.specs.Rules.{Accepts, Sends, after}
-use Rattle.cmh_controller.specs.Refusals.{Refuses}
+use Rattle.cmh_model.specs.declared.journal.Entry.{Entry}
+use Rattle.cmh_model.specs.Journals.{value}
+use Rattle.cmh_model.specs.Rules.{Accepts, Sends}
+use Rattle.cmh_model.specs.State.{State}
 use Rattle.cmh_controller.specs.declared.refusal.Refusal.TheVariants.{UnknownProcess}
+use Rattle.cmh_audit.specs.Journals.{journal_of}
 use Rattle.cmh_site.specs.Links.{link_of, link_after, goes, next_of, without_first}
-use Rattle.cmh_site.specs.declared.playground.Site.{Site}
-use Rattle.cmh_site.specs.declared.playground.Done.{Done}
+use Rattle.cmh_site.specs.Sites.{IsReasonOf}
+use Rattle.cmh_site.specs.declared.taking.Done.{Done}
 use Rattle.cmh_site.specs.declared.playground.Playground.{Playground}
-use Rattle.cmh_site.specs.declared.playground.Refused.{Refused}
-use Rattle.cmh_site.specs.declared.playground.Refused.TheVariants.{Full, Rule}
-use Rattle.cmh_site.specs.declared.playground.Step.{Step}
-use Rattle.cmh_site.specs.declared.playground.Step.TheVariants.{Taken, Refused as StepRefused}
+use Rattle.cmh_site.specs.declared.taking.Refused.{Refused}
+use Rattle.cmh_site.specs.declared.taking.Refused.TheVariants.{Rule}
+use Rattle.cmh_site.specs.declared.taking.Step.{Step}
+use Rattle.cmh_site.specs.declared.taking.Step.TheVariants.{Taken, Refused as StepRefused}
 use Rattle.cmh_site.specs.declared.playground.Delivery.{Delivery}
 use Rattle.cmh_site.specs.declared.playground.Delivery.TheVariants.{BadLink, Closed, Empty, Refused as DeliveryRefused, Got as Got_frame}
 use Rattle.cmh_site.specs.declared.playground.Severance.{Severance}
 use Rattle.cmh_site.specs.declared.playground.Severance.TheVariants.{BadLink as NoLink, Closed as CutBefore, Lost}
 
--- what the site holds and how many steps it took, where it is a site of the world
-abbrev pub site_at : Playground → ℕ → Option Site
-site_at world s = get nat_cmp world.sites s
+-- what the journal of a site holds; nothing, where there is no such site
+abbrev pub entries_at : Playground → ℕ → List Entry
+entries_at world s = journal_of world.journals.items s
+
+-- the state of a site's controller
+abbrev pub state_at : Playground → ℕ → State
+state_at world s = value world.topology s (entries_at world s)
 
 -- the frames under way from a to b, oldest first, or none where the link is cut
 abbrev pub link_at : Playground → ℕ → ℕ → Option (List Frame)
@@ -34,30 +39,24 @@ link_at world a b = link_of world.links a b
 abbrev pub is_link : Playground → ℕ → ℕ → Bool
 is_link world a b = not (a == b) && (is_site world.topology a && is_site world.topology b)
 
--- The site s took the event by the rules of its controller, and no other site changed.
+-- The site s took the event by the rules of its controller: its journal has the entry behind the others, and that of no
+-- other site changed.
 pub record Moves (old new : Playground) (s : ℕ) (event : Event) (sent : List (ℕ × Frame)) (declared : Option ℕ) : Type 0 where
-  pub before : Site
-  pub was : site_at old s ≡ Some before
-  pub accepted : Accepts old.topology s before.controller.state event
-  pub sends : Sends old.topology s before.controller.state event sent declared
-  pub becomes : site_at new s ≡ Some (record {
-    controller = record { topology = old.topology; site = s; state = after old.topology s before.controller.state event declared };
-    steps = before.steps + 1;
-  })
-  pub others : (q : ℕ) → q ≢ s → site_at new q ≡ site_at old q
+  pub accepted : Accepts old.topology s (state_at old s) event
+  pub sends : Sends old.topology s (state_at old s) event sent declared
+  pub grows : entries_at new s ≡ entries_at old s ++ record { event = event; sent = sent; declared = declared } ∷ []
+  pub others : (q : ℕ) → q ≢ s → entries_at new q ≡ entries_at old q
   pub topology : new.topology ≡ old.topology
 
 -- nothing has changed
 pub record IsUntouched (old new : Playground) : Type 0 where
-  pub sites : (s : ℕ) → site_at new s ≡ site_at old s
+  pub journals : (s : ℕ) → entries_at new s ≡ entries_at old s
   pub links : (a b : ℕ) → link_at new a b ≡ link_at old a b
   pub topology : new.topology ≡ old.topology
 
--- why the site s takes no step: its journal is full, or its controller refuses the event
+-- why the site s takes no step
 abbrev pub IsReason : Playground → ℕ → Event → Refused → Type 0
-IsReason world s event Full = (site : Site) × (site_at world s ≡ Some site) × (1000000 ≤ site.steps)
-IsReason world s event (Rule refusal) =
-    (site : Site) × (site_at world s ≡ Some site) × Refuses world.topology s site.controller.state event refusal
+IsReason world s event refused = IsReasonOf world.topology s (entries_at world s) event refused
 
 -- a step of s that came of an event
 pub record Steps (old new : Playground) (s : ℕ) (event : Event) (done : Done) : Type 0 where
@@ -100,5 +99,5 @@ IsSeverance old new a b NoLink = (is_link old a b ≡ false) × IsUntouched old 
 IsSeverance old new a b CutBefore = (is_link old a b ≡ true) × (link_at old a b ≡ None) × IsUntouched old new
 IsSeverance old new a b (Lost lost) =
     (is_link old a b ≡ true) × MatchOption (link_at old a b) ⊥ (λ frames. lost ≡ length frames)
-    × ((s : ℕ) → site_at new s ≡ site_at old s) × (new.topology ≡ old.topology)
+    × ((s : ℕ) → entries_at new s ≡ entries_at old s) × (new.topology ≡ old.topology)
     × ((c d : ℕ) → link_at new c d ≡ (if goes a b (record { from = c; to = d }) then None else link_at old c d))

@@ -10,6 +10,7 @@ mod links;
 mod play;
 mod playground;
 mod script;
+mod taking;
 mod texts;
 mod topology_file;
 mod words;

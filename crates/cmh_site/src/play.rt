@@ -2,12 +2,15 @@
 
 ghost use Rattle.cmh_site.specs.Status.{IsStatus};
 
+use crate::audit_texts::write_verdict;
 use crate::draft::Draft;
 use crate::faults::Fault;
 use crate::lines::{NextLine, read_line};
-use crate::playground::{Delivery, Playground, Severance, Step};
+use crate::playground::{Delivery, Playground, Severance};
 use crate::script::{Command, Line, parse};
+use crate::taking::Step;
 use crate::texts::Answer;
+use cmh_audit::Verdict;
 use cmh_frames::{Edition, SiteRow};
 use std::alloc::{AllocError, Global};
 use std::io::{BufReader, BufWriter, Read, Write};
@@ -50,18 +53,30 @@ fn answer_all<R: Read, W: Write>(alloc: Global, input: &mut R, out: &mut W) -> R
     let mut game = Game::new(alloc)?;
     let mut line = Vec::new(alloc);
     for _ in 0..u64::MAX {
-        let answer = match read_line(input, &mut line)? {
+        let reply = match read_line(input, &mut line)? {
             NextLine::End => return Ok(()),
-            NextLine::TooLong => Some(Answer::BadLine),
+            NextLine::TooLong => Reply::Line(Answer::BadLine),
             NextLine::Line => game.answer(parse(alloc, &line)?)?,
         };
-        if let Some(answer) = answer {
-            if writeln!(out, "{answer}").is_err() {
-                return Err(Fault::Output);
-            }
+        let written = match &reply {
+            Reply::Silent => Ok(()),
+            Reply::Line(answer) => writeln!(out, "{answer}"),
+            Reply::Report(edition, verdict) => write_verdict(out, *edition, verdict),
+        };
+        if written.is_err() {
+            return Err(Fault::Output);
         }
     }
     Err(Fault::Input)
+}
+
+/// What is written for a line of a script.
+#[derive(Debug, Drop)]
+enum Reply {
+    Silent,
+    Line(Answer),
+    /// The lines of the verdict on a world of this edition.
+    Report(Edition, Verdict),
 }
 
 /// A world that a script names and then plays.
@@ -82,13 +97,13 @@ impl Game {
         })
     }
 
-    fn answer(&mut self, line: Line) -> Result<Option<Answer>, AllocError> {
+    fn answer(&mut self, line: Line) -> Result<Reply, Fault> {
         Ok(match line {
-            Line::Silent => None,
-            Line::Bad => Some(Answer::BadLine),
-            Line::Edition(edition) => Some(self.set_edition(edition)?),
-            Line::Site(row) => Some(self.add(row)?),
-            Line::Command(command) => Some(self.command(command)?),
+            Line::Silent => Reply::Silent,
+            Line::Bad => Reply::Line(Answer::BadLine),
+            Line::Edition(edition) => Reply::Line(self.set_edition(edition)?),
+            Line::Site(row) => Reply::Line(self.add(row)?),
+            Line::Command(command) => self.command(command)?,
         })
     }
 
@@ -111,36 +126,37 @@ impl Game {
     }
 
     /// The first command closes the draft.
-    fn command(&mut self, command: Command) -> Result<Answer, AllocError> {
+    fn command(&mut self, command: Command) -> Result<Reply, Fault> {
         match &mut self.world {
-            Some(world) => carry_out(world, command),
+            Some(world) => carry_out(self.alloc, world, command),
             None => {
                 let mut world = Playground::new(self.alloc, self.draft.topology())?;
-                let answer = carry_out(&mut world, command)?;
+                let reply = carry_out(self.alloc, &mut world, command)?;
                 self.world = Some(world);
-                Ok(answer)
+                Ok(reply)
             }
         }
     }
 }
 
-fn carry_out(world: &mut Playground, command: Command) -> Result<Answer, AllocError> {
+fn carry_out(alloc: Global, world: &mut Playground, command: Command) -> Result<Reply, Fault> {
     Ok(match command {
-        Command::Act { process, event } => match world.act(process, event)? {
+        Command::Act { process, event } => Reply::Line(match world.act(process, event)? {
             Step::Taken(done) => Answer::Acted(done),
             Step::Refused(refused) => Answer::Refused(refused),
-        },
-        Command::Deliver { from, to } => match world.deliver(from, to)? {
+        }),
+        Command::Deliver { from, to } => Reply::Line(match world.deliver(from, to)? {
             Delivery::BadLink => Answer::BadLink,
             Delivery::Closed => Answer::Closed,
             Delivery::Empty => Answer::Empty,
             Delivery::Refused(refused) => Answer::Refused(refused),
             Delivery::Got(frame, done) => Answer::Got(frame, done),
-        },
-        Command::Cut { from, to } => match world.cut(from, to)? {
+        }),
+        Command::Cut { from, to } => Reply::Line(match world.cut(from, to)? {
             Severance::BadLink => Answer::BadLink,
             Severance::Closed => Answer::Closed,
             Severance::Lost(frames) => Answer::Lost(frames),
-        },
+        }),
+        Command::Report => Reply::Report(world.edition(), world.audit(alloc)?),
     })
 }

@@ -1,100 +1,36 @@
-//! A world that is played: the controllers of all its sites, and the links between them.
+//! A world that is played: the controllers of all its sites with their journals, and the links between them.
 
-ghost use Rattle.std.specs.Prelude.{◌≡◌, ◌≢◌, ◌≤◌, ◌<◌, ◌+◌, ℕ, true, false, None, Some, length, [], IfOk, OnOk, OnErr, IfErr, MatchOption, if◌then◌else◌, ◌==◌};
-ghost use Rattle.std.specs.Ordering.{nat_cmp};
-ghost use Rattle.std.specs.BTreeMap.{get};
-ghost use Rattle.cmh_frames.specs.Topology.{home, is_site};
-ghost use Rattle.cmh_model.specs.Journals.{frames_to};
-ghost use Rattle.cmh_model.specs.State.{empty_state};
-ghost use Rattle.cmh_controller.specs.Controller.{new_controller};
+ghost use Rattle.std.specs.Prelude.{◌≡◌, ◌<◌, ℕ, true, [], IfOk, OnOk, length, MatchOption, ◌↔◌, List};
+ghost use Rattle.std.specs.List.{HoldsAt};
+ghost use Rattle.std.specs.List.Sorted.{IsStrictlyIncreasing};
+ghost use Rattle.cmh_frames.specs.Topology.{is_site, sites_of};
+ghost use Rattle.cmh_journal.specs.Journal as journal;
+ghost use Rattle.cmh_audit.specs.Journals.{NoneAt};
 ghost use Rattle.cmh_site.specs.Links.{link_of, link_after};
-ghost use Rattle.cmh_site.specs.Sites.{AreSitesOf, IsPlaced, IsReasonOf, Takes};
+ghost use Rattle.cmh_site.specs.Sites.{AreLawful, AreOfEdition, ArePlaced, ArePlayed};
 
 use crate::links::Links;
+use crate::taking::{Done, Refused, Step, take};
+use cmh_audit::{AuditMemory, Verdict, audit};
 use cmh_controller::{Controller, Refusal};
-use cmh_frames::{Frame, ProcId, SiteId, Topology};
-use cmh_model::{Event, Outcome};
+use cmh_frames::{Edition, Frame, ProcId, SiteId, Topology};
+use cmh_journal::Journal;
+use cmh_model::Event;
 use std::alloc::{AllocError, Global};
-use std::collections::BTreeMap;
 
-/// The most steps that a site takes: its journal holds no more entries.
-const MAX_STEPS: u64 = 1_000_000;
-
-/// A site of the world: its controller, and how many steps that took.
-#[derive(Debug, Drop)]
-struct Site {
-    controller: Controller,
-    steps: u64,
-}
-
-/// A world that is played.
+/// A world that is played: of each site its controller and the journal of its steps, both in the order of the topology's
+/// sites, and the links between the sites.
 #[derive(Debug, Drop)]
 pub struct Playground {
     topology: Topology,
-    sites: BTreeMap<SiteId, Site>,
+    controllers: Vec<Controller>,
+    journals: Vec<Journal>,
     links: Links,
-    ghost placed: { IsPlaced topology sites },
-    ghost whole: { AreSitesOf topology sites },
-}
-
-/// What a step sent, in frames, and declared.
-#[derive(Clone, Copy, Debug, PartialEq, Eq)]
-pub struct Done {
-    pub sent: usize,
-    pub declared: Option<ProcId>,
-}
-
-/// Why a site took no step.
-#[derive(Clone, Copy, Debug, PartialEq, Eq)]
-pub enum Refused {
-    /// The controller refused the event.
-    Rule(Refusal),
-    /// The site's journal is full.
-    Full,
-}
-
-impl Refused {
-    ghost use Rattle.cmh_site.specs.Sites as spec;
-
-    /// The number that stands for the refusal in texts: the controller's, or 12.
-    pub const fn number(self) -> u8
-        ensures { result ≡ spec.number_of self }
-    {
-        match self {
-            Refused::Rule(refusal) => refusal.number(),
-            Refused::Full => 12,
-        }
-    }
-}
-
-impl Site {
-    /// Gives an event to the controller, if the site may take another step.
-    fn step(&mut self, event: &Event) -> Result<Outcome, Refused>
-        ensures taken { IfOk result (λ outcome. Takes self.old.controller self.new.controller event.now outcome.sent outcome.declared) }
-        ensures counted { OnOk result (self.new.steps ≡ self.old.steps + 1) }
-        ensures room { OnOk result (self.old.steps < MAX_STEPS) }
-
-        ensures refused { IfErr result (IsReasonOf self.old.controller self.old.steps event.now) }
-        ensures err { OnErr result (self.new ≡ self.old) }
-    {
-        if self.steps >= MAX_STEPS {
-            return Err(Refused::Full);
-        }
-        match self.controller.step(event) {
-            Ok(outcome) => {
-                self.steps += 1;
-                Ok(outcome)
-            }
-            Err(refusal) => Err(Refused::Rule(refusal)),
-        }
-    }
-}
-
-/// What came of an event.
-#[derive(Clone, Copy, Debug, PartialEq, Eq)]
-pub enum Step {
-    Taken(Done),
-    Refused(Refused),
+    ghost ascending: { IsStrictlyIncreasing (sites_of topology) },
+    ghost placed: { ArePlaced topology journals.items },
+    ghost edition: { AreOfEdition topology journals.items },
+    ghost lawful: { AreLawful topology journals.items },
+    ghost played: { ArePlayed topology controllers.items journals.items },
 }
 
 /// What came of handing over the next frame of a link.
@@ -123,28 +59,40 @@ pub enum Severance {
 }
 
 impl Playground {
-    ghost use Rattle.cmh_site.specs.Playground.{is_link, link_at, site_at, IsDelivery, IsSeverance, IsStep, IsStepOf};
+    ghost use Rattle.cmh_model.specs.declared.journal.WorldEvent.{WorldEvent};
+    ghost use Rattle.cmh_model.specs.Runs.{IsRun, ComesFrom};
+    ghost use Rattle.cmh_audit.specs.Reports.{Reports, IsInOrder};
+    ghost use Rattle.cmh_audit.specs.Stops.{AreStops};
+    ghost use Rattle.cmh_audit.specs.Verdicts.{IsAccepted, IfAccepted, IfRefused};
+    ghost use Rattle.cmh_site.specs.Playground.{is_link, link_at, entries_at, IsDelivery, IsSeverance, IsStep, IsStepOf};
 
     /// A world in which nothing has happened yet.
     pub fn new(alloc: Global, topology: &Topology) -> Result<Playground, AllocError>
         ensures topology { IfOk result (λ world. world.topology ≡ topology.now) }
-        ensures sites { IfOk result (λ world. (s : ℕ) → is_site topology.now s ≡ true →
-            site_at world s ≡ Some (record { controller = new_controller topology.now s; steps = 0 })) }
+        ensures journals { IfOk result (λ world. (s : ℕ) → entries_at world s ≡ []) }
         ensures links { IfOk result (λ world. (a b : ℕ) → link_at world a b ≡ Some []) }
     {
-        let mut sites = BTreeMap::new(alloc);
+        let mut controllers = Vec::new(alloc);
+        let mut journals = Vec::new(alloc);
         for site in topology.sites() {
             let Ok(controller) = Controller::new(alloc, topology, *site) else {
                 return Err(AllocError);
             };
-            let steps = 0;
-            sites.insert(*site, Site { controller, steps })?;
+            controllers.push(controller)?;
+            journals.push(Journal::new(alloc, topology.edition(), *site))?;
         }
         Ok(Playground {
             topology: topology.copy(alloc)?,
-            sites,
+            controllers,
+            journals,
             links: Links::new(alloc),
         })
+    }
+
+    pub fn edition(&self) -> Edition
+        ensures { result ≡ self.now.topology.edition }
+    {
+        self.topology.edition()
     }
 
     /// Gives an event to the controller of a process's home. Where memory runs out after the step, an error is answered,
@@ -201,27 +149,51 @@ impl Playground {
         from != to && self.topology.has_site(from) && self.topology.has_site(to)
     }
 
-    /// Gives an event to a site's controller, and puts what it sends on its links.
+    /// Gives an event to a site's controller; `take` says what comes of it.
     fn step(&mut self, site: SiteId, event: Event) -> Result<Step, AllocError>
         requires { is_site self.old.topology site ≡ true }
         ensures { IfOk result (IsStep self.old self.new site event) }
     {
-        let Some(taker) = self.sites.get_mut(&site) else {
-            // Never so: each site of the topology has its controller here.
+        let Some(place) = place_of(&self.journals, site) else {
+            // Never so: each site of the topology has its journal here.
             return Ok(Step::Refused(Refused::Rule(Refusal::UnknownProcess)));
         };
-        match taker.step(&event) {
-            Ok(outcome) => {
-                let sent = outcome.sent.as_slice();
-                send_all(&mut self.links, site, sent)?;
-                Ok(Step::Taken(Done {
-                    sent: sent.len(),
-                    declared: outcome.declared,
-                }))
-            }
-            Err(refused) => Ok(Step::Refused(refused)),
+        take(
+            &self.topology,
+            &mut self.controllers[place],
+            &mut self.journals[place],
+            &mut self.links,
+            event,
+        )
+    }
+
+    /// Audits the journals as they stand. The only error is want of memory.
+    pub fn audit(&self, alloc: Global) -> Result<Verdict, AuditMemory>
+        // Accepted exactly where the journals come from a run.
+        ensures accepted { IfOk result (λ v. IsAccepted v
+            ↔ ((events : List WorldEvent) × IsRun self.now.topology events × ComesFrom (entries_at self.now) events)) }
+
+        // The report holds of every run from which they come.
+        ensures report { IfOk result (λ v. IfAccepted v (λ report. (events : List WorldEvent) → IsRun self.now.topology events
+            → ComesFrom (entries_at self.now) events → Reports self.now.topology events report)) }
+        ensures order { IfOk result (λ v. IfAccepted v IsInOrder) }
+        ensures stops { IfOk result (λ v. IfRefused v (λ stops. AreStops self.now.topology self.now.journals.items stops.rows)) }
+    {
+        audit(alloc, &self.topology, &self.journals)
+    }
+}
+
+/// The place of a site's journal.
+fn place_of(journals: &[Journal], site: SiteId) -> Option<usize>
+    ensures { MatchOption result (NoneAt site journals.now)
+        (λ i. (i < length journals.now) × HoldsAt (λ (j : journal.Journal). j.site ≡ site) journals.now i) }
+{
+    for (i, journal) in journals.iter().enumerate() {
+        if journal.site() == site {
+            return Some(i);
         }
     }
+    None
 }
 
 fn got(from: SiteId, frame: &Frame) -> Event
@@ -231,14 +203,4 @@ fn got(from: SiteId, frame: &Frame) -> Event
         from,
         frame: *frame,
     }
-}
-
-/// Puts what a site sent on its links, in the order of sending.
-fn send_all(links: &mut Links, from: SiteId, sent: &[(SiteId, Frame)]) -> Result<(), AllocError>
-    ensures { OnOk result ((a b : ℕ) → link_of links.new a b ≡ link_after links.old from sent.now a b) }
-{
-    for (to, frame) in sent {
-        links.send(from, *to, *frame)?;
-    }
-    Ok(())
 }

@@ -26,6 +26,8 @@ pub enum Command {
     Deliver { from: SiteId, to: SiteId },
     /// Cuts a link.
     Cut { from: SiteId, to: SiteId },
+    /// Audits the journals as they stand.
+    Report,
 }
 
 /// What a line of a script says.
@@ -91,6 +93,7 @@ fn read_command(
         b"start" => start(numbers),
         b"deliver" => link(numbers).map(|(from, to)| Command::Deliver { from, to }),
         b"cut" => link(numbers).map(|(from, to)| Command::Cut { from, to }),
+        b"report" => report(numbers),
         _ => None,
     })
 }
@@ -143,6 +146,14 @@ fn start(numbers: &[u16]) -> Option<Command> {
         process: of,
         event: Event::Start { of },
     })
+}
+
+/// It stands alone on its line.
+fn report(numbers: &[u16]) -> Option<Command> {
+    match numbers {
+        [] => Some(Command::Report),
+        _ => None,
+    }
 }
 
 /// The sites that a link goes from and to.

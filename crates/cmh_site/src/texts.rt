@@ -1,6 +1,6 @@
 //! The answers of a script, as they are printed.
 
-use crate::playground::{Done, Refused};
+use crate::taking::{Done, Refused};
 use cmh_frames::{Frame, TopologyFault};
 use std::fmt;
 

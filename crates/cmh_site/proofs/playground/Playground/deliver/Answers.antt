@@ -1,7 +1,7 @@
 use Rattle.std.proofs.Common.{◌≡◌, sym, ◌∙◌, subst, refl, true}
 use Rattle.cmh_model.specs.declared.event.Event.{Event}
-use Rattle.cmh_site.specs.declared.playground.Step.{Step}
-use Rattle.cmh_site.specs.declared.playground.Step.TheVariants.{Taken}
+use Rattle.cmh_site.specs.declared.taking.Step.{Step}
+use Rattle.cmh_site.specs.declared.taking.Step.TheVariants.{Taken}
 use Rattle.cmh_site.specs.Playground.{is_link, IsStep}
 use Rattle.cmh_site.proofs.Deliveries.{ends_differ, delivered}
 use Rattle.cmh_site.proofs.playground.Playground.deliver.Goals as goal
