@@ -13,11 +13,16 @@ struct Row {
     answers: &'static str,
 }
 
-const ONE_SITE: [Row; 6] = [
+const ONE_SITE: [Row; 7] = [
+    Row {
+        shows: "the report gives a shortest cycle",
+        script: "site 1 1 2 3 4\nask 1 2 3\nask 2 4\nask 4 1\nask 3 1\nstart 1\nreport\n",
+        answers: "ok\nok sent 0\nok sent 0\nok sent 0\nok sent 0\nok sent 0 declared 1\naccepted\nevents 5\nwait 1 2\nwait 1 3\nwait 2 4\nwait 3 1\nwait 4 1\ndeclared 1 cycle 1 3 1\n",
+    },
     Row {
         shows: "a deadlock of two is declared once",
-        script: "site 1 1 2\nask 1 2\nask 2 1\nstart 1\nstart 1\n",
-        answers: "ok\nok sent 0\nok sent 0\nok sent 0 declared 1\nrefused 7\n",
+        script: "site 1 1 2\nask 1 2\nask 2 1\nstart 1\nstart 1\nreport\n",
+        answers: "ok\nok sent 0\nok sent 0\nok sent 0 declared 1\nrefused 7\naccepted\nevents 3\nwait 1 2\nwait 2 1\ndeclared 1 cycle 1 2 1\n",
     },
     Row {
         shows: "a lone process has nobody to ask or answer",
@@ -46,31 +51,36 @@ const ONE_SITE: [Row; 6] = [
     },
 ];
 
-const SEVERAL_SITES: [Row; 9] = [
+const SEVERAL_SITES: [Row; 10] = [
+    Row {
+        shows: "a lost frame stays in transit",
+        script: "edition 2\nsite 1 1\nsite 2 2\nask 1 2\nreport\ncut 1 2\nreport\n",
+        answers: "ok\nok\nok\nok sent 2\naccepted\nevents 1\nin transit 2\nwait 1 2\nok lost 2\naccepted\nevents 1\nin transit 2\nwait 1 2\n",
+    },
     Row {
         shows: "a probe comes home over two sites",
-        script: "site 1 1\nsite 2 2\nask 1 2\nask 2 1\ndeliver 1 2\ndeliver 2 1\nstart 1\ndeliver 1 2\ndeliver 2 1\n",
-        answers: "ok\nok\nok sent 1\nok sent 1\ngot request 1 2 sent 0\ngot request 2 1 sent 0\nok sent 1\ngot probe 1 1 2 sent 1\ngot probe 1 2 1 sent 0 declared 1\n",
+        script: "site 1 1\nsite 2 2\nask 1 2\nask 2 1\ndeliver 1 2\ndeliver 2 1\nstart 1\ndeliver 1 2\ndeliver 2 1\nreport\n",
+        answers: "ok\nok\nok sent 1\nok sent 1\ngot request 1 2 sent 0\ngot request 2 1 sent 0\nok sent 1\ngot probe 1 1 2 sent 1\ngot probe 1 2 1 sent 0 declared 1\naccepted\nevents 7\nwait 1 2\nwait 2 1\ndeclared 1 cycle 1 2 1\n",
     },
     Row {
         shows: "a probe declares its origin by local dependence",
-        script: "site 1 1 3\nsite 2 2\nask 1 2\nask 3 1\nask 2 3\ndeliver 1 2\ndeliver 2 1\nstart 1\ndeliver 1 2\ndeliver 2 1\n",
-        answers: "ok\nok\nok sent 1\nok sent 0\nok sent 1\ngot request 1 2 sent 0\ngot request 2 3 sent 0\nok sent 1\ngot probe 1 1 2 sent 1\ngot probe 1 2 3 sent 0 declared 1\n",
+        script: "site 1 1 3\nsite 2 2\nask 1 2\nask 3 1\nask 2 3\ndeliver 1 2\ndeliver 2 1\nstart 1\ndeliver 1 2\ndeliver 2 1\nreport\n",
+        answers: "ok\nok\nok sent 1\nok sent 0\nok sent 1\ngot request 1 2 sent 0\ngot request 2 3 sent 0\nok sent 1\ngot probe 1 1 2 sent 1\ngot probe 1 2 3 sent 0 declared 1\naccepted\nevents 8\nwait 1 2\nwait 2 3\nwait 3 1\ndeclared 1 cycle 1 2 3 1\n",
     },
     Row {
         shows: "a process that no longer owes ignores the probe",
-        script: "site 1 1\nsite 2 2 3\nask 1 2 3\ndeliver 1 2\ndeliver 1 2\nreply 2 1\nstart 1\nask 2 1\ndeliver 1 2\ndeliver 1 2\ndeliver 2 1\ndeliver 2 1\n",
-        answers: "ok\nok\nok sent 2\ngot request 1 2 sent 0\ngot request 1 3 sent 0\nok sent 1\nok sent 2\nok sent 1\ngot probe 1 1 2 sent 0\ngot probe 1 1 3 sent 0\ngot reply 2 1 sent 0\ngot request 2 1 sent 0\n",
+        script: "site 1 1\nsite 2 2 3\nask 1 2 3\ndeliver 1 2\ndeliver 1 2\nreply 2 1\nstart 1\nask 2 1\ndeliver 1 2\ndeliver 1 2\ndeliver 2 1\ndeliver 2 1\nreport\n",
+        answers: "ok\nok\nok sent 2\ngot request 1 2 sent 0\ngot request 1 3 sent 0\nok sent 1\nok sent 2\nok sent 1\ngot probe 1 1 2 sent 0\ngot probe 1 1 3 sent 0\ngot reply 2 1 sent 0\ngot request 2 1 sent 0\naccepted\nevents 10\nwait 1 3\nwait 2 1\n",
     },
     Row {
         shows: "a newer request stands behind the probe",
-        script: "site 1 1\nsite 2 2\nask 1 2\ndeliver 1 2\nreply 2 1\nstart 1\ndeliver 2 1\nask 2 1\nask 1 2\ndeliver 1 2\ndeliver 1 2\ndeliver 2 1\n",
-        answers: "ok\nok\nok sent 1\ngot request 1 2 sent 0\nok sent 1\nok sent 1\ngot reply 2 1 sent 0\nok sent 1\nok sent 1\ngot probe 1 1 2 sent 0\ngot request 1 2 sent 0\ngot request 2 1 sent 0\n",
+        script: "site 1 1\nsite 2 2\nask 1 2\ndeliver 1 2\nreply 2 1\nstart 1\ndeliver 2 1\nask 2 1\nask 1 2\ndeliver 1 2\ndeliver 1 2\ndeliver 2 1\nreport\n",
+        answers: "ok\nok\nok sent 1\ngot request 1 2 sent 0\nok sent 1\nok sent 1\ngot reply 2 1 sent 0\nok sent 1\nok sent 1\ngot probe 1 1 2 sent 0\ngot request 1 2 sent 0\ngot request 2 1 sent 0\naccepted\nevents 10\nwait 1 2\nwait 2 1\n",
     },
     Row {
         shows: "a cut link loses its frames and those sent later",
-        script: "site 1 1\nsite 2 2\nask 1 2\ncut 1 2\nstart 1\ndeliver 1 2\ncut 1 2\ndeliver 2 1\n",
-        answers: "ok\nok\nok sent 1\nok lost 1\nok sent 1\nclosed\nclosed\nempty\n",
+        script: "site 1 1\nsite 2 2\nask 1 2\ncut 1 2\nstart 1\ndeliver 1 2\ncut 1 2\ndeliver 2 1\nreport\n",
+        answers: "ok\nok\nok sent 1\nok lost 1\nok sent 1\nclosed\nclosed\nempty\naccepted\nevents 2\nwait 1 2\n",
     },
     Row {
         shows: "links are between two different known sites",
@@ -84,13 +94,13 @@ const SEVERAL_SITES: [Row; 9] = [
     },
     Row {
         shows: "edition 1 misses a deadlock whose start came too early",
-        script: "site 1 1\nsite 2 2 3\nask 1 2\nask 2 3\ndeliver 1 2\nstart 1\ndeliver 1 2\nask 3 1\ndeliver 2 1\nstart 1\ndeliver 1 2\n",
-        answers: "ok\nok\nok sent 1\nok sent 0\ngot request 1 2 sent 0\nok sent 1\ngot probe 1 1 2 sent 0\nok sent 1\ngot request 3 1 sent 0\nok sent 1\ngot probe 1 1 2 sent 0\n",
+        script: "site 1 1\nsite 2 2 3\nask 1 2\nask 2 3\ndeliver 1 2\nstart 1\ndeliver 1 2\nask 3 1\ndeliver 2 1\nstart 1\ndeliver 1 2\nreport\n",
+        answers: "ok\nok\nok sent 1\nok sent 0\ngot request 1 2 sent 0\nok sent 1\ngot probe 1 1 2 sent 0\nok sent 1\ngot request 3 1 sent 0\nok sent 1\ngot probe 1 1 2 sent 0\naccepted\nevents 9\nwait 1 2\nwait 2 3\nwait 3 1\n",
     },
     Row {
         shows: "edition 2 finds that deadlock by itself",
-        script: "edition 2\nsite 1 1\nsite 2 2 3\nask 1 2\nask 2 3\ndeliver 1 2\ndeliver 1 2\nask 3 1\ndeliver 2 1\ndeliver 2 1\ndeliver 1 2\n",
-        answers: "ok\nok\nok\nok sent 2\nok sent 0\ngot request 1 2 sent 0\ngot probe 1 1 2 sent 0\nok sent 2\ngot request 3 1 sent 0\ngot probe 3 3 1 sent 1\ngot probe 3 1 2 sent 0 declared 3\n",
+        script: "edition 2\nsite 1 1\nsite 2 2 3\nask 1 2\nask 2 3\ndeliver 1 2\ndeliver 1 2\nask 3 1\ndeliver 2 1\ndeliver 2 1\ndeliver 1 2\nreport\n",
+        answers: "ok\nok\nok\nok sent 2\nok sent 0\ngot request 1 2 sent 0\ngot probe 1 1 2 sent 0\nok sent 2\ngot request 3 1 sent 0\ngot probe 3 3 1 sent 1\ngot probe 3 1 2 sent 0 declared 3\naccepted\nevents 8\ndrained\nwait 1 2\nwait 2 3\nwait 3 1\ndeclared 3 cycle 3 1 2 3\n",
     },
 ];
 
