@@ -13,7 +13,22 @@ struct Row {
     answers: &'static str,
 }
 
-const ONE_SITE: [Row; 7] = [
+const ONE_SITE: [Row; 10] = [
+    Row {
+        shows: "of shortest cycles the report gives the least",
+        script: "site 1 1 2 3\nask 1 2 3\nask 2 1\nask 3 1\nstart 1\nreport\n",
+        answers: "ok\nok sent 0\nok sent 0\nok sent 0\nok sent 0 declared 1\naccepted\nevents 4\nwait 1 2\nwait 1 3\nwait 2 1\nwait 3 1\ndeclared 1 cycle 1 2 1\n",
+    },
+    Row {
+        shows: "in edition 2 each ask that closes a cycle declares its asker",
+        script: "edition 2\nsite 1 1 2 3\nask 1 2 3\nask 2 1\nask 3 1\nstart 1\nreport\n",
+        answers: "ok\nok\nok sent 0\nok sent 0 declared 2\nok sent 0 declared 3\nok sent 0 declared 1\naccepted\nevents 4\ndrained\nwait 1 2\nwait 1 3\nwait 2 1\nwait 3 1\ndeclared 1 cycle 1 2 1\ndeclared 2 cycle 2 1 2\ndeclared 3 cycle 3 1 3\n",
+    },
+    Row {
+        shows: "in edition 2 nobody has to start the computation",
+        script: "edition 2\nsite 1 1 2\nask 1 2\nask 2 1\nreport\n",
+        answers: "ok\nok\nok sent 0\nok sent 0 declared 2\naccepted\nevents 2\ndrained\nwait 1 2\nwait 2 1\ndeclared 2 cycle 2 1 2\n",
+    },
     Row {
         shows: "the report gives a shortest cycle",
         script: "site 1 1 2 3 4\nask 1 2 3\nask 2 4\nask 4 1\nask 3 1\nstart 1\nreport\n",
@@ -51,7 +66,17 @@ const ONE_SITE: [Row; 7] = [
     },
 ];
 
-const SEVERAL_SITES: [Row; 10] = [
+const SEVERAL_SITES: [Row; 12] = [
+    Row {
+        shows: "dependents are forgotten when their process becomes active",
+        script: "site 1 1\nsite 2 2 3\nask 1 2\nask 2 3\ndeliver 1 2\nstart 1\ndeliver 1 2\nreply 3 2\nask 2 1\ndeliver 2 1\nstart 1\ndeliver 1 2\ndeliver 2 1\nreport\n",
+        answers: "ok\nok\nok sent 1\nok sent 0\ngot request 1 2 sent 0\nok sent 1\ngot probe 1 1 2 sent 0\nok sent 0\nok sent 1\ngot request 2 1 sent 0\nok sent 1\ngot probe 1 1 2 sent 1\ngot probe 1 2 1 sent 0 declared 1\naccepted\nevents 11\nwait 1 2\nwait 2 1\ndeclared 1 cycle 1 2 1\n",
+    },
+    Row {
+        shows: "an empty world of edition 2 is drained",
+        script: "edition 2\nsite 1 1\nsite 2 2\nreport\n",
+        answers: "ok\nok\nok\naccepted\nevents 0\ndrained\n",
+    },
     Row {
         shows: "a lost frame stays in transit",
         script: "edition 2\nsite 1 1\nsite 2 2\nask 1 2\nreport\ncut 1 2\nreport\n",
