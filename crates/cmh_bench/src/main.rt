@@ -10,6 +10,9 @@ use std::io::{Read, Write};
 use std::process::ExitCode;
 use std::{env, io};
 
+#[cfg(test)]
+mod tests;
+
 /// How many bytes are read at once.
 const PIECE_LEN: usize = 65536;
 
