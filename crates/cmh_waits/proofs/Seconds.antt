@@ -1,34 +1,19 @@
 -- The processes that one is paired with.
-use Rattle.std.proofs.Common.{◌≡◌, ◌↔◌, ℕ, suc, zero, ◌<◌, Bool, true, false, not, ◌&&◌, ◌||◌, List, [], ◌∷◌, ◌==◌, map, length, get_or, cond, refl, sym, ap, ◌∙◌, subst, inl, inr, true≢false, arith, Less, nat_cmp, Contains, Result, Ok, Err, IfOk, Vec}
+use Rattle.std.proofs.Common.{◌≡◌, ◌↔◌, ℕ, Bool, true, false, not, ◌&&◌, ◌||◌, List, [], ◌∷◌, ◌==◌, map, cond, refl, sym, ap, ◌∙◌, subst, inl, inr, true≢false, Less, nat_cmp, Contains, Result, Ok, Err, IfOk, Vec}
 use Rattle.std.specs.FinSet as set
 use Rattle.std.specs.Ordering.{ordering_then}
 use Rattle.std.specs.List.{list_any, filter, AllByRecursion}
 use Rattle.std.specs.List.Sorted.{IsStrictlySortedBy, IsStrictlyIncreasing}
-use Rattle.std.proofs.lemmas.Bool.{eqb-true, eq-eqb, and_parts, and_from, cases_Bool, or_cases, or_left, or_right}
+use Rattle.std.proofs.lemmas.Bool.{eqb-true, eq-eqb, and_parts, and_from, cases_Bool, or_left, or_right}
 use Rattle.std.proofs.lemmas.Map.Keys.{IsStrictlyIncreasing-from_sorted}
 use Rattle.std.proofs.lemmas.Cmp.{tied_itself, nat_cmp_total}
 use Rattle.cmh_model.specs.Relation.{Relation, pair_cmp, has, is_pair, with_pair, with_each, only_firsts}
+use Rattle.cmh_model.proofs.Members.{found_at, found_from}
 use Rattle.cmh_model.proofs.Pairs.{has-only}
 use Rattle.cmh_waits.specs.Held.{Held, IsMember, is_member, asked}
 use Rattle.cmh_model.specs.Rules.{owed_after_ask}
 use Rattle.cmh_waits.specs.Pairs.{seconds_of, with_all}
 use Rattle.cmh_waits.proofs.Sets.{has-from_list}
-
--- membership, as a test and as a place
-pub found_at : (xs : List ℕ) (k : ℕ) → list_any (λ q. q == k) xs ≡ true → Contains xs k
-found_at [] k h = absurd (true≢false (sym h))
-found_at (x ∷ xs) k h = elim (or_cases (x == k) (list_any (λ q. q == k) xs) h) [
-  | inl e ↦ (0, omega arith, eqb-true x k e)
-  | inr e ↦ let later = found_at xs k e in (suc later.0, let below : later.0 < length xs = later.1 in omega arith, later.2)
-]
-
-pub found_from : (xs : List ℕ) (k : ℕ) → Contains xs k → list_any (λ q. q == k) xs ≡ true
-found_from xs k c = go xs c.0 c.1 c.2
-  where
-    go : (xs : List ℕ) (i : ℕ) → i < length xs → get_or xs i k ≡ k → list_any (λ q. q == k) xs ≡ true
-    go [] i h e = absurd (omega arith)
-    go (x ∷ xs) zero h e = or_left (x == k) (list_any (λ q. q == k) xs) (eq-eqb x k e)
-    go (x ∷ xs) (suc i) h e = or_right (x == k) (list_any (λ q. q == k) xs) (go xs i (omega arith) e)
 
 one_more : (s t t' a : Bool) → (s ≡ true → t ≡ t') → cond t (s || (a && t')) (a && t') ≡ ((s || a) && t')
 one_more true true true a h = refl
