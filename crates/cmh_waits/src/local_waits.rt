@@ -66,7 +66,7 @@ impl LocalWaits {
     pub fn is_member(&self, process: ProcId) -> bool
         ensures { result ≡ is_member self.now process }
     {
-        self.members.contains(&process)
+        is_among(&self.members, process)
     }
 
     /// Whether the process waits for some process.
@@ -134,7 +134,7 @@ impl LocalWaits {
         ensures woke { result ≡ wakes self.old self.new asker }
     {
         self.owed.remove(holder, asker);
-        if !self.members.contains(&asker) {
+        if !is_among(&self.members, asker) {
             return false;
         }
         end_wait(&mut self.waits, asker, holder)
@@ -211,11 +211,12 @@ fn owed_by_members(
     asker: ProcId,
     targets: &[ProcId],
 ) -> Result<Vec<(ProcId, ProcId)>, AllocError>
+    requires { IsStrictlyIncreasing members.now }
     ensures { IfOk result (λ pairs. pairs.items ≡ map (λ k. (k, asker)) (filter (λ k. list_any (λ q. q == k) members.now) targets.now)) }
 {
     targets
         .iter()
-        .filter(|target| members.contains(target))
+        .filter(|target| is_among(members, **target))
         .map(|target| (*target, asker))
         .collect(alloc)
 }
@@ -256,11 +257,12 @@ fn seconds_within(
     pairs: &[(ProcId, ProcId)],
     members: &[ProcId],
 ) -> Result<Vec<ProcId>, AllocError>
+    requires { IsStrictlyIncreasing members.now }
     ensures { IfOk result (λ seconds. seconds.items ≡ seconds_of pairs.now (λ k. list_any (λ q. q == k) members.now)) }
 {
     pairs
         .iter()
-        .filter(|pair| members.contains(&pair.1))
+        .filter(|pair| is_among(members, pair.1))
         .map(|pair| pair.1)
         .collect(alloc)
 }
@@ -271,11 +273,12 @@ fn seconds_outside(
     pairs: &[(ProcId, ProcId)],
     members: &[ProcId],
 ) -> Result<Vec<ProcId>, AllocError>
+    requires { IsStrictlyIncreasing members.now }
     ensures { IfOk result (λ seconds. seconds.items ≡ seconds_of pairs.now (λ k. not (list_any (λ q. q == k) members.now))) }
 {
     pairs
         .iter()
-        .filter(|pair| !members.contains(&pair.1))
+        .filter(|pair| !is_among(members, pair.1))
         .map(|pair| pair.1)
         .collect(alloc)
 }
