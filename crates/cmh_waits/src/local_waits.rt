@@ -5,7 +5,7 @@ ghost use Rattle.std.specs.List.{list_any};
 ghost use Rattle.std.specs.List.Sorted.{IsStrictlyIncreasing};
 ghost use Rattle.cmh_model.specs.Relation.{has, has_some, without_pair};
 ghost use Rattle.cmh_model.specs.Rules.{IsAscending};
-ghost use Rattle.cmh_waits.specs.Held.{IsMember, asked, got_reply, got_request, is_member, nothing_held, replied, wakes};
+ghost use Rattle.cmh_waits.specs.Held.{IsMember, asked, before_ask, got_reply, got_request, is_member, nothing_held, owed_before_ask, replied, wakes};
 ghost use Rattle.cmh_waits.specs.Pairs.{seconds_of};
 
 use crate::pair_set::PairSet;
@@ -27,7 +27,7 @@ pub struct LocalWaits {
 }
 
 impl Model for LocalWaits {
-    ghost use Rattle.cmh_waits.specs.Held.{AreMembers, Held, held_code};
+    ghost use Rattle.cmh_waits.specs.Held.{Held, IsKept, held_code};
 
     ghost Value = { Held };
 
@@ -35,7 +35,7 @@ impl Model for LocalWaits {
 
     ghost view = { λ w. record { members = w.members.items; waits = w.waits; owed = w.owed } };
 
-    ghost invariant = { λ w. AreMembers w.members.items };
+    ghost invariant = { λ w. IsKept (record { members = w.members.items; waits = w.waits; owed = w.owed }) };
 }
 
 impl LocalWaits {
@@ -66,7 +66,7 @@ impl LocalWaits {
     pub fn is_member(&self, process: ProcId) -> bool
         ensures { result ≡ is_member self.now process }
     {
-        self.members.contains(&process)
+        is_among(&self.members, process)
     }
 
     /// Whether the process waits for some process.
@@ -97,15 +97,30 @@ impl LocalWaits {
         requires ascending { IsAscending targets.now }
         requires others { list_any (λ k. k == asker) targets.now ≡ false }
         ensures ok { OnOk result (self.new ≡ asked self.old asker targets.now) }
+        ensures undone { OnOk result (before_ask self.new asker targets.now ≡ self.old) }
         ensures err { OnErr result (self.new ≡ self.old) }
     {
         let waited = waits_for(self.alloc, asker, targets)?;
         let owing = owed_by_members(self.alloc, &self.members, asker, targets)?;
-        let mut owed = self.owed.copy(self.alloc)?;
-        owed.insert_all(&owing)?;
         self.waits.insert_all(&waited)?;
-        self.owed = owed;
+        if let Err(error) = self.owed.insert_all(&owing) {
+            // The asker was active, so that it has no other waits.
+            self.waits.remove_first(asker);
+            return Err(error);
+        }
         Ok(())
+    }
+
+    /// Takes back an ask to which no reply has come, as where what should follow it finds no memory.
+    ///
+    /// It takes no memory itself.
+    pub fn take_back(&mut self, asker: ProcId, targets: &[ProcId])
+        requires member { IsMember self.old asker }
+        requires asked { (k : ℕ) → has self.old.waits asker k ≡ true → list_any (λ q. q == k) targets.now ≡ true }
+        ensures { self.new ≡ before_ask self.old asker targets.now }
+    {
+        self.waits.remove_first(asker);
+        take_back_owed(&mut self.owed, &self.members, asker, targets);
     }
 
     /// A member grants what it holds to a process that it owes a reply, which may be at another site.
@@ -119,7 +134,7 @@ impl LocalWaits {
         ensures woke { result ≡ wakes self.old self.new asker }
     {
         self.owed.remove(holder, asker);
-        if !self.members.contains(&asker) {
+        if !is_among(&self.members, asker) {
             return false;
         }
         end_wait(&mut self.waits, asker, holder)
@@ -196,13 +211,34 @@ fn owed_by_members(
     asker: ProcId,
     targets: &[ProcId],
 ) -> Result<Vec<(ProcId, ProcId)>, AllocError>
+    requires { IsStrictlyIncreasing members.now }
     ensures { IfOk result (λ pairs. pairs.items ≡ map (λ k. (k, asker)) (filter (λ k. list_any (λ q. q == k) members.now) targets.now)) }
 {
     targets
         .iter()
-        .filter(|target| members.contains(target))
+        .filter(|target| is_among(members, **target))
         .map(|target| (*target, asker))
         .collect(alloc)
+}
+
+/// Takes out what each member among the targets owes the asker.
+fn take_back_owed(owed: &mut PairSet, members: &[ProcId], asker: ProcId, targets: &[ProcId])
+    requires { IsStrictlyIncreasing members.now }
+    ensures { owed.new ≡ owed_before_ask (λ p. list_any (λ q. q == p) members.now) owed.old asker targets.now }
+{
+    for target in targets {
+        if is_among(members, *target) {
+            owed.remove(*target, asker);
+        }
+    }
+}
+
+/// Whether the process is one of the members.
+fn is_among(members: &[ProcId], process: ProcId) -> bool
+    requires { IsStrictlyIncreasing members.now }
+    ensures { result ≡ list_any (λ q. q == process) members.now }
+{
+    members.binary_search(&process).is_ok()
 }
 
 /// Ends a wait, and answers whether the asker was blocked and is active now.
@@ -221,11 +257,12 @@ fn seconds_within(
     pairs: &[(ProcId, ProcId)],
     members: &[ProcId],
 ) -> Result<Vec<ProcId>, AllocError>
+    requires { IsStrictlyIncreasing members.now }
     ensures { IfOk result (λ seconds. seconds.items ≡ seconds_of pairs.now (λ k. list_any (λ q. q == k) members.now)) }
 {
     pairs
         .iter()
-        .filter(|pair| members.contains(&pair.1))
+        .filter(|pair| is_among(members, pair.1))
         .map(|pair| pair.1)
         .collect(alloc)
 }
@@ -236,11 +273,12 @@ fn seconds_outside(
     pairs: &[(ProcId, ProcId)],
     members: &[ProcId],
 ) -> Result<Vec<ProcId>, AllocError>
+    requires { IsStrictlyIncreasing members.now }
     ensures { IfOk result (λ seconds. seconds.items ≡ seconds_of pairs.now (λ k. not (list_any (λ q. q == k) members.now))) }
 {
     pairs
         .iter()
-        .filter(|pair| !members.contains(&pair.1))
+        .filter(|pair| !is_among(members, pair.1))
         .map(|pair| pair.1)
         .collect(alloc)
 }
