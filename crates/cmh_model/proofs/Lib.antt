@@ -1,6 +1,7 @@
 pub mod Bits
 pub mod PathLemmas
 pub mod Pairs
+pub mod Members
 pub mod Places
 pub mod Moves
 pub mod Sent

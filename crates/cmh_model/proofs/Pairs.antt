@@ -4,6 +4,7 @@ use Rattle.std.specs.Ordering.{eq_by_cmp}
 use Rattle.std.specs.Cmp.{IsTotalOrder, nat_cmp_total, on_total, then_total, both_tied, unsigned_tied}
 use Rattle.std.specs.FinSet as set
 use Rattle.std.specs.List.{list_any}
+use Rattle.std.proofs.Math.Bool.{and-true}
 use Rattle.std.proofs.lemmas.Bool.{eqb-true, eq-eqb, ne_eqb, and_parts, and_from, or_cases, cases_eq, cases_Bool, or_left, or_right}
 use Rattle.cmh_model.specs.Relation.{Relation, pair_cmp, has, with_pair, without_pair, with_each, has_some, only_firsts}
 
@@ -12,8 +13,20 @@ pub pair_cmp_total : IsTotalOrder pair_cmp
 pair_cmp_total = then_total (on_total (λ (p : ℕ × ℕ). p.0) nat_cmp_total) (on_total (λ (p : ℕ × ℕ). p.1) nat_cmp_total)
 
 -- pairs tie where both numbers are equal
-same_pair : (x y : ℕ × ℕ) → eq_by_cmp pair_cmp x y ≡ ((x.0 == y.0) && (x.1 == y.1))
+pub same_pair : (x y : ℕ × ℕ) → eq_by_cmp pair_cmp x y ≡ ((x.0 == y.0) && (x.1 == y.1))
 same_pair x y = sym (both_tied (x.0 == y.0) (x.1 == y.1) (nat_cmp x.0 y.0) (nat_cmp x.1 y.1) (sym (unsigned_tied x.0 y.0)) (sym (unsigned_tied x.1 y.1)))
+
+-- pairs that tie are one
+pub pair_cmp_exact : set.IsAntisymmetric pair_cmp
+pair_cmp_exact a b e =
+    let both = and_parts (a.0 == b.0) (a.1 == b.1) (sym (same_pair a b) ∙ ap is_eq e) in
+    let first = eqb-true a.0 b.0 both.0 in
+    let second = eqb-true a.1 b.1 both.1 in
+    ap (λ x. (x, a.1)) first ∙ ap (λ y. (b.0, y)) second
+
+-- relations with the same pairs are one
+pub same_relation : (r q : Relation) → ((x y : ℕ) → has r x y ≡ has q x y) → r ≡ q
+same_relation r q same = set.same_set pair_cmp_total pair_cmp_exact r q (λ p. same p.0 p.1)
 
 -- the empty relation has nothing
 pub has-empty : (a b : ℕ) → has set.empty a b ≡ false
@@ -35,8 +48,16 @@ first_of_tied x y z e = eqb-true x z.0 (and_parts (x == z.0) (y == z.1) (sym (sa
 pub has-only : (r : Relation) (test : ℕ → Bool) (x y : ℕ) → has (only_firsts r test) x y ≡ (has r x y && test x)
 has-only r test x y = set.contains-retain r (λ (p : ℕ × ℕ). test p.0) (x, y) (λ z e. ap test (sym (first_of_tied x y z e)))
 
+-- tests that agree leave the same pairs
+pub only-same : (r : Relation) (p q : ℕ → Bool) → ((x : ℕ) → p x ≡ q x) → only_firsts r p ≡ only_firsts r q
+only-same r p q same = same_relation _ _ (λ x y. has-only r p x y ∙ ap (λ b. has r x y && b) (same x) ∙ sym (has-only r q x y))
+
+-- a test that all pass leaves all pairs
+pub only-all : (r : Relation) (p : ℕ → Bool) → ((x : ℕ) → p x ≡ true) → r ≡ only_firsts r p
+only-all r p all = same_relation _ _ (λ x y. sym (has-only r p x y ∙ ap (λ b. has r x y && b) (all x) ∙ and-true (has r x y)))
+
 -- a weaker test passes too
-any_weaker : {X : Type 0} (p q : X → Bool) (xs : List X) → ((x : X) → p x ≡ true → q x ≡ true) → list_any p xs ≡ true → list_any q xs ≡ true
+pub any_weaker : {X : Type 0} (p q : X → Bool) (xs : List X) → ((x : X) → p x ≡ true → q x ≡ true) → list_any p xs ≡ true → list_any q xs ≡ true
 any_weaker p q [] f h = h
 any_weaker p q (x ∷ xs) f h = elim (or_cases (p x) (list_any p xs) h) [
   | inl e ↦ or_left (q x) (list_any q xs) (f x e)
@@ -117,3 +138,15 @@ has-with_each_other r a (b ∷ bs) x y n = has-with_other (with_each r a bs) a b
 pub has-with_each_kept : (r : Relation) (a : ℕ) (bs : List ℕ) (x y : ℕ) → has r x y ≡ true → has (with_each r a bs) x y ≡ true
 has-with_each_kept r a [] x y h = h
 has-with_each_kept r a (b ∷ bs) x y h = has-with_kept (with_each r a bs) a b x y (has-with_each_kept r a bs x y h)
+
+-- where a wait for h ends, another process waits as before
+pub others_wait : (waits : Relation) (a h p : ℕ) → p ≢ a → has_some (without_pair waits a h) p ≡ has_some waits p
+others_wait waits a h p other =
+    let same = λ (y : ℕ). has-without_other waits a h p y (λ both. other both.0) in
+    elim (cases_Bool (has_some waits p)) [
+      | inl e ↦ let one = has_some-to waits p e in has_some-from (without_pair waits a h) p one.0 (same one.0 ∙ one.1) ∙ sym e
+      | inr e ↦ elim (cases_Bool (has_some (without_pair waits a h) p)) [
+        | inl f ↦ let one = has_some-to (without_pair waits a h) p f in absurd (true≢false (sym (has_some-from waits p one.0 (sym (same one.0) ∙ one.1)) ∙ e))
+        | inr f ↦ f ∙ sym e
+      ]
+    ]

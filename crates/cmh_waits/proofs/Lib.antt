@@ -1,4 +1,3 @@
 pub mod Sets
 pub mod Ordered
 pub mod Seconds
-pub mod Targets

@@ -13,8 +13,8 @@ use Rattle.std.proofs.lemmas.List.Sorted.{searchable_from_sorted, IsPermutation-
 use Rattle.std.proofs.lemmas.List.Folds.{list_any_at}
 use Rattle.std.proofs.lemmas.Map.Keys.{Less-from_sorted}
 use Rattle.cmh_model.specs.Relation.{Relation, pair_cmp, has, has_some, is_pair, with_pair}
-use Rattle.cmh_model.proofs.Pairs.{pair_cmp_total, has-with}
-use Rattle.cmh_waits.proofs.Sets.{same_pair, same_relation, same_list_set, has-from_list, has_some-from_list}
+use Rattle.cmh_model.proofs.Pairs.{has-with, pair_cmp_total, same_pair, same_relation}
+use Rattle.cmh_waits.proofs.Sets.{same_list_set, has-from_list, has_some-from_list}
 use Rattle.cmh_waits.specs.Pairs.{with_all}
 
 -- ---- what the order says of the first processes
