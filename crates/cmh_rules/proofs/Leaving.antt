@@ -1,14 +1,12 @@
 -- The waits that leave a site, collected process by process.
-use Rattle.std.proofs.Common.{inl, inr, zero, suc, ◌≡◌, ◌↔◌, ℕ, ◌+◌, ◌<◌, false, true, true≢false, List, [], ◌∷◌, ◌++◌, length, get_or, map, refl, sym, ap, ◌∙◌, subst, arith, add-one, Contains, Less, nat_cmp, slice_index, take, not, ◌&&◌, ◌==◌}
-use Rattle.std.specs.List.{AllByRecursion, list_any}
+use Rattle.std.proofs.Common.{inl, inr, zero, suc, ◌≡◌, ◌↔◌, ℕ, ◌+◌, ◌<◌, false, true, true≢false, List, [], ◌∷◌, ◌++◌, length, get_or, map, refl, sym, ap, ◌∙◌, subst, arith, Contains, Less, nat_cmp, slice_index, take, not, ◌&&◌}
+use Rattle.std.specs.List.{AllByRecursion}
 use Rattle.std.specs.List.Sorted.{IsStrictlySortedBy, IsStrictlyIncreasing}
 use Rattle.std.specs.Ordering.{ordering_then}
 use Rattle.std.specs.Cmp.{nat_cmp_is, nat_cmp_total, tied_itself}
-use Rattle.std.proofs.Math.Seq.{take-suc}
-use Rattle.std.proofs.lemmas.Bool.{and_from, eqb-true, eq-eqb}
-use Rattle.std.proofs.lemmas.List.{map-append}
+use Rattle.std.proofs.lemmas.Bool.{and_from}
+use Rattle.std.proofs.lemmas.List.{map-append, take_more}
 use Rattle.std.proofs.lemmas.List.Elements.{Contains-push, Contains-append_left, Contains-append_right, Contains-append_cases}
-use Rattle.std.proofs.lemmas.List.Folds.{Any-from_list_any, list_any_at}
 use Rattle.cmh_frames.specs.declared.frame.Frame.{Frame}
 use Rattle.cmh_frames.specs.declared.frame.Frame.TheVariants.{Probe}
 use Rattle.cmh_model.specs.Relation.{Relation, pair_cmp, has, has_some}
@@ -164,7 +162,7 @@ below_place (x ∷ xs) (suc i) p up h is q (zero, l, e) = subst (λ y. y < p) e 
 below_place (x ∷ xs) (suc i) p up h is q (suc k, l, e) = below_place xs i p (increasing_tail x xs up) (omega arith) is q (k, omega arith, e)
 
 pub take_next : (xs : List ℕ) (i p : ℕ) → i < length xs → p ≡ get_or xs i p → take (i + 1) xs ≡ take i xs ++ p ∷ []
-take_next xs i p h is = ap (λ k. take k xs) (add-one i) ∙ take-suc xs i p h ∙ ap (λ y. take i xs ++ y ∷ []) (sym is)
+take_next xs i p h is = take_more xs i p h ∙ ap (λ y. take i xs ++ y ∷ []) (sym is)
 
 pub at_place : (xs : List ℕ) (i p : ℕ) → i < length xs → p ≡ get_or xs i p → Contains xs p
 at_place xs i p h is = (i, h, sym is)
@@ -173,13 +171,3 @@ at_place xs i p h is = (i, h, sym is)
 pub acts_where : (v : Held) (dependents : Relation) (origin from to : ℕ) → has_some v.waits to ≡ true → has dependents to origin ≡ false → has v.owed to from ≡ true → acts v dependents origin from to ≡ true
 acts_where v dependents origin from to blocked new owes =
     and_from (has_some v.waits to) (not (has dependents to origin) && has v.owed to from) blocked (and_from (not (has dependents to origin)) (has v.owed to from) (ap not new) owes)
-
--- ---- a number that a test finds in a list
-
-pub contains_found : (xs : List ℕ) (q : ℕ) → list_any (λ y. y == q) xs ≡ true → Contains xs q
-contains_found xs q t =
-    let one = Any-from_list_any (λ y. y == q) xs t in
-    subst (λ v. Contains xs v) (eqb-true one.1 q one.4) (one.0, one.2, one.3)
-
-pub found_contained : (xs : List ℕ) (q : ℕ) → Contains xs q → list_any (λ y. y == q) xs ≡ true
-found_contained xs q c = list_any_at (λ y. y == q) xs c.0 q c.1 (ap (λ y. y == q) c.2 ∙ eq-eqb q q refl)

@@ -5,7 +5,7 @@ use Rattle.cmh_model.specs.declared.event.Event.TheVariants.{Ask}
 use Rattle.cmh_model.specs.Rules.{AreTargets, Sends}
 use Rattle.cmh_model.specs.Relation.{with_each}
 use Rattle.cmh_waits.specs.Held.{Held}
-use Rattle.cmh_waits.proofs.Targets.{none_is_asker}
+use Rattle.cmh_model.proofs.Members.{none_is_asker}
 use Rattle.cmh_controller.specs.Controller.{Controller, IsOfSite}
 use Rattle.cmh_controller.specs.Beginnings.{Begins}
 use Rattle.cmh_controller.proofs.OfSite.{member_here, asked_site}
