@@ -1,19 +1,18 @@
 -- Pairs in ascending order: where one stands or goes, and which have one first process.
-use Rattle.std.proofs.Common.{inl, inr, ◌≡◌, ℕ, suc, zero, ◌+◌, ◌-◌, ◌<◌, ◌≤◌, Bool, true, false, not, ◌&&◌, ◌||◌, List, [], ◌∷◌, ◌==◌, length, get_or, take, drop, cond, refl, sym, ap, ◌∙◌, subst, arith, Ordering, Less, Equal, Greater, nat_cmp, Result, Ok, Err, is_eq, length-drop}
-use Rattle.std.proofs.lemmas.List.{get_or-drop}
+use Rattle.std.proofs.Common.{inl, inr, ◌≡◌, ℕ, suc, zero, ◌+◌, ◌-◌, ◌<◌, ◌≤◌, Bool, true, false, not, ◌&&◌, ◌||◌, List, [], ◌∷◌, ◌==◌, length, get_or, take, drop, cond, refl, sym, ap, ◌∙◌, subst, arith, Ordering, Less, Equal, Greater, nat_cmp, Result, Ok, Err, is_eq}
 use Rattle.std.specs.FinSet as set
 use Rattle.std.specs.Ordering.{ordering_then, ordering_index, ordering_reverse, is_lt}
 use Rattle.std.specs.Cmp.{nat_cmp_is}
-use Rattle.std.specs.Prelude.{nat_lt, nat_le}
-use Rattle.std.specs.List.{list_any, filter, insert, AllByRecursion, AllWithin, HoldsAt}
+use Rattle.std.specs.Prelude.{nat_lt, nat_le, slice_range}
+use Rattle.std.specs.List.{list_any, filter, insert, remove_range, AllByRecursion, AllWithin, HoldsAt}
 use Rattle.std.specs.List.Sorted.{IsStrictlySortedBy, IsNonDecreasingBy, IsBinarySearchResult, IsSearchInRange, IsPartitionPoint}
 use Rattle.std.specs.Result.{is_ok}
-use Rattle.std.proofs.lemmas.Bool.{ltb-true, ltb-false, leb-true, leb-false, eqb-true, eq-eqb, ne_eqb, and_parts, cases_Bool, cases_eq, cases_lt}
+use Rattle.std.proofs.lemmas.Bool.{ltb-true, ltb-false, leb-true, leb-false, eqb-true, eq-eqb, ne_eqb, and_parts, or_parts, cases_Bool, cases_eq, cases_lt}
 use Rattle.std.proofs.lemmas.List.Sorted.{searchable_from_sorted, IsPermutation-insert, list_any-IsPermutation}
 use Rattle.std.proofs.lemmas.List.Folds.{list_any_at}
 use Rattle.std.proofs.lemmas.Map.Keys.{Less-from_sorted}
 use Rattle.cmh_model.specs.Relation.{Relation, pair_cmp, has, has_some, is_pair, with_pair}
-use Rattle.cmh_model.proofs.Pairs.{has-with, pair_cmp_total, same_pair, same_relation}
+use Rattle.cmh_model.proofs.Pairs.{has-with, pair_cmp_exact, pair_cmp_total, same_pair, same_relation}
 use Rattle.cmh_waits.proofs.Sets.{same_list_set, has-from_list, has_some-from_list}
 use Rattle.cmh_waits.specs.Pairs.{with_all}
 
@@ -34,24 +33,46 @@ firsts_rise xs sorted i j d le below = elim (cases_eq i j) [
   | inr e ↦ first_below (get_or xs i d).0 (get_or xs j d).0 (nat_cmp (get_or xs i d).1 (get_or xs j d).1) (Less-from_sorted pair_cmp xs i j d sorted (omega arith) below)
 ]
 
--- what passes a test stands in front
-filter_front : {X : Type 0} (test : X → Bool) (xs : List X) (n : ℕ) → n ≤ length xs → AllWithin (λ x. test x ≡ true) xs 0 n → AllWithin (λ x. test x ≡ false) xs n (length xs) → take n xs ≡ filter test xs
-filter_front test [] zero h front behind = refl
-filter_front test [] (suc n) h front behind = absurd (omega arith)
-filter_front test (x ∷ xs) zero h front behind =
-    filter_front test xs zero (omega arith) (λ k d a b. absurd (omega arith)) (λ k d a b. behind (suc k) d (omega arith) (omega arith))
+-- what passes a test of a list, where it stands together
+filter_run : {X : Type 0} (test : X → Bool) (xs : List X) (start end : ℕ) → start ≤ end → end ≤ length xs
+    → AllWithin (λ x. test x ≡ false) xs 0 start → AllWithin (λ x. test x ≡ true) xs start end → AllWithin (λ x. test x ≡ false) xs end (length xs)
+    → slice_range xs start end ≡ filter test xs
+filter_run test [] zero zero le within before inside behind = refl
+filter_run test [] (suc start) end le within before inside behind = absurd (omega arith)
+filter_run test [] zero (suc end) le within before inside behind = absurd (omega arith)
+filter_run test (x ∷ xs) zero zero le within before inside behind =
+    filter_run test xs zero zero (omega arith) (omega arith) (λ k d a b. absurd (omega arith)) (λ k d a b. absurd (omega arith)) (λ k d a b. behind (suc k) d (omega arith) (omega arith))
     ∙ sym (ap (λ b. cond b (x ∷ filter test xs) (filter test xs)) (behind 0 x (omega arith) (omega arith)))
-filter_front test (x ∷ xs) (suc n) h front behind =
-    ap (λ ys. x ∷ ys) (filter_front test xs n (omega arith) (λ k d a b. front (suc k) d (omega arith) (omega arith)) (λ k d a b. behind (suc k) d (omega arith) (omega arith)))
-    ∙ sym (ap (λ b. cond b (x ∷ filter test xs) (filter test xs)) (front 0 x (omega arith) (omega arith)))
-
--- what fails it in front doesn't matter
-filter-drop : {X : Type 0} (test : X → Bool) (xs : List X) (s : ℕ) → s ≤ length xs → AllWithin (λ x. test x ≡ false) xs 0 s → filter test (drop s xs) ≡ filter test xs
-filter-drop test xs zero h before = refl
-filter-drop test [] (suc s) h before = absurd (omega arith)
-filter-drop test (x ∷ xs) (suc s) h before =
-    filter-drop test xs s (omega arith) (λ k d a b. before (suc k) d (omega arith) (omega arith))
+filter_run test (x ∷ xs) zero (suc end) le within before inside behind =
+    let whole : suc end - zero ≡ suc end = omega arith in
+    let later : end ≡ end - zero = omega arith in
+    ap (λ n. take n (x ∷ xs)) whole ∙ ap (λ n. x ∷ take n xs) later
+    ∙ ap (λ ys. x ∷ ys) (filter_run test xs zero end (omega arith) (omega arith) (λ k d a b. absurd (omega arith)) (λ k d a b. inside (suc k) d (omega arith) (omega arith)) (λ k d a b. behind (suc k) d (omega arith) (omega arith)))
+    ∙ sym (ap (λ b. cond b (x ∷ filter test xs) (filter test xs)) (inside 0 x (omega arith) (omega arith)))
+filter_run test (x ∷ xs) (suc start) zero le within before inside behind = absurd (omega arith)
+filter_run test (x ∷ xs) (suc start) (suc end) le within before inside behind =
+    let same : suc end - suc start ≡ end - start = omega arith in
+    ap (λ n. take n (drop start xs)) same
+    ∙ filter_run test xs start end (omega arith) (omega arith) (λ k d a b. before (suc k) d (omega arith) (omega arith)) (λ k d a b. inside (suc k) d (omega arith) (omega arith)) (λ k d a b. behind (suc k) d (omega arith) (omega arith))
     ∙ sym (ap (λ b. cond b (x ∷ filter test xs) (filter test xs)) (before 0 x (omega arith) (omega arith)))
+
+-- what fails a test of a list, where what passes it stands together
+filter_rest : {X : Type 0} (test : X → Bool) (xs : List X) (start end : ℕ) → start ≤ end → end ≤ length xs
+    → AllWithin (λ x. test x ≡ false) xs 0 start → AllWithin (λ x. test x ≡ true) xs start end → AllWithin (λ x. test x ≡ false) xs end (length xs)
+    → remove_range xs start end ≡ filter (λ x. not (test x)) xs
+filter_rest test [] zero zero le within before inside behind = refl
+filter_rest test [] (suc start) end le within before inside behind = absurd (omega arith)
+filter_rest test [] zero (suc end) le within before inside behind = absurd (omega arith)
+filter_rest test (x ∷ xs) zero zero le within before inside behind =
+    ap (λ ys. x ∷ ys) (filter_rest test xs zero zero (omega arith) (omega arith) (λ k d a b. absurd (omega arith)) (λ k d a b. absurd (omega arith)) (λ k d a b. behind (suc k) d (omega arith) (omega arith)))
+    ∙ sym (ap (λ b. cond (not b) (x ∷ filter (λ y. not (test y)) xs) (filter (λ y. not (test y)) xs)) (behind 0 x (omega arith) (omega arith)))
+filter_rest test (x ∷ xs) zero (suc end) le within before inside behind =
+    filter_rest test xs zero end (omega arith) (omega arith) (λ k d a b. absurd (omega arith)) (λ k d a b. inside (suc k) d (omega arith) (omega arith)) (λ k d a b. behind (suc k) d (omega arith) (omega arith))
+    ∙ sym (ap (λ b. cond (not b) (x ∷ filter (λ y. not (test y)) xs) (filter (λ y. not (test y)) xs)) (inside 0 x (omega arith) (omega arith)))
+filter_rest test (x ∷ xs) (suc start) zero le within before inside behind = absurd (omega arith)
+filter_rest test (x ∷ xs) (suc start) (suc end) le within before inside behind =
+    ap (λ ys. x ∷ ys) (filter_rest test xs start end (omega arith) (omega arith) (λ k d a b. before (suc k) d (omega arith) (omega arith)) (λ k d a b. inside (suc k) d (omega arith) (omega arith)) (λ k d a b. behind (suc k) d (omega arith) (omega arith)))
+    ∙ sym (ap (λ b. cond (not b) (x ∷ filter (λ y. not (test y)) xs) (filter (λ y. not (test y)) xs)) (before 0 x (omega arith) (omega arith)))
 
 -- ---- a binary search
 
@@ -127,25 +148,61 @@ there_already xs a b i inside is = same_relation _ _ (λ x y. sym (has-with (set
 pub from_list-there : (pairs xs : List (ℕ × ℕ)) (x : ℕ × ℕ) (i : ℕ) → xs ≡ pairs → i < length xs → HoldsAt (λ y. pair_cmp y x ≡ Equal) xs i → set.from_list {R = pair_cmp} pairs ≡ with_pair (set.from_list pairs) x.0 x.1
 from_list-there pairs xs x i same inside is = subst (λ ys. set.from_list {R = pair_cmp} ys ≡ with_pair (set.from_list ys) x.0 x.1) same (there_already xs x.0 x.1 i inside is)
 
+-- ---- a pair that is taken from its place
+
+filter_all : {X : Type 0} (test : X → Bool) (xs : List X) → list_any test xs ≡ false → xs ≡ filter (λ x. not (test x)) xs
+filter_all test [] none = refl
+filter_all test (x ∷ xs) none =
+    let parts = or_parts (test x) (list_any test xs) none in
+    ap (λ ys. x ∷ ys) (filter_all test xs parts.1) ∙ sym (ap (λ b. cond (not b) (x ∷ filter (λ y. not (test y)) xs) (filter (λ y. not (test y)) xs)) parts.0)
+
+-- a pair that was found stands just there
+pub taken_out : (pairs xs : List (ℕ × ℕ)) (a b i : ℕ) → xs ≡ pairs → i < length xs → IsStrictlySortedBy pair_cmp pairs → HoldsAt (λ y. pair_cmp y (a, b) ≡ Equal) xs i → remove_range pairs i (i + 1) ≡ filter (λ y. not (is_pair a b y)) pairs
+taken_out pairs xs a b i same inside sorted is = subst (λ ys. remove_range ys i (i + 1) ≡ filter (λ y. not (is_pair a b y)) ys) same (
+    let ascending = subst (IsStrictlySortedBy pair_cmp) (sym same) sorted in
+    let at : (d : ℕ × ℕ) → get_or xs i d ≡ (a, b) = λ d. pair_cmp_exact _ _ (is d) in
+    filter_rest (is_pair a b) xs i (i + 1) (omega arith) (omega arith)
+    (λ k d low high. isnt_pair a b (get_or xs k d) Less (ap (pair_cmp (get_or xs k d)) (sym (at d)) ∙ Less-from_sorted pair_cmp xs k i d ascending high inside) refl)
+    (λ k d low high. let here : k ≡ i = omega arith in is_that_pair a b (get_or xs k d) (ap (λ j. pair_cmp (get_or xs j d) (a, b)) here ∙ is d))
+    (λ k d low high. isnt_pair a b (get_or xs k d) Greater (pair_cmp_total.antisymm (get_or xs k d) (a, b) ∙ ap ordering_reverse (ap (λ y. pair_cmp y (get_or xs k d)) (sym (at d)) ∙ Less-from_sorted pair_cmp xs i k d ascending (omega arith) high)) refl))
+
+-- a pair that was not found isn't there
+pub not_there : (pairs xs : List (ℕ × ℕ)) (a b i : ℕ) → xs ≡ pairs → i ≤ length xs → IsStrictlySortedBy pair_cmp pairs → IsBinarySearchResult (λ y. pair_cmp y (a, b)) xs (Err i) → pairs ≡ filter (λ y. not (is_pair a b y)) pairs
+not_there pairs xs a b i same inside sorted search = subst (λ ys. ys ≡ filter (λ y. not (is_pair a b y)) ys) same
+    (filter_all (is_pair a b) xs (missed_pair xs a b i inside (subst (IsStrictlySortedBy pair_cmp) (sym same) sorted) search))
+
 -- ---- the run of one first process
 
--- behind the lesser ones, before the greater ones
-pub run_is : (xs rest : List (ℕ × ℕ)) (first s n : ℕ) → rest ≡ drop s xs → s ≤ length xs → n ≤ length rest
-    → IsPartitionPoint (λ (y : ℕ × ℕ). nat_lt y.0 first ≡ true) (λ y. nat_lt y.0 first ≡ false) xs s
-    → IsPartitionPoint (λ (y : ℕ × ℕ). nat_le y.0 first ≡ true) (λ y. nat_le y.0 first ≡ false) rest n
-    → take n rest ≡ filter (λ y. y.0 == first) xs
-run_is xs rest first s n is inside within lower upper =
-    let len : length rest ≡ length xs - s = ap length is ∙ length-drop s xs in
-    let at : (k : ℕ) (d : ℕ × ℕ) → get_or rest k d ≡ get_or xs (s + k) d = λ k d. ap (λ ys. get_or ys k d) is ∙ get_or-drop s xs k d in
-    filter_front (λ (y : ℕ × ℕ). y.0 == first) rest n within
-    (λ k d low high.
-    let at_most = leb-true (get_or rest k d).0 first (upper.0 k d low high) in
-    let at_least = ltb-false (get_or xs (s + k) d).0 first (lower.1 (s + k) d (omega arith) (omega arith)) in
-    let same : (get_or rest k d).0 ≡ (get_or xs (s + k) d).0 = ap (λ (y : ℕ × ℕ). y.0) (at k d) in
-    eq-eqb (get_or rest k d).0 first (omega arith))
-    (λ k d low high. let more = leb-false (get_or rest k d).0 first (upper.1 k d low high) in ne_eqb (get_or rest k d).0 first (λ e. omega arith))
-    ∙ ap (filter (λ (y : ℕ × ℕ). y.0 == first)) is
-    ∙ filter-drop (λ (y : ℕ × ℕ). y.0 == first) xs s inside (λ k d low high. let less = ltb-true (get_or xs k d).0 first (lower.0 k d low high) in ne_eqb (get_or xs k d).0 first (λ e. omega arith))
+-- the run stands behind the lesser ones, before the greater ones
+module _ (xs : List (ℕ × ℕ)) (first start end : ℕ) (below : start ≤ length xs) (within : end ≤ length xs)
+    (lower : IsPartitionPoint (λ (y : ℕ × ℕ). nat_lt y.0 first ≡ true) (λ y. nat_lt y.0 first ≡ false) xs start)
+    (upper : IsPartitionPoint (λ (y : ℕ × ℕ). nat_le y.0 first ≡ true) (λ y. nat_le y.0 first ≡ false) xs end) where
+  pub run_in_order : start ≤ end
+  run_in_order = elim (cases_lt end start) [
+    | inl e ↦
+        let less = ltb-true (get_or xs end (first, first)).0 first (lower.0 end (first, first) (omega arith) e) in
+        let more = leb-false (get_or xs end (first, first)).0 first (upper.1 end (first, first) (omega arith) (omega arith)) in
+        absurd (omega arith)
+    | inr e ↦ e
+  ]
+
+  before_run : AllWithin (λ (y : ℕ × ℕ). (y.0 == first) ≡ false) xs 0 start
+  before_run k d low high = let less = ltb-true (get_or xs k d).0 first (lower.0 k d low high) in ne_eqb (get_or xs k d).0 first (λ e. omega arith)
+
+  in_run : AllWithin (λ (y : ℕ × ℕ). (y.0 == first) ≡ true) xs start end
+  in_run k d low high =
+      let at_most = leb-true (get_or xs k d).0 first (upper.0 k d (omega arith) high) in
+      let at_least = ltb-false (get_or xs k d).0 first (lower.1 k d low (omega arith)) in
+      eq-eqb (get_or xs k d).0 first (omega arith)
+
+  behind_run : AllWithin (λ (y : ℕ × ℕ). (y.0 == first) ≡ false) xs end (length xs)
+  behind_run k d low high = let more = leb-false (get_or xs k d).0 first (upper.1 k d low high) in ne_eqb (get_or xs k d).0 first (λ e. omega arith)
+
+  pub run_is : slice_range xs start end ≡ filter (λ y. y.0 == first) xs
+  run_is = filter_run (λ (y : ℕ × ℕ). y.0 == first) xs start end run_in_order within before_run in_run behind_run
+
+  pub rest_is : remove_range xs start end ≡ filter (λ y. not (y.0 == first)) xs
+  rest_is = filter_rest (λ (y : ℕ × ℕ). y.0 == first) xs start end run_in_order within before_run in_run behind_run
 
 any-run : (test : ℕ × ℕ → Bool) (xs : List (ℕ × ℕ)) → not (length (filter test xs) == 0) ≡ list_any test xs
 any-run test [] = refl

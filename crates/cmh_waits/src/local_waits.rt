@@ -5,7 +5,7 @@ ghost use Rattle.std.specs.List.{list_any};
 ghost use Rattle.std.specs.List.Sorted.{IsStrictlyIncreasing};
 ghost use Rattle.cmh_model.specs.Relation.{has, has_some, without_pair};
 ghost use Rattle.cmh_model.specs.Rules.{IsAscending};
-ghost use Rattle.cmh_waits.specs.Held.{IsMember, asked, got_reply, got_request, is_member, nothing_held, replied, wakes};
+ghost use Rattle.cmh_waits.specs.Held.{IsMember, asked, before_ask, got_reply, got_request, is_member, nothing_held, owed_before_ask, replied, wakes};
 ghost use Rattle.cmh_waits.specs.Pairs.{seconds_of};
 
 use crate::pair_set::PairSet;
@@ -27,7 +27,7 @@ pub struct LocalWaits {
 }
 
 impl Model for LocalWaits {
-    ghost use Rattle.cmh_waits.specs.Held.{AreMembers, Held, held_code};
+    ghost use Rattle.cmh_waits.specs.Held.{Held, IsKept, held_code};
 
     ghost Value = { Held };
 
@@ -35,7 +35,7 @@ impl Model for LocalWaits {
 
     ghost view = { λ w. record { members = w.members.items; waits = w.waits; owed = w.owed } };
 
-    ghost invariant = { λ w. AreMembers w.members.items };
+    ghost invariant = { λ w. IsKept (record { members = w.members.items; waits = w.waits; owed = w.owed }) };
 }
 
 impl LocalWaits {
@@ -97,15 +97,30 @@ impl LocalWaits {
         requires ascending { IsAscending targets.now }
         requires others { list_any (λ k. k == asker) targets.now ≡ false }
         ensures ok { OnOk result (self.new ≡ asked self.old asker targets.now) }
+        ensures undone { OnOk result (before_ask self.new asker targets.now ≡ self.old) }
         ensures err { OnErr result (self.new ≡ self.old) }
     {
         let waited = waits_for(self.alloc, asker, targets)?;
         let owing = owed_by_members(self.alloc, &self.members, asker, targets)?;
-        let mut owed = self.owed.copy(self.alloc)?;
-        owed.insert_all(&owing)?;
         self.waits.insert_all(&waited)?;
-        self.owed = owed;
+        if let Err(error) = self.owed.insert_all(&owing) {
+            // The asker was active, so that it has no other waits.
+            self.waits.remove_first(asker);
+            return Err(error);
+        }
         Ok(())
+    }
+
+    /// Takes back an ask to which no reply has come, as where what should follow it finds no memory.
+    ///
+    /// It takes no memory itself.
+    pub fn take_back(&mut self, asker: ProcId, targets: &[ProcId])
+        requires member { IsMember self.old asker }
+        requires asked { (k : ℕ) → has self.old.waits asker k ≡ true → list_any (λ q. q == k) targets.now ≡ true }
+        ensures { self.new ≡ before_ask self.old asker targets.now }
+    {
+        self.waits.remove_first(asker);
+        take_back_owed(&mut self.owed, &self.members, asker, targets);
     }
 
     /// A member grants what it holds to a process that it owes a reply, which may be at another site.
@@ -203,6 +218,26 @@ fn owed_by_members(
         .filter(|target| members.contains(target))
         .map(|target| (*target, asker))
         .collect(alloc)
+}
+
+/// Takes out what each member among the targets owes the asker.
+fn take_back_owed(owed: &mut PairSet, members: &[ProcId], asker: ProcId, targets: &[ProcId])
+    requires { IsStrictlyIncreasing members.now }
+    ensures { owed.new ≡ owed_before_ask (λ p. list_any (λ q. q == p) members.now) owed.old asker targets.now }
+{
+    for target in targets {
+        if is_among(members, *target) {
+            owed.remove(*target, asker);
+        }
+    }
+}
+
+/// Whether the process is one of the members.
+fn is_among(members: &[ProcId], process: ProcId) -> bool
+    requires { IsStrictlyIncreasing members.now }
+    ensures { result ≡ list_any (λ q. q == process) members.now }
+{
+    members.binary_search(&process).is_ok()
 }
 
 /// Ends a wait, and answers whether the asker was blocked and is active now.
