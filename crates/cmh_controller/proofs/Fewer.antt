@@ -1,31 +1,8 @@
 -- What a removed wait leaves of the other sets.
 use Rattle.std.proofs.Common.{inl, inr, ◌≡◌, ◌≢◌, ℕ, Bool, true, false, not, ◌&&◌, ◌==◌, refl, sym, ap, ◌∙◌, true≢false}
-use Rattle.std.proofs.lemmas.Bool.{cases_Bool, cases_eq, and_parts, eq-eqb, ne_eqb}
-use Rattle.cmh_model.specs.Relation.{Relation, has, has_some, without_pair, only_firsts}
-use Rattle.cmh_model.proofs.Pairs.{has-only, has_some-from, has_some-to, has-without_other}
-use Rattle.cmh_waits.proofs.Sets.{same_relation}
-
-and_true : (a : Bool) → (a && true) ≡ a
-and_true true = refl
-and_true false = refl
-
-pub only-same : (r : Relation) (p q : ℕ → Bool) → ((x : ℕ) → p x ≡ q x) → only_firsts r p ≡ only_firsts r q
-only-same r p q same = same_relation _ _ (λ x y. has-only r p x y ∙ ap (λ b. has r x y && b) (same x) ∙ sym (has-only r q x y))
-
-pub only-all : (r : Relation) (p : ℕ → Bool) → ((x : ℕ) → p x ≡ true) → r ≡ only_firsts r p
-only-all r p all = same_relation _ _ (λ x y. sym (has-only r p x y ∙ ap (λ b. has r x y && b) (all x) ∙ and_true (has r x y)))
-
--- another process waits as before
-others_wait : (waits : Relation) (a h p : ℕ) → p ≢ a → has_some (without_pair waits a h) p ≡ has_some waits p
-others_wait waits a h p other =
-    let same = λ (y : ℕ). has-without_other waits a h p y (λ both. other both.0) in
-    elim (cases_Bool (has_some waits p)) [
-      | inl e ↦ let one = has_some-to waits p e in has_some-from (without_pair waits a h) p one.0 (same one.0 ∙ one.1) ∙ sym e
-      | inr e ↦ elim (cases_Bool (has_some (without_pair waits a h) p)) [
-        | inl f ↦ let one = has_some-to (without_pair waits a h) p f in absurd (true≢false (sym (has_some-from waits p one.0 (sym (same one.0) ∙ one.1)) ∙ e))
-        | inr f ↦ f ∙ sym e
-      ]
-    ]
+use Rattle.std.proofs.lemmas.Bool.{cases_eq, and_parts, eq-eqb, ne_eqb}
+use Rattle.cmh_model.specs.Relation.{Relation, has_some, without_pair, only_firsts}
+use Rattle.cmh_model.proofs.Pairs.{only-same, only-all, others_wait}
 
 stays : (b : Bool) → not (b && not b) ≡ true
 stays true = refl

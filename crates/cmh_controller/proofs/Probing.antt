@@ -2,14 +2,16 @@
 use Rattle.std.proofs.Common.{inl, inr, if◌then◌else◌, suc, ◌≡◌, ℕ, ◌<◌, Bool, true, false, true≢false, List, [], ◌∷◌, ◌++◌, map, length, Contains, Option, None, Some, IsSome, MatchBool, refl, sym, ap, ◌∙◌, subst, arith}
 use Rattle.std.specs.FinSet as set
 use Rattle.std.specs.List.{AllByRecursion}
+use Rattle.std.proofs.lemmas.List.{append-nil}
 use Rattle.cmh_frames.specs.declared.frame.Frame.{Frame}
 use Rattle.cmh_frames.specs.declared.frame.Frame.TheVariants.{Probe}
 use Rattle.cmh_frames.specs.Edition.{starts_at_ask}
-use Rattle.cmh_frames.specs.Topology.{Topology, At, home, site_of}
+use Rattle.cmh_frames.specs.Topology.{Topology, home, site_of}
 use Rattle.cmh_model.specs.Relation.{Relation, Numbers, with_each}
 use Rattle.cmh_model.specs.Paths.{WaitsAmong, WaitsLocally, ReachesLocally, DependsOnItself as DependsLocally}
 use Rattle.cmh_model.specs.declared.event.Event.TheVariants.{Ask, Got}
 use Rattle.cmh_model.specs.Rules.{AreProbes, IsEdgeFrom, Sends, requests}
+use Rattle.cmh_model.proofs.Effects.{some_home}
 use Rattle.cmh_model.proofs.PathLemmas.{path_map}
 use Rattle.cmh_waits.specs.Held.{Held, IsMember}
 use Rattle.cmh_rules.specs.Verdicts.{Reaches, DependsOnItself, LeavesFrom, AreProbesFrom, acts}
@@ -44,16 +46,9 @@ module _ (t : Topology) (s : ℕ) (held : Held) (site : IsOfSite t s held) where
   pub locally_depends : (p : ℕ) → DependsLocally t s held.waits p → DependsOnItself held p
   locally_depends p d = (d.0, here_waits p d.0 d.1, locally_reaches d.0 p d.2)
 
-  home_of : (k : ℕ) → IsSome (home t k) → (b : ℕ) × At t k b
-  home_of k h = some_home (home t k) h
-    where
-      some_home : (o : Option ℕ) → IsSome o → (b : ℕ) × (o ≡ Some b)
-      some_home None h = absurd (true≢false (sym h))
-      some_home (Some b) h = (b, refl)
-
   leaves : (from : ℕ) (edge : ℕ × ℕ) → LeavesFrom held from edge → IsEdgeFrom t s held.waits from edge
   leaves from edge l =
-      let place = home_of edge.1 (site.known edge.0 edge.1 l.1) in
+      let place = some_home (home t edge.1) (site.known edge.0 edge.1 l.1) in
       (reaches_locally from edge.0 l.0, l.1, (place.0, place.1, λ same. true≢false (sym (member_here t s held edge.1 site (place.1 ∙ ap Some same)) ∙ l.2)))
 
   is_left : (from : ℕ) (edge : ℕ × ℕ) → IsEdgeFrom t s held.waits from edge → LeavesFrom held from edge
@@ -82,14 +77,10 @@ module _ (t : Topology) (s : ℕ) (held : Held) (site : IsOfSite t s held) where
       subst (AllByRecursion (λ (frame : Frame). IsSome (home t (receiver_of frame)))) (sym p.are)
       (each_known origin p.edges (λ edge c. let l = (p.all edge).0 c in site.known edge.0 edge.1 l.1))
 
-  append_none : {X : Type 0} (xs : List X) → xs ++ [] ≡ xs
-  append_none [] = refl
-  append_none (x ∷ xs) = ap (λ ys. x ∷ ys) (append_none xs)
-
   pub begins_declared : (known : Numbers) (process : ℕ) (sent : List (ℕ × Frame)) (found : Option ℕ) → DependsOnItself held process → (found ≡ if set.contains known process then None else Some process) → Begins t s held.waits known process sent sent found
   begins_declared known process sent found d is = record {
     probes = [];
-    sent = sym (append_none sent);
+    sent = sym (append-nil sent);
     starts = inl (depends_locally process d, refl, is);
   }
 

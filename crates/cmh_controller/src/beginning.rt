@@ -1,7 +1,8 @@
-//! What the start of a probe computation does at a controller.
+//! Starts of probe computations at a controller, and its declarations.
 
-ghost use Rattle.std.specs.Prelude.{◌≡◌, IfOk, OnErr, None, Some, if◌then◌else◌};
+ghost use Rattle.std.specs.Prelude.{◌≡◌, false, IfOk, OnOk, OnErr, None, Some, if◌then◌else◌};
 ghost use Rattle.std.specs.FinSet as set;
+ghost use Rattle.cmh_model.specs.Relation.{has, with_pair};
 ghost use Rattle.cmh_model.specs.Rules.{declared_after};
 ghost use Rattle.cmh_waits.specs.Held.{IsMember};
 ghost use Rattle.cmh_controller.specs.Controller.{IsOfSite};
@@ -9,6 +10,7 @@ ghost use Rattle.cmh_controller.specs.Beginnings.{Begins};
 
 use crate::proc_set::ProcSet;
 use crate::sending::send_each;
+use cmh_dependents::DependentSets;
 use cmh_frames::{Frame, ProcId, SiteId, Topology};
 use cmh_rules::{StartVerdict, start};
 use cmh_waits::LocalWaits;
@@ -51,4 +53,29 @@ pub fn declare(declared: &mut ProcSet, process: ProcId) -> Result<Option<ProcId>
     }
     declared.insert(process)?;
     Ok(Some(process))
+}
+
+/// Takes the receipt of a probe by which its origin is deadlocked: declares the origin, which is known from now on to
+/// depend on the receiver. It answers the origin where that was not declared before. On an error nothing changes.
+pub fn declare_origin(
+    dependents: &mut DependentSets,
+    declared: &mut ProcSet,
+    receiver: ProcId,
+    origin: ProcId,
+) -> Result<Option<ProcId>, AllocError>
+    requires { has dependents.old receiver origin ≡ false }
+    ensures new { IfOk result (λ found. found ≡ if set.contains declared.old origin then None else Some origin) }
+    ensures declared { IfOk result (λ found. declared.new ≡ declared_after declared.old found) }
+    ensures dependents { OnOk result (dependents.new ≡ with_pair dependents.old receiver origin) }
+    ensures none_declared { OnErr result (declared.new ≡ declared.old) }
+    ensures none_added { OnErr result (dependents.new ≡ dependents.old) }
+{
+    dependents.add(receiver, origin)?;
+    match declare(declared, origin) {
+        Ok(found) => Ok(found),
+        Err(error) => {
+            dependents.take_back(receiver, origin);
+            Err(error)
+        }
+    }
 }

@@ -5,7 +5,7 @@ use Rattle.cmh_waits.specs.Held.{Held, IsMember}
 use Rattle.std.proofs.lemmas.List.{get_or_default}
 use Rattle.cmh_model.specs.Paths.{WaitsAmong}
 use Rattle.cmh_model.specs.Relation.{has}
-use Rattle.cmh_waits.proofs.Seconds.{found_at, found_from}
+use Rattle.cmh_model.proofs.Members.{found_at, found_from}
 use Rattle.cmh_dependents.proofs.Exploring.{Exploring, nothing_left, all_marked}
 use Rattle.cmh_dependents.specs.Marks.{IsMarked, AreMarked, MarksReached, ReachesHere}
 

@@ -3,4 +3,3 @@ pub mod Found
 pub mod Cycles
 pub mod Places
 pub mod Marked
-pub mod Waking

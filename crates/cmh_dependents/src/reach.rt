@@ -36,7 +36,15 @@ pub fn on_local_cycle(
     ensures { IfOk result (λ b. IsTrue b ↔ DependsOnItselfAmong (λ p. IsMember waits.now p) waits.now.waits process) }
 {
     let reached = local_reach(alloc, waits, process)?;
-    Ok(any_waits(waits, &reached, process))
+    Ok(leads_back(waits, process, &reached))
+}
+
+/// The same as `on_local_cycle`, for a caller that has what the process reaches.
+pub fn leads_back(waits: &LocalWaits, process: ProcId, reached: &[ProcId]) -> bool
+    requires { (q : ℕ) → Contains reached.now q ↔ ReachesAmong (λ p. IsMember waits.now p) waits.now.waits process q }
+    ensures { IsTrue result ↔ DependsOnItselfAmong (λ p. IsMember waits.now p) waits.now.waits process }
+{
+    any_waits(waits, reached, process)
 }
 
 /// Whether any of the processes waits for this one.

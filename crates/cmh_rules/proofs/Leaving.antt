@@ -1,36 +1,27 @@
 -- The waits that leave a site, collected process by process.
-use Rattle.std.proofs.Common.{inl, inr, zero, suc, ◌≡◌, ◌↔◌, ℕ, ◌+◌, ◌<◌, false, true, true≢false, List, [], ◌∷◌, ◌++◌, length, get_or, map, refl, sym, ap, ◌∙◌, subst, arith, add-one, Contains, Less, nat_cmp, slice_index, take, not, ◌&&◌, ◌==◌}
-use Rattle.std.specs.List.{AllByRecursion, list_any}
+use Rattle.std.proofs.Common.{inl, inr, zero, suc, ◌≡◌, ◌↔◌, ℕ, ◌+◌, ◌<◌, false, true, true≢false, List, [], ◌∷◌, ◌++◌, length, get_or, map, refl, sym, ap, ◌∙◌, subst, arith, Contains, Less, nat_cmp, slice_index, take, not, ◌&&◌}
+use Rattle.std.specs.List.{AllByRecursion}
 use Rattle.std.specs.List.Sorted.{IsStrictlySortedBy, IsStrictlyIncreasing}
 use Rattle.std.specs.Ordering.{ordering_then}
 use Rattle.std.specs.Cmp.{nat_cmp_is, nat_cmp_total, tied_itself}
-use Rattle.std.proofs.Math.Seq.{take-suc}
-use Rattle.std.proofs.lemmas.Bool.{and_from, eqb-true, eq-eqb}
-use Rattle.std.proofs.lemmas.List.{map-append}
-use Rattle.std.proofs.lemmas.List.Elements.{Contains-append_left, Contains-append_right, Contains-append_cases}
-use Rattle.std.proofs.lemmas.List.Folds.{Any-from_list_any, list_any_at}
+use Rattle.std.proofs.lemmas.Bool.{and_from}
+use Rattle.std.proofs.lemmas.List.{map-append, take_more}
+use Rattle.std.proofs.lemmas.List.Elements.{Contains-push, Contains-append_left, Contains-append_right, Contains-append_cases}
 use Rattle.cmh_frames.specs.declared.frame.Frame.{Frame}
 use Rattle.cmh_frames.specs.declared.frame.Frame.TheVariants.{Probe}
 use Rattle.cmh_model.specs.Relation.{Relation, pair_cmp, has, has_some}
 use Rattle.cmh_model.specs.Paths.{IsPath, WaitsAmong}
 use Rattle.cmh_waits.specs.Held.{Held, is_member, IsMember}
-use Rattle.cmh_rules.specs.Verdicts.{AreProbesFrom, Reaches, acts}
+use Rattle.cmh_rules.specs.Verdicts.{AreProbesOf, AreProbesFrom, Reaches, acts}
 
 -- the probe along a wait
 abbrev pub along : ℕ → ℕ × ℕ → Frame
 along origin edge = Probe (origin, edge.0, edge.1)
 
--- the probes along the waits that leave the site from some processes
-pub record AreProbesOf (v : Held) (processes : List ℕ) (origin : ℕ) (frames : List Frame) : Type 0 where
-  pub edges : List (ℕ × ℕ)
-  pub ascending : IsStrictlySortedBy pair_cmp edges
-  pub all : (edge : ℕ × ℕ) → Contains edges edge ↔ (Contains processes edge.0 × (has v.waits edge.0 edge.1 ≡ true) × (is_member v edge.1 ≡ false))
-  pub are : frames ≡ map (along origin) edges
-
 no_item : {X : Type 0} (x : X) → Contains [] x → ⊥
 no_item x c = let h : c.0 < 0 = c.1 in omega arith
 
-pub none_yet : (v : Held) (origin : ℕ) → AreProbesOf v [] origin []
+pub none_yet : (v : Held) (origin : ℕ) → AreProbesOf v origin [] []
 unfolding IsStrictlySortedBy
 none_yet v origin = record {
   edges = [];
@@ -100,7 +91,7 @@ from_pairs p (x ∷ xs) e (suc n, h, i) = let c = from_pairs p xs e (n, omega ar
 -- ---- one more process
 
 -- the waits of one more process, whose number is greater
-pub more_probes : (v : Held) (processes : List ℕ) (p : ℕ) (targets : List ℕ) (origin : ℕ) (frames : List Frame) → ((q : ℕ) → Contains processes q → q < p) → IsStrictlyIncreasing targets → ((k : ℕ) → Contains targets k ↔ ((has v.waits p k ≡ true) × (is_member v k ≡ false))) → AreProbesOf v processes origin frames → AreProbesOf v (processes ++ p ∷ []) origin (frames ++ map (λ to. Probe (origin, p, to)) targets)
+pub more_probes : (v : Held) (processes : List ℕ) (p : ℕ) (targets : List ℕ) (origin : ℕ) (frames : List Frame) → ((q : ℕ) → Contains processes q → q < p) → IsStrictlyIncreasing targets → ((k : ℕ) → Contains targets k ↔ ((has v.waits p k ≡ true) × (is_member v k ≡ false))) → AreProbesOf v origin processes frames → AreProbesOf v origin (processes ++ p ∷ []) (frames ++ map (λ to. Probe (origin, p, to)) targets)
 more_probes v processes p targets origin frames below up each so_far =
     let new = map (λ to. (p, to)) targets in
     record {
@@ -112,7 +103,7 @@ more_probes v processes p targets origin frames below up each so_far =
           | inr d ↦
               let pair = from_pairs p targets edge d in
               let wait = (each edge.1).0 pair.1 in
-              (subst (λ q. Contains (processes ++ p ∷ []) q) pair.0 (Contains-append_right processes (p ∷ []) p (0, omega arith, refl)), subst (λ q. has v.waits q edge.1 ≡ true) pair.0 wait.0, wait.1)
+              (subst (λ q. Contains (processes ++ p ∷ []) q) pair.0 (Contains-push processes p), subst (λ q. has v.waits q edge.1 ≡ true) pair.0 wait.0, wait.1)
         ],
         λ h. elim (Contains-append_cases processes (p ∷ []) edge.0 h.0) [
           | inl d ↦ Contains-append_left so_far.edges new edge ((so_far.all edge).1 (d, h.1, h.2))
@@ -133,7 +124,7 @@ more_probes v processes p targets origin frames below up each so_far =
     along_pairs (k ∷ ks) = ap (λ fs. Probe (origin, p, k) ∷ fs) (along_pairs ks)
 
 -- of those that a process reaches, they are those of the rule
-pub probes_are : (v : Held) (reached : List ℕ) (origin from : ℕ) (frames : List Frame) → ((q : ℕ) → Contains reached q ↔ Reaches v from q) → AreProbesOf v reached origin frames → AreProbesFrom v origin from frames
+pub probes_are : (v : Held) (reached : List ℕ) (origin from : ℕ) (frames : List Frame) → ((q : ℕ) → Contains reached q ↔ Reaches v from q) → AreProbesOf v origin reached frames → AreProbesFrom v origin from frames
 probes_are v reached origin from frames all p = record {
   edges = p.edges;
   ascending = p.ascending;
@@ -150,9 +141,13 @@ path_end : (v : Held) (p : ℕ) (members : List ℕ) (q : ℕ) → IsMember v p 
 path_end v p [] q here h = subst (λ r. IsMember v r) h here
 path_end v p (x ∷ xs) q here h = path_end v x xs q h.0.1 h.1
 
--- a process that is reached is a member, so it is none of another site
-pub reached_apart : (v : Held) (from q to : ℕ) → Reaches v from q → is_member v to ≡ false → q ≡ to → ⊥
-reached_apart v from q to r away e = true≢false (sym (subst (λ p. IsMember v p) e (path_end v from r.1.0 q r.0 r.1.1)) ∙ away)
+-- all that a process reaches are members
+pub are_members : (v : Held) (reached : List ℕ) (from : ℕ) → ((q : ℕ) → Contains reached q ↔ Reaches v from q) → (p : ℕ) → Contains reached p → IsMember v p
+are_members v reached from all p found = let r = (all p).0 found in path_end v from r.1.0 p r.0 r.1.1
+
+-- a member is none of another site
+pub apart : (v : Held) (q to : ℕ) → IsMember v q → is_member v to ≡ false → q ≡ to → ⊥
+apart v q to here away e = true≢false (sym (subst (λ p. IsMember v p) e here) ∙ away)
 
 -- those before a place are below the one there
 pub below_place : (xs : List ℕ) (i p : ℕ) → IsStrictlyIncreasing xs → i < length xs → p ≡ get_or xs i p → (q : ℕ) → Contains (take i xs) q → q < p
@@ -167,7 +162,7 @@ below_place (x ∷ xs) (suc i) p up h is q (zero, l, e) = subst (λ y. y < p) e 
 below_place (x ∷ xs) (suc i) p up h is q (suc k, l, e) = below_place xs i p (increasing_tail x xs up) (omega arith) is q (k, omega arith, e)
 
 pub take_next : (xs : List ℕ) (i p : ℕ) → i < length xs → p ≡ get_or xs i p → take (i + 1) xs ≡ take i xs ++ p ∷ []
-take_next xs i p h is = ap (λ k. take k xs) (add-one i) ∙ take-suc xs i p h ∙ ap (λ y. take i xs ++ y ∷ []) (sym is)
+take_next xs i p h is = take_more xs i p h ∙ ap (λ y. take i xs ++ y ∷ []) (sym is)
 
 pub at_place : (xs : List ℕ) (i p : ℕ) → i < length xs → p ≡ get_or xs i p → Contains xs p
 at_place xs i p h is = (i, h, sym is)
@@ -176,13 +171,3 @@ at_place xs i p h is = (i, h, sym is)
 pub acts_where : (v : Held) (dependents : Relation) (origin from to : ℕ) → has_some v.waits to ≡ true → has dependents to origin ≡ false → has v.owed to from ≡ true → acts v dependents origin from to ≡ true
 acts_where v dependents origin from to blocked new owes =
     and_from (has_some v.waits to) (not (has dependents to origin) && has v.owed to from) blocked (and_from (not (has dependents to origin)) (has v.owed to from) (ap not new) owes)
-
--- ---- a number that a test finds in a list
-
-pub contains_found : (xs : List ℕ) (q : ℕ) → list_any (λ y. y == q) xs ≡ true → Contains xs q
-contains_found xs q t =
-    let one = Any-from_list_any (λ y. y == q) xs t in
-    subst (λ v. Contains xs v) (eqb-true one.1 q one.4) (one.0, one.2, one.3)
-
-pub found_contained : (xs : List ℕ) (q : ℕ) → Contains xs q → list_any (λ y. y == q) xs ≡ true
-found_contained xs q c = list_any_at (λ y. y == q) xs c.0 q c.1 (ap (λ y. y == q) c.2 ∙ eq-eqb q q refl)

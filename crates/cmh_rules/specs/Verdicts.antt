@@ -25,6 +25,13 @@ DependsOnItself v p = DependsOnItselfAmong (λ r. IsMember v r) v.waits p
 abbrev pub LeavesFrom : Held → ℕ → ℕ × ℕ → Type 0
 LeavesFrom v from edge = Reaches v from edge.0 × (has v.waits edge.0 edge.1 ≡ true) × (is_member v edge.1 ≡ false)
 
+-- the probes of `origin` along each wait that leaves the site from some of its members
+pub record AreProbesOf (v : Held) (origin : ℕ) (processes : List ℕ) (frames : List Frame) : Type 0 where
+  pub edges : List (ℕ × ℕ)
+  pub ascending : IsStrictlySortedBy pair_cmp edges
+  pub all : (edge : ℕ × ℕ) → Contains edges edge ↔ (Contains processes edge.0 × (has v.waits edge.0 edge.1 ≡ true) × (is_member v edge.1 ≡ false))
+  pub are : frames ≡ map (λ (edge : ℕ × ℕ). Probe (origin, edge.0, edge.1)) edges
+
 -- the probes of `origin` along each wait that leaves the site from what `from` reaches
 pub record AreProbesFrom (v : Held) (origin from : ℕ) (frames : List Frame) : Type 0 where
   pub edges : List (ℕ × ℕ)

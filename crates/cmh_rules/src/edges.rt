@@ -1,27 +1,27 @@
 //! The probes that leave a site.
 
 ghost use Rattle.std.specs.Prelude.{◌≡◌, ◌≢◌, ℕ, ◌++◌, map, IfOk, OnOk, Contains};
+ghost use Rattle.std.specs.List.Sorted.{IsStrictlyIncreasing};
 ghost use Rattle.cmh_waits.specs.Held.{IsMember};
-ghost use Rattle.cmh_rules.specs.Verdicts.{AreProbesFrom};
+ghost use Rattle.cmh_rules.specs.Verdicts.{AreProbesOf};
 
-use cmh_dependents::local_reach;
 use cmh_frames::{Frame, Probe, ProcId};
 use cmh_waits::LocalWaits;
 use std::alloc::{AllocError, Global};
 
-/// The probes of the computation of `origin` along each wait that leaves the site from what `from` reaches.
-pub fn probes_from(
+/// The probes of the computation of `origin` along each wait that leaves the site from some of its processes.
+pub fn probes_along(
     alloc: Global,
     waits: &LocalWaits,
     origin: ProcId,
-    from: ProcId,
+    processes: &[ProcId],
 ) -> Result<Vec<Frame>, AllocError>
-    requires { IsMember waits.now from }
-    ensures { IfOk result (λ frames. AreProbesFrom waits.now origin from frames.items) }
+    requires ascending { IsStrictlyIncreasing processes.now }
+    requires members { (p : ℕ) → Contains processes.now p → IsMember waits.now p }
+    ensures { IfOk result (λ frames. AreProbesOf waits.now origin processes.now frames.items) }
 {
     let mut frames = Vec::new(alloc);
-    let reached = local_reach(alloc, waits, from)?;
-    for process in &reached {
+    for process in processes {
         let targets = waits.remote_waits(alloc, *process)?;
         push_probes(&mut frames, origin, *process, &targets)?;
     }

@@ -4,7 +4,7 @@ ghost use Rattle.std.specs.Prelude.{IfOk};
 ghost use Rattle.cmh_waits.specs.Held.{IsMember};
 ghost use Rattle.cmh_rules.specs.Verdicts.{IsReceipt};
 
-use crate::edges::probes_from;
+use crate::edges::probes_along;
 use cmh_dependents::{DependentSets, local_reach};
 use cmh_frames::{Frame, ProcId};
 use cmh_waits::LocalWaits;
@@ -37,9 +37,10 @@ pub fn on_probe(
     if !waits.is_blocked(to) || dependents.has(to, origin) || !waits.owes(to, from) {
         return Ok(ProbeVerdict::Ignored);
     }
-    if local_reach(alloc, waits, to)?.contains(&origin) {
+    let reached = local_reach(alloc, waits, to)?;
+    if reached.contains(&origin) {
         return Ok(ProbeVerdict::Declared(origin));
     }
-    let frames = probes_from(alloc, waits, origin, to)?;
+    let frames = probes_along(alloc, waits, origin, &reached)?;
     Ok(ProbeVerdict::Forward(frames))
 }

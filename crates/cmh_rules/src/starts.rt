@@ -4,8 +4,8 @@ ghost use Rattle.std.specs.Prelude.{IfOk};
 ghost use Rattle.cmh_waits.specs.Held.{IsMember};
 ghost use Rattle.cmh_rules.specs.Verdicts.{IsStart};
 
-use crate::edges::probes_from;
-use cmh_dependents::on_local_cycle;
+use crate::edges::probes_along;
+use cmh_dependents::{leads_back, local_reach};
 use cmh_frames::{Frame, ProcId};
 use cmh_waits::LocalWaits;
 use std::alloc::{AllocError, Global};
@@ -24,9 +24,10 @@ pub fn start(alloc: Global, waits: &LocalWaits, process: ProcId) -> Result<Start
     requires { IsMember waits.now process }
     ensures { IfOk result (IsStart waits.now process) }
 {
-    if on_local_cycle(alloc, waits, process)? {
+    let reached = local_reach(alloc, waits, process)?;
+    if leads_back(waits, process, &reached) {
         return Ok(StartVerdict::Declared);
     }
-    let frames = probes_from(alloc, waits, process, process)?;
+    let frames = probes_along(alloc, waits, process, &reached)?;
     Ok(StartVerdict::Send(frames))
 }

@@ -1,5 +1,4 @@
-use Rattle.std.proofs.Common.{◌≡◌, ◌++◌, IsSome, List, None, Some, if◌then◌else◌, map, sym, subst, ◌∙◌, ap}
-use Rattle.std.specs.FinSet as set
+use Rattle.std.proofs.Common.{◌≡◌, ◌++◌, IsSome, List, None, map, sym, subst, ◌∙◌, ap}
 use Rattle.std.specs.List.{AllByRecursion}
 use Rattle.cmh_frames.specs.declared.frame.Frame.{Frame}
 use Rattle.cmh_frames.specs.declared.frame.Frame.TheVariants.{Probe}
@@ -23,13 +22,12 @@ send_each-requires c =
     subst (λ (fs : List Frame). AllByRecursion (λ frame. IsSome (home c.self.inside.topology (receiver_of frame))) fs) (sym c.deref.ensures.value)
     (receivers_known c.self.inside.topology c.self.inside.site c.self.inside.waits c.self.invariant c.args.origin c.args.to c.in-Forward.frames.items verdict.2)
 
-pub returns-in_ok-add-in-Declared-clause-sent : goal.returns-in_ok-add-in-Declared-clause-sent
-returns-in_ok-add-in-Declared-clause-sent c =
+pub returns-in_ok-found-in-Declared-clause-sent : goal.returns-in_ok-found-in-Declared-clause-sent
+returns-in_ok-found-in-Declared-clause-sent c =
     let inside = c.self.inside in
     let verdict = rw c.in-Declared.is at c.in_ok-on_probe.ensures in
-    let new = subst (λ known. c.in_ok-declared-in-Declared.declared ≡ if set.contains known c.args.origin then None else Some c.args.origin) c.in_ok-known-in-Declared.ensures c.in_ok-declared-in-Declared.ensures.new in
-    subst (λ (v : Controller). Sends v.topology v.site v.state (Got c.args.sender (Probe (c.args.origin, c.args.from, c.args.to))) c.new-in-Declared.result c.in_ok-declared-in-Declared.declared) c.self.view_is
-    (receipt_declared inside.topology inside.site inside.waits c.self.invariant inside.dependents inside.declared c.args.sender c.args.origin c.args.from c.args.to _ _ verdict.0 verdict.2 (c.new-in-Declared.ensures ∙ c.new.ensures.items) new)
+    subst (λ (v : Controller). Sends v.topology v.site v.state (Got c.args.sender (Probe (c.args.origin, c.args.from, c.args.to))) c.new-in-Declared.result c.in_ok-found-in-Declared.found) c.self.view_is
+    (receipt_declared inside.topology inside.site inside.waits c.self.invariant inside.dependents inside.declared c.args.sender c.args.origin c.args.from c.args.to _ _ verdict.0 verdict.2 (c.new-in-Declared.ensures ∙ c.new.ensures.items) c.in_ok-found-in-Declared.ensures.new)
 
 pub returns-in_ok-add-in-Forward-clause-sent : goal.returns-in_ok-add-in-Forward-clause-sent
 returns-in_ok-add-in-Forward-clause-sent c =
