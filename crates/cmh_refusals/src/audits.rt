@@ -1,0 +1,133 @@
+//! Journals are audited.
+
+use crate::carriers::Sheet;
+use crate::failure::{Failure, expect};
+use crate::making;
+use crate::worlds::{AUDITS, RUNS, World};
+use cmh_audit::{AuditMemory, Report, Verdict, audit, check_set};
+use cmh_frames::Topology;
+use cmh_journal::Journal;
+use cmh_site::run_audit;
+use std::alloc::Global;
+
+/// `audit` answers the verdict or want of memory.
+pub fn audits(alloc: Global) -> Result<(), Failure> {
+    for world in RUNS.iter().chain(&AUDITS) {
+        let topology = making::topology(alloc, world.sites)?;
+        let journals = making::journals(alloc, world)?;
+        let text = text_of(alloc, &audit_again(alloc, &topology, &journals)?)?;
+        expect(text.as_str() == world.lines, world.name)?;
+    }
+    Ok(())
+}
+
+fn audit_again(
+    alloc: Global,
+    topology: &Topology,
+    journals: &[Journal],
+) -> Result<Verdict, Failure> {
+    if check_set(topology, journals).is_err() {
+        return Err(Failure::Wrong("these are not the journals of all sites"));
+    }
+    let audited = match audit(alloc, topology, journals) {
+        Err(AuditMemory) => audit(alloc, topology, journals),
+        answer => answer,
+    };
+    match audited {
+        Ok(verdict) => Ok(verdict),
+        Err(_) => Err(Failure::Wrong("no memory for an audit twice")),
+    }
+}
+
+/// The lines of a verdict in edition 1.
+fn text_of(alloc: Global, verdict: &Verdict) -> Result<String, Failure> {
+    let mut text = String::new(alloc);
+    match verdict {
+        Verdict::Accepted(report) => write_report(&mut text, report)?,
+        Verdict::Refused(stops) => {
+            writeln!(text, "refused")?;
+            for (site, entry) in stops.rows() {
+                writeln!(text, "stop {site} at {entry}")?;
+            }
+        }
+    }
+    Ok(text)
+}
+
+fn write_report(text: &mut String, report: &Report) -> Result<(), Failure> {
+    writeln!(text, "accepted")?;
+    writeln!(text, "events {}", report.events())?;
+    for (asker, holder) in report.waits() {
+        writeln!(text, "wait {asker} {holder}")?;
+    }
+    for process in report.declared() {
+        write!(text, "declared {process} cycle")?;
+        for member in report.cycle(*process).into_iter().flatten() {
+            write!(text, " {member}")?;
+        }
+        writeln!(text)?;
+    }
+    Ok(())
+}
+
+/// `run_audit` writes the verdict, or else nothing but the line that names want of memory.
+pub fn run_audits(alloc: Global) -> Result<(), Failure> {
+    for world in RUNS.iter().chain(&AUDITS) {
+        let topology = topology_file(alloc, world)?;
+        let files = files_of(alloc, world)?;
+        let mut sheet = Sheet::new(alloc)?;
+        let mut status = write_audit(alloc, &topology, &files, &mut sheet);
+        if sheet.is_out_of_memory(status) {
+            expect(sheet.out.is_empty(), "lines before a fault")?;
+            sheet.clear();
+            status = write_audit(alloc, &topology, &files, &mut sheet);
+        }
+        expect(status == status_of(world), "another status")?;
+        expect(sheet.err.is_empty(), "a fault of faultless files")?;
+        expect(sheet.out.as_slice() == world.lines.as_bytes(), world.name)?;
+    }
+    Ok(())
+}
+
+fn write_audit(alloc: Global, topology: &str, files: &[Vec<u8>], sheet: &mut Sheet) -> u8 {
+    run_audit(
+        alloc,
+        topology.as_bytes(),
+        files,
+        &mut sheet.out,
+        &mut sheet.err,
+    )
+}
+
+/// The status of an audit with no fault.
+pub fn status_of(world: &World) -> u8 {
+    if world.lines.starts_with("accepted") {
+        0
+    } else {
+        1
+    }
+}
+
+/// The journals' files.
+pub fn files_of(alloc: Global, world: &World) -> Result<Vec<Vec<u8>>, Failure> {
+    let mut files = Vec::with_capacity(alloc, world.files.len())?;
+    for file in world.files {
+        files.push(making::file_bytes(alloc, file)?)?;
+    }
+    Ok(files)
+}
+
+/// The file that names the sites of a world.
+pub fn topology_file(alloc: Global, world: &World) -> Result<String, Failure> {
+    let mut text = String::new(alloc);
+    write!(text, "{{\"edition\":1,\"sites\":[")?;
+    for (i, (site, processes)) in world.sites.iter().enumerate() {
+        let comma = if i == 0 { "" } else { "," };
+        write!(
+            text,
+            "{comma}{{\"site\":{site},\"processes\":{processes:?}}}"
+        )?;
+    }
+    write!(text, "]}}")?;
+    Ok(text)
+}

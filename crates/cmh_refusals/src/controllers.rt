@@ -1,0 +1,160 @@
+//! Controllers are made, take their steps, and replay a journal.
+
+use crate::failure::{Failure, expect};
+use crate::making;
+use crate::worlds::{AUDITS, RUNS, World};
+use cmh_controller::{Controller, Entry, Outcome, Refusal, Replayed, Sendings, replay};
+use cmh_frames::{Frame, SiteId, Topology};
+use cmh_journal::Journal;
+use std::alloc::Global;
+
+/// `Controller::new` answers an empty controller or want of memory; of an unknown site `NotHere`, whatever memory does.
+pub fn controller(alloc: Global) -> Result<(), Failure> {
+    for world in &RUNS {
+        let topology = making::topology(alloc, world.sites)?;
+        for site in topology.sites() {
+            let made = new_controller(alloc, &topology, *site)?;
+            expect(made.site() == *site, "a controller of another site")?;
+            expect(
+                made.declared(alloc)?.is_empty(),
+                "a new controller declared",
+            )?;
+        }
+        let stranger = Controller::new(alloc, &topology, making::site(9)?);
+        expect(
+            stranger.err() == Some(Refusal::NotHere),
+            "a controller of an unknown site",
+        )?;
+    }
+    Ok(())
+}
+
+fn new_controller(alloc: Global, topology: &Topology, site: SiteId) -> Result<Controller, Failure> {
+    let made = match Controller::new(alloc, topology, site) {
+        Err(Refusal::Memory) => {
+            expect(Refusal::Memory.number() == 11, "want of memory is 11")?;
+            Controller::new(alloc, topology, site)
+        }
+        answer => answer,
+    };
+    match made {
+        Ok(controller) => Ok(controller),
+        Err(_) => Err(Failure::Wrong("no controller of a known site")),
+    }
+}
+
+/// Each `step` of the worked worlds answers its outcome or want of memory, after which the controller is as it was.
+pub fn steps(alloc: Global) -> Result<(), Failure> {
+    for world in &RUNS {
+        let topology = making::topology(alloc, world.sites)?;
+        for journal in &making::journals(alloc, world)? {
+            let mut controller = new_controller(alloc, &topology, journal.site())?;
+            for entry in journal.entries() {
+                let before = controller.copy(alloc)?;
+                let outcome = match controller.step(&entry.event) {
+                    Err(Refusal::Memory) => {
+                        is_unchanged(alloc, &controller, &before, journal)?;
+                        controller.step(&entry.event)
+                    }
+                    answer => answer,
+                };
+                is_recorded(entry, outcome)?;
+            }
+            declared_all(alloc, &controller, journal)?;
+        }
+    }
+    Ok(())
+}
+
+/// A controller that refused a step is as it was, as far as its calls tell.
+fn is_unchanged(
+    alloc: Global,
+    controller: &Controller,
+    before: &Controller,
+    journal: &Journal,
+) -> Result<(), Failure> {
+    for entry in journal.entries() {
+        expect(
+            controller.check(&entry.event) == before.check(&entry.event),
+            "a refused step changed what is accepted",
+        )?;
+    }
+    let declared = controller.declared(alloc)?;
+    expect(
+        declared.as_slice() == before.declared(alloc)?.as_slice(),
+        "a refused step declared a process",
+    )
+}
+
+/// The outcome is the one that the entry records.
+fn is_recorded(entry: &Entry, outcome: Result<Outcome, Refusal>) -> Result<(), Failure> {
+    let Ok(outcome) = outcome else {
+        return Err(Failure::Wrong("a lawful step was refused"));
+    };
+    expect(
+        is_same(&outcome.sent, &entry.sent),
+        "other frames were sent",
+    )?;
+    expect(
+        outcome.declared == entry.declared,
+        "another process was declared",
+    )
+}
+
+fn is_same(left: &Sendings, right: &Sendings) -> bool {
+    let (left, right): (&[(SiteId, Frame)], &[(SiteId, Frame)]) = (
+        left.as_slice(),
+        right.as_slice(),
+    );
+    left == right
+}
+
+/// The controller declared those that the journal records, which are at most one.
+fn declared_all(alloc: Global, controller: &Controller, journal: &Journal) -> Result<(), Failure> {
+    let declared = controller.declared(alloc)?;
+    let recorded = journal.entries().iter().find_map(|entry| entry.declared);
+    expect(
+        declared.first().copied() == recorded,
+        "the controller does not keep what it declared",
+    )
+}
+
+/// `replay` answers the controller at the end, or the first entry that isn't lawful, or want of memory.
+pub fn replays(alloc: Global) -> Result<(), Failure> {
+    for world in RUNS.iter().chain(&AUDITS) {
+        let topology = making::topology(alloc, world.sites)?;
+        for (place, file) in world.files.iter().enumerate() {
+            let journal = making::journal(alloc, file)?;
+            let lawful = match place {
+                0 => world.lawful,
+                _ => file.entries.len(),
+            };
+            replay_one(alloc, &topology, &journal, lawful)?;
+        }
+    }
+    Ok(())
+}
+
+fn replay_one(
+    alloc: Global,
+    topology: &Topology,
+    journal: &Journal,
+    lawful: usize,
+) -> Result<(), Failure> {
+    let entries = journal.entries();
+    let replayed = match replay(alloc, topology, journal.site(), entries) {
+        Err(_) => replay(alloc, topology, journal.site(), entries),
+        answer => answer,
+    };
+    match replayed {
+        Ok(Replayed::Whole(controller)) => {
+            expect(lawful == entries.len(), "an unlawful journal was replayed")?;
+            declared_all(alloc, &controller, journal)
+        }
+        Ok(Replayed::StopsAt(entry)) => expect(
+            lawful < entries.len() && entry == lawful + 1,
+            "a replay stopped elsewhere",
+        ),
+        Err(_) => Err(Failure::Wrong("a replay without memory twice")),
+    }
+}

@@ -1,0 +1,109 @@
+//! Entries are spelled, and journals are read from their files.
+
+use crate::failure::{Failure, expect};
+use crate::making::{file_bytes, journal};
+use crate::worlds::{AUDITS, File, RUNS};
+use cmh_journal::{Journal, JournalFault, Tail, encode_entry, read_journal};
+use std::alloc::{AllocError, Global};
+
+/// `encode_entry` answers the one spelling of an entry or want of memory.
+pub fn encode(alloc: Global) -> Result<(), Failure> {
+    for world in &RUNS {
+        for file in world.files {
+            let journal = journal(alloc, file)?;
+            spells_again(alloc, &journal, file)?;
+        }
+    }
+    Ok(())
+}
+
+/// Each entry of the journal has the spelling that the file has.
+fn spells_again(alloc: Global, journal: &Journal, file: &File) -> Result<(), Failure> {
+    let edition = journal.edition();
+    for (entry, spelling) in journal.entries().iter().zip(file.entries) {
+        let bytes = match encode_entry(alloc, edition, entry) {
+            Err(AllocError) => encode_entry(alloc, edition, entry),
+            answer => answer,
+        };
+        let Ok(bytes) = bytes else {
+            return Err(Failure::Wrong("no memory for an entry twice"));
+        };
+        expect(
+            bytes.as_slice() == *spelling,
+            "an entry is spelled otherwise",
+        )?;
+    }
+    Ok(())
+}
+
+/// Bytes behind a file's entries, and what is read there.
+struct Behind {
+    bytes: &'static [u8],
+    read: Result<Tail, JournalFault>,
+}
+
+/// The files that they stand behind have 7 and 27 bytes.
+const BEHIND: [Behind; 4] = [
+    Behind {
+        bytes: &[],
+        read: Ok(Tail::Whole),
+    },
+    Behind {
+        bytes: &[0, 14, 1, 0],
+        read: Ok(Tail::Cut(4)),
+    },
+    Behind {
+        bytes: &[0],
+        read: Ok(Tail::Cut(1)),
+    },
+    Behind {
+        bytes: &[0, 3, 3, 0, 0],
+        read: Err(JournalFault::BadEntry(0)),
+    },
+];
+
+/// `read_journal` answers the journal with its tail, or the fault of the file, or want of memory.
+pub fn read(alloc: Global) -> Result<(), Failure> {
+    for world in RUNS.iter().chain(&AUDITS) {
+        for file in world.files {
+            for behind in &BEHIND {
+                let mut bytes = file_bytes(alloc, file)?;
+                let whole = bytes.len();
+                bytes.extend_from_slice(behind.bytes)?;
+                let read = match read_journal(alloc, &bytes) {
+                    Err(JournalFault::Memory) => {
+                        expect(JournalFault::Memory.number() == 4, "want of memory is 4")?;
+                        read_journal(alloc, &bytes)
+                    }
+                    answer => answer,
+                };
+                is_read(alloc, read, file, behind, whole)?;
+            }
+        }
+    }
+    Ok(())
+}
+
+/// What was read is the journal of the file up to this place, and what stands behind it.
+fn is_read(
+    alloc: Global,
+    read: Result<(Journal, Tail), JournalFault>,
+    file: &File,
+    behind: &Behind,
+    whole: usize,
+) -> Result<(), Failure> {
+    match (read, behind.read) {
+        (Ok((journal, tail)), Ok(wanted)) => {
+            expect(tail == wanted, "another tail")?;
+            expect(
+                journal.entries().len() == file.entries.len(),
+                "another number of entries",
+            )?;
+            spells_again(alloc, &journal, file)
+        }
+        (Err(JournalFault::BadEntry(place)), Err(_)) => {
+            expect(place == whole as u64, "a fault at another place")
+        }
+        _ => Err(Failure::Wrong("another kind of answer")),
+    }
+}

@@ -1,0 +1,93 @@
+//! Calls whose allocations, reads and writes are refused in turn from outside.
+//!
+//! Each scenario makes calls, of which one may be refused memory, and looks at their answers: each is the undisturbed
+//! one or names want of memory, nothing has changed by a refusal, and the same call then gives the undisturbed answer.
+//! `cmh_refusals` runs all scenarios, `cmh_refusals NAME` one, and `cmh_refusals NAME idle` leaves out those calls that
+//! take no memory. What is printed is the same whatever was refused.
+#![tactic(auto)]
+
+mod audits;
+mod carriers;
+mod controllers;
+mod failure;
+mod journals;
+mod making;
+mod plays;
+mod scenario;
+mod still;
+mod streams;
+mod topologies;
+mod troubles;
+mod worlds;
+
+use crate::failure::Failure;
+use crate::scenario::Scenario;
+use std::alloc::Global;
+use std::process::ExitCode;
+use std::rt::Env;
+use std::{env, io};
+
+/// How often a scenario makes each call that takes no memory.
+const ROUNDS: u32 = 100;
+
+/// Runs a scenario, and once more where memory was refused to the scenario itself, since just one allocation is refused.
+fn hold(alloc: Global, scenario: Scenario, rounds: u32) -> Result<(), Failure> {
+    match scenario.run(alloc, rounds) {
+        Err(Failure::Memory) => scenario.run(alloc, rounds),
+        answer => answer,
+    }
+}
+
+/// Prints whether a scenario holds.
+fn report<R: AllocGlobal + Print>(rt: &R, scenario: Scenario, rounds: u32) -> io::Result<bool> {
+    let name = scenario.name();
+    let failure = match hold(rt.alloc(), scenario, rounds) {
+        Ok(()) => {
+            println!(rt; "{name} holds")?;
+            return Ok(true);
+        }
+        Err(Failure::Memory) => "memory was refused twice",
+        Err(Failure::Wrong(what)) => what,
+    };
+    println!(rt; "{name} FAILED: {failure}")?;
+    Ok(false)
+}
+
+fn words<R: Env + AllocGlobal>(rt: &R) -> io::Result<Vec<String>> {
+    let mut words = Vec::new(rt.alloc());
+    for word in env::args(rt)? {
+        words.push(word)?;
+    }
+    Ok(words)
+}
+
+/// The words of the command line, behind that of the program.
+fn words_again<R: Env + AllocGlobal>(rt: &R) -> io::Result<Vec<String>> {
+    match words(rt) {
+        Err(_) => words(rt),
+        words => words,
+    }
+}
+
+fn main(rt: HostRuntime) -> io::Result<ExitCode> {
+    let words = words_again(&rt)?;
+    let only = words.get(1);
+    let rounds = match words.get(2) {
+        Some(word) if word.as_str() == "idle" => 0,
+        _ => ROUNDS,
+    };
+    let mut ran = false;
+    let mut all_hold = true;
+    for scenario in Scenario::ALL {
+        if only.is_none_or(|word| word.as_str() == scenario.name()) {
+            ran = true;
+            let holds = report(&rt, scenario, rounds)?;
+            all_hold = all_hold && holds;
+        }
+    }
+    Ok(ExitCode::from(match (ran, all_hold) {
+        (false, _) => 2,
+        (true, false) => 1,
+        (true, true) => 0,
+    }))
+}

@@ -1,0 +1,61 @@
+//! What a scenario makes before the calls that it looks at.
+
+use crate::failure::Failure;
+use crate::worlds::{File, World};
+use cmh_frames::{Edition, ProcId, SiteId, SiteRow, Topology};
+use cmh_journal::{Journal, encode_header, read_journal};
+use std::alloc::Global;
+
+pub fn process(number: u16) -> Result<ProcId, Failure> {
+    match ProcId::new(number) {
+        Some(process) => Ok(process),
+        None => Err(Failure::Wrong("no process has this number")),
+    }
+}
+
+pub fn site(number: u16) -> Result<SiteId, Failure> {
+    match SiteId::new(number) {
+        Some(site) => Ok(site),
+        None => Err(Failure::Wrong("no site has this number")),
+    }
+}
+
+pub fn site_rows(alloc: Global, sites: &[(u16, &[u16])]) -> Result<Vec<SiteRow>, Failure> {
+    let mut rows = Vec::with_capacity(alloc, sites.len())?;
+    for (site, processes) in sites {
+        rows.push(SiteRow {
+            site: *site,
+            processes: processes.to_vec(alloc)?,
+        })?;
+    }
+    Ok(rows)
+}
+
+/// A topology of edition 1.
+pub fn topology(alloc: Global, sites: &[(u16, &[u16])]) -> Result<Topology, Failure> {
+    let rows = site_rows(alloc, sites)?;
+    Ok(Topology::new(alloc, Edition::One, &rows)?)
+}
+
+/// The bytes of a journal's file, of edition 1.
+pub fn file_bytes(alloc: Global, file: &File) -> Result<Vec<u8>, Failure> {
+    let mut bytes = Vec::from_slice(alloc, &encode_header(Edition::One, site(file.site)?))?;
+    for entry in file.entries {
+        bytes.extend_from_slice(*entry)?;
+    }
+    Ok(bytes)
+}
+
+pub fn journal(alloc: Global, file: &File) -> Result<Journal, Failure> {
+    let bytes = file_bytes(alloc, file)?;
+    let (journal, _) = read_journal(alloc, &bytes)?;
+    Ok(journal)
+}
+
+pub fn journals(alloc: Global, world: &World) -> Result<Vec<Journal>, Failure> {
+    let mut journals = Vec::with_capacity(alloc, world.files.len())?;
+    for file in world.files {
+        journals.push(journal(alloc, file)?)?;
+    }
+    Ok(journals)
+}

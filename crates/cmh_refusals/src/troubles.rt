@@ -1,0 +1,128 @@
+//! Reads and writes that fail or move one byte, under the commands.
+
+use crate::audits::{files_of, status_of, topology_file};
+use crate::carriers::{Reader, Sheet, Trouble, Writer};
+use crate::failure::{Failure, expect};
+use crate::plays::{ROWS, Row};
+use crate::worlds::{AUDITS, RUNS, World};
+use cmh_site::{run_audit, run_play};
+use std::alloc::Global;
+
+/// More calls than any scenario makes of one reader or writer.
+const MANY: u64 = 1024;
+
+/// How a command ended.
+#[derive(Drop)]
+struct Ended {
+    status: u8,
+    sheet: Sheet,
+    /// Whether it met the trouble.
+    met: bool,
+}
+
+/// Plays a script whose reads and writes move a byte at a time.
+fn play(alloc: Global, row: &Row, reads: Trouble, writes: Trouble) -> Result<Ended, Failure> {
+    let mut sheet = Sheet::new(alloc)?;
+    let mut input = Reader::new(row.script.as_bytes(), reads);
+    let mut out = Writer::new(&mut sheet.out, writes);
+    let status = run_play(alloc, &mut input, &mut out, &mut sheet.err);
+    let met = input.met() || out.met();
+    Ok(Ended { status, sheet, met })
+}
+
+/// Audits the journals of a world; the writes take a byte at a time.
+fn audit(alloc: Global, world: &World, writes: Trouble) -> Result<Ended, Failure> {
+    let topology = topology_file(alloc, world)?;
+    let files = files_of(alloc, world)?;
+    let mut sheet = Sheet::new(alloc)?;
+    let mut out = Writer::new(&mut sheet.out, writes);
+    let status = run_audit(alloc, topology.as_bytes(), &files, &mut out, &mut sheet.err);
+    let met = out.met();
+    Ok(Ended { status, sheet, met })
+}
+
+impl Ended {
+    /// A command that met a trouble ends with status 3, the fault line, and a beginning of its lines; any other with all
+    /// of them.
+    fn is_right(&self, status: u8, lines: &str, fault: &str) -> Result<(), Failure> {
+        if !self.met {
+            expect(self.status == status, "another status with no trouble")?;
+            expect(self.sheet.err.is_empty(), "a fault with no trouble")?;
+            return expect(
+                self.sheet.out.as_slice() == lines.as_bytes(),
+                "a call that moves one byte changed the lines",
+            );
+        }
+        expect(self.status == 3, "another status after a trouble")?;
+        expect(
+            self.sheet.err.as_slice() == fault.as_bytes(),
+            "another fault line",
+        )?;
+        expect(
+            lines.as_bytes().starts_with(&self.sheet.out),
+            "other lines before a fault",
+        )
+    }
+}
+
+/// A play one of whose reads fails ends with `fault input`.
+pub fn failing_reads(alloc: Global) -> Result<(), Failure> {
+    for row in &ROWS {
+        let mut meets = true;
+        for call in 0..MANY {
+            if meets {
+                let ended = play(alloc, row, Trouble::Fails(call), Trouble::None)?;
+                ended.is_right(0, row.answers, "fault input\n")?;
+                meets = ended.met;
+            }
+        }
+        expect(!meets, "reads without end")?;
+    }
+    Ok(())
+}
+
+/// A play or an audit one of whose writes fails, or takes nothing, ends with `fault output`.
+pub fn failing_writes(alloc: Global) -> Result<(), Failure> {
+    for row in &ROWS {
+        let mut meets = true;
+        for call in 0..MANY {
+            if meets {
+                meets = false;
+                for trouble in [Trouble::Fails(call), Trouble::TakesNothing(call)] {
+                    let ended = play(alloc, row, Trouble::None, trouble)?;
+                    ended.is_right(0, row.answers, "fault output\n")?;
+                    meets = ended.met;
+                }
+            }
+        }
+        expect(!meets, "writes without end")?;
+    }
+    for world in RUNS.iter().chain(&AUDITS) {
+        for call in 0..world.lines.len() as u64 + 1 {
+            for trouble in [Trouble::Fails(call), Trouble::TakesNothing(call)] {
+                let ended = audit(alloc, world, trouble)?;
+                ended.is_right(status_of(world), world.lines, "fault output\n")?;
+            }
+        }
+    }
+    Ok(())
+}
+
+/// A fault line that can't be written changes no status.
+pub fn failing_fault_lines(alloc: Global) -> Result<(), Failure> {
+    let mut sheet = Sheet::new(alloc)?;
+    let mut input = Reader::new(ROWS[0].script.as_bytes(), Trouble::Fails(0));
+    let mut err = Writer::new(&mut sheet.err, Trouble::Fails(0));
+    let status = run_play(alloc, &mut input, &mut sheet.out, &mut err);
+    expect(
+        status == 3,
+        "a play without a fault line has another status",
+    )?;
+    sheet.clear();
+    let mut err = Writer::new(&mut sheet.err, Trouble::Fails(0));
+    let status = run_audit(alloc, b"{", &[], &mut sheet.out, &mut err);
+    expect(
+        status == 3,
+        "an audit without a fault line has another status",
+    )
+}

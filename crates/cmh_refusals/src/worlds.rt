@@ -1,0 +1,212 @@
+//! Worked worlds: their sites, the entries that a run leaves in each journal, and what an audit of them answers.
+
+/// A journal by its site and the spellings of its entries.
+pub struct File {
+    pub site: u16,
+    pub entries: &'static [&'static [u8]],
+}
+
+/// Sites with their processes, their journals in any order, and the lines of their audit.
+pub struct World {
+    pub name: &'static str,
+    pub sites: &'static [(u16, &'static [u16])],
+    pub files: &'static [File],
+    /// How many entries of the first file are lawful.
+    pub lawful: usize,
+    pub lines: &'static str,
+}
+
+/// Ask 1 [2], with the request to site 2.
+const ASK_1_2: [u8; 16] = [0, 14, 1, 0, 1, 1, 0, 2, 5, 0, 2, 1, 0, 1, 0, 2];
+
+/// Ask 2 [1], with the request to site 1.
+const ASK_2_1: [u8; 16] = [0, 14, 1, 0, 2, 1, 0, 1, 5, 0, 1, 1, 0, 2, 0, 1];
+
+/// Ask 2 [3], with the request to site 1.
+const ASK_2_3: [u8; 16] = [0, 14, 1, 0, 2, 1, 0, 3, 5, 0, 1, 1, 0, 2, 0, 3];
+
+/// Ask 3 [1], with the request to site 1.
+const ASK_3_1: [u8; 16] = [0, 14, 1, 0, 3, 1, 0, 1, 5, 0, 1, 1, 0, 3, 0, 1];
+
+/// Ask 3 [1] at the site of both.
+const ASK_3_1_HERE: [u8; 8] = [0, 6, 1, 0, 3, 1, 0, 1];
+
+/// Ask 2 [3] at the site of both.
+const ASK_2_3_HERE: [u8; 8] = [0, 6, 1, 0, 2, 1, 0, 3];
+
+/// Ask 1 [2, 3], with the requests to site 2.
+const ASK_1_2_3: [u8; 26] = [
+    0, 24, 1, 0, 1, 2, 0, 2, 0, 3, 5, 0, 2, 1, 0, 1, 0, 2, 5, 0, 2, 1, 0, 1, 0, 3,
+];
+
+/// Reply 3 2 at the site of both.
+const REPLY_3_2_HERE: [u8; 7] = [0, 5, 2, 0, 3, 0, 2];
+
+/// Start 1, with the probe 1 1 2 to site 2.
+const START_1: [u8; 15] = [0, 13, 3, 0, 1, 5, 0, 2, 3, 0, 1, 0, 1, 0, 2];
+
+/// Got from site 1 the request 1 2.
+const GOT_REQUEST_1_2: [u8; 10] = [0, 8, 4, 0, 1, 1, 0, 1, 0, 2];
+
+/// Got from site 1 the request 1 3.
+const GOT_REQUEST_1_3: [u8; 10] = [0, 8, 4, 0, 1, 1, 0, 1, 0, 3];
+
+/// Got from site 2 the request 2 1.
+const GOT_REQUEST_2_1: [u8; 10] = [0, 8, 4, 0, 2, 1, 0, 2, 0, 1];
+
+/// Got from site 2 the request 2 3.
+const GOT_REQUEST_2_3: [u8; 10] = [0, 8, 4, 0, 2, 1, 0, 2, 0, 3];
+
+/// Got from site 3 the request 3 1.
+const GOT_REQUEST_3_1: [u8; 10] = [0, 8, 4, 0, 3, 1, 0, 3, 0, 1];
+
+/// Got from site 1 the probe 1 1 2, which is ignored.
+const GOT_PROBE_1_1_2: [u8; 12] = [0, 10, 4, 0, 1, 3, 0, 1, 0, 1, 0, 2];
+
+/// Got from site 1 the probe 1 1 2, with the probe 1 2 1 to site 1.
+const GOT_PROBE_1_1_2_SENT_1_2_1: [u8; 22] = [
+    0, 20, 4, 0, 1, 3, 0, 1, 0, 1, 0, 2, 5, 0, 1, 3, 0, 1, 0, 2, 0, 1,
+];
+
+/// Got from site 1 the probe 1 1 2, with the probe 1 2 3 to site 1.
+const GOT_PROBE_1_1_2_SENT_1_2_3: [u8; 22] = [
+    0, 20, 4, 0, 1, 3, 0, 1, 0, 1, 0, 2, 5, 0, 1, 3, 0, 1, 0, 2, 0, 3,
+];
+
+/// Got from site 2 the probe 1 2 1, and 1 is declared.
+const GOT_PROBE_1_2_1_DECLARED_1: [u8; 15] = [0, 13, 4, 0, 2, 3, 0, 1, 0, 2, 0, 1, 6, 0, 1];
+
+/// Got from site 2 the probe 1 2 3, and 1 is declared.
+const GOT_PROBE_1_2_3_DECLARED_1: [u8; 15] = [0, 13, 4, 0, 2, 3, 0, 1, 0, 2, 0, 3, 6, 0, 1];
+
+/// Worlds that ran, with probes between their sites.
+pub const RUNS: [World; 3] = [
+    World {
+        name: "a probe comes home over two sites",
+        sites: &[(1, &[1]), (2, &[2])],
+        files: &[
+            File {
+                site: 1,
+                entries: &[
+                    &ASK_1_2,
+                    &GOT_REQUEST_2_1,
+                    &START_1,
+                    &GOT_PROBE_1_2_1_DECLARED_1,
+                ],
+            },
+            File {
+                site: 2,
+                entries: &[&ASK_2_1, &GOT_REQUEST_1_2, &GOT_PROBE_1_1_2_SENT_1_2_1],
+            },
+        ],
+        lawful: 4,
+        lines: "accepted\nevents 7\nwait 1 2\nwait 2 1\ndeclared 1 cycle 1 2 1\n",
+    },
+    World {
+        name: "a probe declares its origin by local dependence",
+        sites: &[(1, &[1, 3]), (2, &[2])],
+        files: &[
+            File {
+                site: 1,
+                entries: &[
+                    &ASK_1_2,
+                    &ASK_3_1_HERE,
+                    &GOT_REQUEST_2_3,
+                    &START_1,
+                    &GOT_PROBE_1_2_3_DECLARED_1,
+                ],
+            },
+            File {
+                site: 2,
+                entries: &[&ASK_2_3, &GOT_REQUEST_1_2, &GOT_PROBE_1_1_2_SENT_1_2_3],
+            },
+        ],
+        lawful: 5,
+        lines: "accepted\nevents 8\nwait 1 2\nwait 2 3\nwait 3 1\ndeclared 1 cycle 1 2 3 1\n",
+    },
+    World {
+        name: "dependents are forgotten when their process becomes active",
+        sites: &[(1, &[1]), (2, &[2, 3])],
+        files: &[
+            File {
+                site: 1,
+                entries: &[
+                    &ASK_1_2,
+                    &START_1,
+                    &GOT_REQUEST_2_1,
+                    &START_1,
+                    &GOT_PROBE_1_2_1_DECLARED_1,
+                ],
+            },
+            File {
+                site: 2,
+                entries: &[
+                    &ASK_2_3_HERE,
+                    &GOT_REQUEST_1_2,
+                    &GOT_PROBE_1_1_2,
+                    &REPLY_3_2_HERE,
+                    &ASK_2_1,
+                    &GOT_PROBE_1_1_2_SENT_1_2_1,
+                ],
+            },
+        ],
+        lawful: 5,
+        lines: "accepted\nevents 11\nwait 1 2\nwait 2 1\ndeclared 1 cycle 1 2 1\n",
+    },
+];
+
+/// Worlds whose journals an auditor is given.
+pub const AUDITS: [World; 3] = [
+    World {
+        name: "a site may get a request before its own site asks anything",
+        sites: &[(1, &[1]), (2, &[2]), (3, &[3])],
+        files: &[
+            File {
+                site: 1,
+                entries: &[&GOT_REQUEST_3_1],
+            },
+            File {
+                site: 2,
+                entries: &[],
+            },
+            File {
+                site: 3,
+                entries: &[&ASK_3_1],
+            },
+        ],
+        lawful: 1,
+        lines: "accepted\nevents 2\nwait 3 1\n",
+    },
+    World {
+        name: "frames of one link are got in the order of sending",
+        sites: &[(1, &[1]), (2, &[2, 3])],
+        files: &[
+            File {
+                site: 1,
+                entries: &[&ASK_1_2_3],
+            },
+            File {
+                site: 2,
+                entries: &[&GOT_REQUEST_1_3, &GOT_REQUEST_1_2],
+            },
+        ],
+        lawful: 1,
+        lines: "refused\nstop 2 at 1\n",
+    },
+    World {
+        name: "a probe that was not sent is missed",
+        sites: &[(1, &[1]), (2, &[2, 3])],
+        files: &[
+            File {
+                site: 1,
+                entries: &[&ASK_1_2_3, &START_1],
+            },
+            File {
+                site: 2,
+                entries: &[],
+            },
+        ],
+        lawful: 1,
+        lines: "refused\nstop 1 at 2\n",
+    },
+];
