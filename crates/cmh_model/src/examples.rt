@@ -51,9 +51,11 @@ pub fn ask_starts_a_computation()
     ensures declared { IsDeclared declared_at_ask 2 }
 {}
 
-/// A wait ends with its reply: `1: 1 2`, `ask 1 2 / reply 2 1`.
+/// A wait ends with its reply: `1: 1 2`, `ask 1 2 / reply 2 1`. Then 2 owes 1 nothing.
 pub fn reply_ends_a_wait()
+    ensures run { IsRun (one_site One) ask_and_reply }
     ensures ended { wait_after false 1 2 ask_and_reply ≡ false }
+    ensures not_owed { has (state_of (one_site One) 1 ask_and_reply).owed 2 1 ≡ false }
 {}
 
 /// `1: 1`, `2: 2 3`: 1 asked 2 and 3, and 2 granted before the probe of 1 for it came. Though 2 waits again, the probe is ignored, since 2 owes 1 nothing.
