@@ -7,7 +7,7 @@ use Rattle.cmh_model.specs.declared.journal.Entry.{Entry}
 use Rattle.cmh_model.specs.Runs.{IsBeginningOf}
 use Rattle.cmh_journal.specs.Journal.{Journal}
 use Rattle.cmh_audit.specs.Journals.{journal_of, NoneAt, OneEach, entry_count}
-use Rattle.cmh_audit.specs.Merging.{taken_of, IsLawfulLength, AreLawfulLengths}
+use Rattle.cmh_audit.specs.Merging.{taken_of, IsLawfulLength, AreLawfulLengths, total}
 
 pub none_at : (site : ℕ) (js : List Journal) (k : ℕ) (j : Journal) → NoneAt site js → k < length js → j ≡ get_or js k j → site ≢ j.site
 none_at site [] k j none l here e = absurd (omega arith)
@@ -86,10 +86,7 @@ length-limits t [] (n ∷ limits) are = absurd are
 length-limits t (x ∷ js) [] are = absurd are
 length-limits t (x ∷ js) (n ∷ limits) are = ap suc (length-limits t js limits are.1)
 
--- all counts together
-abbrev pub total : List ℕ → ℕ
-total [] = 0
-total (n ∷ counts) = n + total counts
+-- ---- all counts together
 
 pub total-set : (counts : List ℕ) (k : ℕ) → k < length counts → total (set counts k (get_or counts k 0 + 1)) ≡ total counts + 1
 total-set [] k l = absurd (omega arith)

@@ -226,11 +226,11 @@ in_rest x y ys ne c = go c.0 c.1 c.2
     go (suc k) l e = (k, omega arith, e)
 
 -- the list without x
-abbrev without : ℕ → List ℕ → List ℕ
+abbrev pub without : ℕ → List ℕ → List ℕ
 without x [] = []
 without x (y ∷ ys) = if x == y then ys else y ∷ without x ys
 
-without_length : (x : ℕ) (ys : List ℕ) → Contains ys x → length ys ≡ length (without x ys) + 1
+pub without_length : (x : ℕ) (ys : List ℕ) → Contains ys x → length ys ≡ length (without x ys) + 1
 without_length x [] c = absurd (no_member x c)
 without_length x (y ∷ ys) c = ⊎_elim
     (λ (e : x ≡ y). let h : length (without x (y ∷ ys)) ≡ length ys = ap (λ t. length (if t then ys else y ∷ without x ys)) (eq-eqb x y e) in omega (arith, h))
@@ -242,7 +242,7 @@ without_length x (y ∷ ys) c = ⊎_elim
     plus_one : (n : ℕ) → suc n ≡ n + 1
     plus_one n = omega arith
 
-without_keeps : (x z : ℕ) (ys : List ℕ) → x ≢ z → Contains ys z → Contains (without x ys) z
+pub without_keeps : (x z : ℕ) (ys : List ℕ) → x ≢ z → Contains ys z → Contains (without x ys) z
 without_keeps x z [] apart c = absurd (no_member z c)
 without_keeps x z (y ∷ ys) apart c = ⊎_elim
     (λ (e : x ≡ y). subst (λ l. Contains l z) (sym (ap (λ t. if t then ys else y ∷ without x ys) (eq-eqb x y e))) (in_rest z y ys (λ f. apart (e ∙ sym f)) c))

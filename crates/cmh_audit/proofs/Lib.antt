@@ -18,5 +18,6 @@ pub mod CycleLemmas
 pub mod CountingLemmas
 pub mod ReportLemmas
 pub mod AuditLemmas
+pub mod TryLemmas
 pub mod SetLemmas
 pub mod TransitLemmas

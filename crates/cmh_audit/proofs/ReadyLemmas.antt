@@ -14,10 +14,11 @@ use Rattle.cmh_model.specs.Runs.{IsBeginningOf}
 use Rattle.cmh_journal.specs.Journal.{Journal}
 use Rattle.cmh_audit.specs.Journals.{OneEach, entry_count}
 use Rattle.cmh_audit.specs.Links.{Links, waiting}
-use Rattle.cmh_audit.specs.Merging.{AreLawfulLengths, IsStuck, IsNext, Moves}
+use Rattle.cmh_audit.specs.Merging.{AreLawfulLengths, IsStuck, IsNext, Moves, total, AreTried}
 use Rattle.cmh_audit.specs.Ready.{Wakes, ArePlaces}
-use Rattle.cmh_audit.proofs.CountLemmas.{total, total-set, total-none, total-le, none_at, limit_here, length-limits}
+use Rattle.cmh_audit.proofs.CountLemmas.{total-set, total-none, total-le, none_at, limit_here, length-limits}
 use Rattle.cmh_audit.proofs.Members.{contains_left, contains_last, contains_push, no_member}
+use Rattle.cmh_audit.proofs.TryLemmas.{tried_start, tried_failed, tried_whole, tried_took}
 use Rattle.cmh_audit.proofs.MergeLemmas.{Merging, merging_start, merging_more, stuck_at_limit, stuck_at_frame, all_stuck}
 
 pub other_number : (o : Option ℕ) (n : ℕ) → option_eq nat_eq o (Some n) ≡ false → o ≡ Some n → ⊥
@@ -63,6 +64,7 @@ pub record Listed (t : Topology) (js : List Journal) (limits counts : List ℕ) 
   pub inside : (k : ℕ) → Contains ready k → k < length js
   pub each : (k : ℕ) (j : Journal) → k < length js → j ≡ get_or js k j → Contains ready k ⊎ ((get_or limits k 0 ≤ get_or counts k 0) ⊎ IsParked js limits counts links k j (get_or lacks k None))
   pub bound : tries + length ready ≤ (total counts + 1) * length js
+  pub tried : AreTried js counts ready tries
 
 pub listed_end : (t : Topology) (js : List Journal) (limits counts : List ℕ) (links : Links) (lacks : List (Option ℕ)) (tries : ℕ) → OneEach js → AreLawfulLengths t js limits → Listed t js limits counts links lacks [] tries → IsStuck t js counts
 listed_end t js limits counts links lacks tries one are s = all_stuck t js limits counts links s.merging (λ k j l here.
@@ -79,8 +81,8 @@ listed_tries t js limits counts links lacks ready tries are s =
     omega (arith, times, b)
 
 -- the site was taken from the list and has no lawful entry left
-pub listed_done : (t : Topology) (js : List Journal) (limits counts : List ℕ) (links : Links) (lacks : List (Option ℕ)) (ready : List ℕ) (tries more i : ℕ) → more ≤ tries + 1 → Listed t js limits counts links lacks (ready ++ i ∷ []) tries → get_or limits i 0 ≤ get_or counts i 0 → Listed t js limits counts links lacks ready more
-listed_done t js limits counts links lacks ready tries more i le s past = record {
+pub listed_done : (t : Topology) (js : List Journal) (limits counts : List ℕ) (links : Links) (lacks : List (Option ℕ)) (ready : List ℕ) (tries more i : ℕ) → more ≤ tries + 1 → AreTried js counts ready more → Listed t js limits counts links lacks (ready ++ i ∷ []) tries → get_or limits i 0 ≤ get_or counts i 0 → Listed t js limits counts links lacks ready more
+listed_done t js limits counts links lacks ready tries more i le tried s past = record {
   merging = s.merging;
   long = s.long;
   inside = λ k c. s.inside k (contains_left ready (i ∷ []) k c);
@@ -89,6 +91,7 @@ listed_done t js limits counts links lacks ready tries more i le s past = record
       (λ r. inr r)
       (s.each k j l here);
   bound = let b = s.bound in let n = length-append ready (i ∷ []) in omega (arith, b, n, le);
+  tried = tried;
 }
 
 -- the site was taken from the list and lacks a frame of a
@@ -107,6 +110,7 @@ listed_parked t js limits counts links lacks ready tries i j a frame e s l here 
       (s.each k x lk at))
       (cases_eq k i);
   bound = let b = s.bound in let n = length-append ready (i ∷ []) in omega (arith, b, n);
+  tried = tried_failed js counts ready tries i j s.tried l here;
 }
   where
     parked : (k : ℕ) (x : Journal) → k ≡ i → x ≡ get_or js k x → IsParked js limits counts links k x (get_or (set lacks i (Some a)) k None)
@@ -161,6 +165,7 @@ listed_took t js limits counts old new before lacks first ready tries i j e one 
       (w.woken k (let n = s.long in omega (arith, n, lk)));
   bound = let b = s.bound in let n = length-append first (i ∷ []) in let m = w.bound in let t = total-set counts i (subst (λ n. i < n) (sym s.merging.each) l) in let q = s.long in
       subst (λ v. tries + 1 + length ready ≤ (v + 1) * length js) (sym t) (omega (arith, b, n, m, q));
+  tried = tried_took js counts first ready before lacks j.site tries i s.tried w s.long s.merging.each l;
 }
   where
     stays : (k : ℕ) (x : Journal) → k < length js → x ≡ get_or js k x → k ≢ i → get_or before k None ≢ Some j.site → get_or lacks k None ≡ get_or before k None → IsParked js limits counts old k x (get_or before k None) → IsParked js limits (set counts i (get_or counts i 0 + 1)) new k x (get_or lacks k None)
@@ -193,6 +198,7 @@ listed_start t js limits links lacks ready empty long a = record {
   inside = a.inside;
   each = λ k j l here. inl (a.each k l);
   bound = let n = a.long in subst (λ t. 0 + length ready ≤ (t + 1) * length js) (sym (total-none (length js))) (omega (arith, n));
+  tried = tried_start js ready a;
 }
 
 -- the measure: what is left, and then the list
@@ -216,9 +222,9 @@ work_took t js counts first ready before limits i lacking are each fits l e shor
 pub place_in : (t : Topology) (js : List Journal) (limits counts : List ℕ) (links : Links) (lacks : List (Option ℕ)) (first ready : List ℕ) (tries i : ℕ) → Listed t js limits counts links lacks first tries → first ≡ ready ++ i ∷ [] → i < length js
 place_in t js limits counts links lacks first ready tries i s e = s.inside i (subst (λ r. Contains r i) (sym e) (contains_last ready i))
 
-pub done_step : (t : Topology) (js : List Journal) (limits counts : List ℕ) (links : Links) (lacks : List (Option ℕ)) (first ready : List ℕ) (tries more i at : ℕ) → Listed t js limits counts links lacks first tries → first ≡ ready ++ i ∷ [] → at ≡ get_or counts i at → more ≤ tries + 1 → get_or limits i 0 ≤ at → Listed t js limits counts links lacks ready more
-done_step t js limits counts links lacks first ready tries more i at s e read le past =
-    listed_done t js limits counts links lacks ready tries more i le (subst (λ r. Listed t js limits counts links lacks r tries) e s)
+pub done_step : (t : Topology) (js : List Journal) (limits counts : List ℕ) (links : Links) (lacks : List (Option ℕ)) (first ready : List ℕ) (tries more i at : ℕ) → Listed t js limits counts links lacks first tries → first ≡ ready ++ i ∷ [] → at ≡ get_or counts i at → more ≤ tries + 1 → AreTried js counts ready more → get_or limits i 0 ≤ at → Listed t js limits counts links lacks ready more
+done_step t js limits counts links lacks first ready tries more i at s e read le tried past =
+    listed_done t js limits counts links lacks ready tries more i le tried (subst (λ r. Listed t js limits counts links lacks r tries) e s)
     (subst (λ n. get_or limits i 0 ≤ n) (get_or_read counts i at (subst (λ n. i < n) (sym s.merging.each) (place_in t js limits counts links lacks first ready tries i s e)) read 0) past)
 
 pub parked_step : (t : Topology) (js : List Journal) (limits counts : List ℕ) (links : Links) (lacks : List (Option ℕ)) (first ready : List ℕ) (tries i at : ℕ) (j : Journal) (a : ℕ) (frame : Frame) (e : Entry) →
@@ -265,10 +271,11 @@ read_limit : (t : Topology) (js : List Journal) (limits : List ℕ) (i limit : �
 read_limit t js limits i limit are inside read = get_or_read limits i limit (subst (λ n. i < n) (sym (length-limits t js limits are)) inside) read 0
 
 -- no lawful entry is left
-pub looked_done : (t : Topology) (js : List Journal) (limits counts : List ℕ) (links : Links) (lacks : List (Option ℕ)) (first ready : List ℕ) (tries i at limit : ℕ) → AreLawfulLengths t js limits →
-    Listed t js limits counts links lacks first tries → first ≡ ready ++ i ∷ [] → at ≡ get_or counts i at → limit ≡ get_or limits i limit → limit ≤ at → Listed t js limits counts links lacks ready (tries + 1)
-looked_done t js limits counts links lacks first ready tries i at limit are s p read limit_read past =
+pub looked_done : (t : Topology) (js : List Journal) (limits counts : List ℕ) (links : Links) (lacks : List (Option ℕ)) (first ready : List ℕ) (tries i at limit : ℕ) (j : Journal) → AreLawfulLengths t js limits →
+    Listed t js limits counts links lacks first tries → first ≡ ready ++ i ∷ [] → at ≡ get_or counts i at → limit ≡ get_or limits i limit → j ≡ get_or js i j → limit ≤ at → Listed t js limits counts links lacks ready (tries + 1)
+looked_done t js limits counts links lacks first ready tries i at limit j are s p read limit_read here past =
     done_step t js limits counts links lacks first ready tries (tries + 1) i at s p read (omega arith)
+    (tried_failed js counts ready tries i j (subst (λ r. AreTried js counts r tries) p s.tried) (place_in t js limits counts links lacks first ready tries i s p) here)
     (subst (λ n. n ≤ at) (read_limit t js limits i limit are (place_in t js limits counts links lacks first ready tries i s p) limit_read) past)
 
 -- no entry is left: that is no try
@@ -277,7 +284,11 @@ pub looked_past : (t : Topology) (js : List Journal) (limits counts : List ℕ) 
 looked_past t js limits counts links lacks first ready tries i at j es are s p read here entries past =
     let within = (limit_here t js limits i j are (place_in t js limits counts links lacks first ready tries i s p) here).within in
     let whole = ap length entries in
-    done_step t js limits counts links lacks first ready tries tries i at s p read (omega arith) (omega (arith, within, whole, past))
+    let inside = place_in t js limits counts links lacks first ready tries i s p in
+    let same = get_or_read counts i at (subst (λ n. i < n) (sym s.merging.each) inside) read 0 in
+    done_step t js limits counts links lacks first ready tries tries i at s p read (omega arith)
+    (tried_whole js counts ready tries i j (subst (λ r. AreTried js counts r tries) p s.tried) inside here (omega (arith, whole, past, same)))
+    (omega (arith, within, whole, past))
 
 -- the next entry got a frame that isn't the next one
 pub looked_parked : (t : Topology) (js : List Journal) (limits counts : List ℕ) (links : Links) (lacks : List (Option ℕ)) (first ready : List ℕ) (tries i at limit site : ℕ) (j : Journal) (es : List Entry) (a : ℕ) (frame : Frame) (e : Entry) → AreLawfulLengths t js limits →

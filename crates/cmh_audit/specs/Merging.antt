@@ -1,5 +1,5 @@
 -- How far the journals were taken, and what can be taken next.
-use Rattle.std.specs.Prelude.{◌≡◌, ℕ, ◌+◌, ◌<◌, ◌≤◌, ◌==◌, List, [], ◌∷◌, ◌++◌, length, take, if◌then◌else◌}
+use Rattle.std.specs.Prelude.{◌≡◌, ℕ, ◌+◌, ◌<◌, ◌≤◌, ◌==◌, ◌⊎◌, slice_index_or, Contains, List, [], ◌∷◌, ◌++◌, length, take, if◌then◌else◌}
 use Rattle.cmh_frames.specs.declared.frame.Frame.{Frame}
 use Rattle.cmh_frames.specs.Topology.{Topology}
 use Rattle.cmh_model.specs.declared.event.Event.{Event}
@@ -56,6 +56,18 @@ pub record IsStuck (t : Topology) (journals : List Journal) (counts : List ℕ) 
   pub within : (site : ℕ) → IsBeginningOf (taken_of journals counts site) (journal_of journals site)
   pub stuck : (site : ℕ) (e : Entry) → IsBeginningOf (taken_of journals counts site ++ e ∷ []) (journal_of journals site)
       → CanGrow t site (taken_of journals counts) e → ⊥
+
+-- all counts together
+abbrev pub total : List ℕ → ℕ
+total [] = 0
+total (n ∷ counts) = n + total counts
+
+-- The looks that were made: one at each entry that was taken, and one at least, which failed, of each journal that is neither whole nor on the list.
+pub record AreTried (journals : List Journal) (counts ready : List ℕ) (tries : ℕ) : Type 0 where
+  pub failed : List ℕ  -- the sites of the looks that failed
+  pub all : total counts + length failed ≤ tries
+  pub each : (k : ℕ) (j : Journal) → k < length journals → j ≡ slice_index_or journals k j
+      → Contains ready k ⊎ ((length j.entries ≤ slice_index_or counts k 0) ⊎ Contains failed j.site)
 
 -- the links have just what was sent and not got by the entries that were taken
 abbrev pub AreLeft : List Journal → List ℕ → Links → Type 0

@@ -1,8 +1,8 @@
 //! The merge of journals: entries are taken, one at a time, while any can be.
 
-ghost use Rattle.std.specs.Prelude.{◌≡◌, ◌↔◌, ◌+◌, ◌*◌, ◌≤◌, ◌<◌, ◌^◌, length, OnOk, IfOk, IsTrue};
+ghost use Rattle.std.specs.Prelude.{◌≡◌, ◌↔◌, ◌+◌, ◌*◌, ◌≤◌, ◌<◌, ◌^◌, length, OnOk, IfOk, IsTrue, []};
 ghost use Rattle.cmh_audit.specs.Journals.{OneEach, entry_count};
-ghost use Rattle.cmh_audit.specs.Merging.{IsNext, Sends, Moves, IsStuck, AreLeft};
+ghost use Rattle.cmh_audit.specs.Merging.{IsNext, Sends, Moves, IsStuck, AreLeft, AreTried};
 ghost use Rattle.cmh_audit.specs.Ready.{Wakes, ArePlaces};
 
 use crate::lawful::lawful_lengths;
@@ -101,6 +101,7 @@ pub fn merge(alloc: Global, topology: &Topology, journals: &[Journal]) -> Result
     ensures stuck { IfOk result (λ m. IsStuck topology.now journals.now m.taken.items) }
     ensures left { IfOk result (λ m. AreLeft journals.now m.taken.items m.links) }
     ensures tries { IfOk result (λ m. m.tries ≤ (entry_count journals.now + 1) * length journals.now) }
+    ensures looked { IfOk result (λ m. AreTried journals.now m.taken.items [] m.tries) }
 {
     let limits = lawful_lengths(alloc, topology, journals)?;
     let mut links: Links = BTreeMap::new(alloc);

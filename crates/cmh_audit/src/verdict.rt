@@ -7,7 +7,7 @@ ghost use Rattle.cmh_audit.specs.Journals.{journal_of, entry_count};
 ghost use Rattle.cmh_audit.specs.Reports.{Reports, IsInOrder};
 ghost use Rattle.cmh_audit.specs.Set.{IsSet};
 ghost use Rattle.cmh_audit.specs.Stops.{AreStops};
-ghost use Rattle.cmh_audit.specs.Verdicts.{IsAccepted, IfAccepted, IfRefused, tries_of};
+ghost use Rattle.cmh_audit.specs.Verdicts.{IsAccepted, IfAccepted, IfRefused, tries_of, looks_due};
 
 use crate::count::count_entries;
 use crate::merge::merge;
@@ -62,6 +62,9 @@ pub fn audit(
     // The stops are the furthest that any run of these journals' beginnings gets.
     ensures stops { IfOk result (λ v. IfRefused v (λ stops. AreStops topology.now journals.now stops.rows)) }
     ensures tries { IfOk result (λ v. tries_of v ≤ (entry_count journals.now + 1) * length journals.now) }
+
+    // Each entry that was taken was looked at, and each at which a site stops.
+    ensures looked { IfOk result (λ v. looks_due journals.now v ≤ tries_of v) }
 {
     let sites = topology.sites();
     let events = count_entries(journals);

@@ -1,5 +1,5 @@
 -- Worked scripts over small topologies: the lists of events that come of them.
-use Rattle.std.specs.Prelude.{ℕ, List, [], ◌∷◌, ◌++◌, Option, None, Some, take}
+use Rattle.std.specs.Prelude.{ℕ, zero, suc, ◌+◌, List, [], ◌∷◌, ◌++◌, Option, None, Some, take}
 use Rattle.std.specs.FinSet as set
 use Rattle.cmh_frames.specs.declared.edition.Edition.{Edition}
 use Rattle.cmh_frames.specs.declared.edition.Edition.TheVariants.{One}
@@ -24,6 +24,31 @@ two_sites edition = record { edition = edition; rows = (1, 1 ∷ []) ∷ (2, 2 �
 -- process 1 at site 1, and the processes 2 and 3 at site 2
 abbrev pub three_processes : Topology
 three_processes = record { edition = One; rows = (1, 1 ∷ []) ∷ (2, 2 ∷ 3 ∷ []) ∷ [] }
+
+-- a lone process
+abbrev pub lone_process : Topology
+lone_process = record { edition = One; rows = (1, 1 ∷ []) ∷ [] }
+
+-- the processes 1 and 3 at site 1, and process 2 at site 2
+abbrev pub two_beside_one : Topology
+two_beside_one = record { edition = One; rows = (1, 1 ∷ 3 ∷ []) ∷ (2, 2 ∷ []) ∷ [] }
+
+-- the processes 1 and 5 at site 1, and 11 and 12 at site 2
+abbrev pub two_beside_two : Topology
+two_beside_two = record { edition = One; rows = (1, 1 ∷ 5 ∷ []) ∷ (2, 11 ∷ 12 ∷ []) ∷ [] }
+
+-- process 1 at site 1, and the processes 2 to 6 at site 2
+abbrev pub six_processes : Topology
+six_processes = record { edition = One; rows = (1, 1 ∷ []) ∷ (2, 2 ∷ 3 ∷ 4 ∷ 5 ∷ 6 ∷ []) ∷ [] }
+
+-- so many numbers, ascending from n
+abbrev pub numbers_from : ℕ → ℕ → List ℕ
+numbers_from n zero = []
+numbers_from n (suc count) = n ∷ numbers_from (n + 1) count
+
+-- the processes 1 to 40 at one site
+abbrev pub crowded_site : Edition → Topology
+crowded_site edition = record { edition = edition; rows = (1, numbers_from 1 40) ∷ [] }
 
 -- an entry that sends these frames and declares this process, and one that does neither
 abbrev pub outcome : Event → List (ℕ × Frame) → Option ℕ → Entry
@@ -90,3 +115,32 @@ marked_by_the_probe = silent (Ask 2 (3 ∷ [])) ∷ silent (Got 1 (Request (1, 2
 -- 1 asks 2 and 3, and the later request comes first.
 abbrev pub overtaken : List WorldEvent
 overtaken = at_site 1 (outcome (Ask 1 (2 ∷ 3 ∷ [])) ((2, Request (1, 2)) ∷ (2, Request (1, 3)) ∷ []) None) ∷ at_site 2 (silent (Got 1 (Request (1, 3)))) ∷ []
+
+-- A site that gets a frame before it was sent.
+abbrev pub got_before_sent : List WorldEvent
+got_before_sent = at_site 2 (silent (Got 1 (Request (1, 2)))) ∷ at_site 1 (outcome (Ask 1 (2 ∷ [])) ((2, Request (1, 2)) ∷ []) None) ∷ []
+
+-- Two sites: `ask 1 2 / deliver 1 2 / reply 2 1 / deliver 2 1`. The wait has ended on both sites.
+abbrev pub asked_and_answered : List WorldEvent
+asked_and_answered =
+    at_site 1 (outcome (Ask 1 (2 ∷ [])) ((2, Request (1, 2)) ∷ []) None)
+    ∷ at_site 2 (silent (Got 1 (Request (1, 2))))
+    ∷ at_site 2 (outcome (Reply 2 1) ((1, Reply_frame (2, 1)) ∷ []) None)
+    ∷ at_site 1 (silent (Got 2 (Reply_frame (2, 1)))) ∷ []
+
+-- Two processes beside one: `ask 1 2 / ask 3 1 / ask 2 3 / deliver 1 2 / deliver 2 1 / start 1 / deliver 1 2 / deliver 2 1`.
+-- The probe of 1 comes to 3, which waits for 1 at its own site, and declares 1.
+abbrev pub found_beside_it : List WorldEvent
+found_beside_it =
+    at_site 1 (outcome (Ask 1 (2 ∷ [])) ((2, Request (1, 2)) ∷ []) None)
+    ∷ at_site 1 (silent (Ask 3 (1 ∷ [])))
+    ∷ at_site 2 (outcome (Ask 2 (3 ∷ [])) ((1, Request (2, 3)) ∷ []) None)
+    ∷ at_site 2 (silent (Got 1 (Request (1, 2))))
+    ∷ at_site 1 (silent (Got 2 (Request (2, 3))))
+    ∷ at_site 1 (outcome (Start 1) ((2, Probe (1, 1, 2)) ∷ []) None)
+    ∷ at_site 2 (outcome (Got 1 (Probe (1, 1, 2))) ((1, Probe (1, 2, 3)) ∷ []) None)
+    ∷ at_site 1 (outcome (Got 2 (Probe (1, 2, 3))) [] (Some 1)) ∷ []
+
+-- One site: `ask 3 1 / ask 1 2 / ask 2 1`. 3 waits for a cycle and is on none.
+abbrev pub waits_for_a_cycle : List WorldEvent
+waits_for_a_cycle = at_site 1 (silent (Ask 3 (1 ∷ []))) ∷ at_site 1 (silent (Ask 1 (2 ∷ []))) ∷ at_site 1 (silent (Ask 2 (1 ∷ []))) ∷ []

@@ -1,4 +1,5 @@
 use Rattle.std.proofs.Common.{◌≡◌, ℕ, List, [], ◌∷◌, length, replicate, subst, sym, ap, ◌∙◌, refl, arith, true≢false, length-append, rules}
+use Rattle.cmh_audit.specs.Merging.{AreTried}
 use Rattle.cmh_audit.proofs.Beginnings.{empty_list}
 use Rattle.cmh_audit.proofs.CountLemmas.{length-limits}
 use Rattle.cmh_audit.proofs.MoveLemmas.{next_other}
@@ -72,7 +73,7 @@ loop-i-preserved-in_default-event c =
 
 pub loop-i-preserved-else-at-limit : goal.loop-i-preserved-else-at-limit
 loop-i-preserved-else-at-limit c =
-    looked_done c.args.topology.now c.args.journals.now c.in_ok-limits.limits.items c.loop-i.taken.items c.loop-i.links c.loop-i.lacks.items c.loop-i.ready.items c.pop.new.self.items c.loop-i.tries c.in-Some.i c.index-at.result.now c.index-limit.result.now c.in_ok-limits.ensures c.loop-i.invariant c.in-Some.ensures.items c.index-at.ensures c.index-limit.ensures c.if-at-limit.false
+    looked_done c.args.topology.now c.args.journals.now c.in_ok-limits.limits.items c.loop-i.taken.items c.loop-i.links c.loop-i.lacks.items c.loop-i.ready.items c.pop.new.self.items c.loop-i.tries c.in-Some.i c.index-at.result.now c.index-limit.result.now c.index-journals-i.result c.in_ok-limits.ensures c.loop-i.invariant c.in-Some.ensures.items c.index-at.ensures c.index-limit.ensures c.index-journals-i.is c.if-at-limit.false
 
 pub loop-i-preserved : goal.loop-i-preserved
 loop-i-preserved c =
@@ -89,3 +90,8 @@ returns-clause-left c = c.loop-i.invariant.merging.frames
 
 pub returns-clause-tries : goal.returns-clause-tries
 returns-clause-tries c = let b = listed_tries c.args.topology.now c.args.journals.now c.in_ok-limits.limits.items c.loop-i.taken.items c.loop-i.links c.loop-i.lacks.items c.loop-i.ready.items c.loop-i.tries c.in_ok-limits.ensures c.loop-i.invariant in omega (arith, b)
+
+pub returns-clause-looked : goal.returns-clause-looked
+returns-clause-looked c =
+    let none : c.loop-i.ready.items ≡ [] = empty_list c.loop-i.ready.items (sym c.loop-i.ready.ok.0 ∙ c.in_default.ensures.cases.0) in
+    subst (λ r. AreTried c.args.journals.now c.loop-i.taken.items r c.loop-i.tries) none c.loop-i.invariant.tried
