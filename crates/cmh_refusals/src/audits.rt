@@ -12,13 +12,21 @@ use std::alloc::Global;
 
 /// `audit` answers the verdict or want of memory.
 pub fn audits(alloc: Global) -> Result<(), Failure> {
-    for world in RUNS.iter().chain(&AUDITS) {
-        let topology = making::topology(alloc, world.sites)?;
-        let journals = making::journals(alloc, world)?;
-        let text = text_of(alloc, &audit_again(alloc, &topology, &journals)?)?;
-        expect(text.as_str() == world.lines, world.name)?;
+    for world in &RUNS {
+        audit_world(alloc, world)?;
+    }
+    for world in &AUDITS {
+        audit_world(alloc, world)?;
     }
     Ok(())
+}
+
+fn audit_world(alloc: Global, world: &World) -> Result<(), Failure> {
+    let topology = making::topology(alloc, world.sites)?;
+    let journals = making::journals(alloc, world)?;
+    let verdict = audit_again(alloc, &topology, &journals)?;
+    let text = text_of(alloc, &verdict)?;
+    expect(text.as_str() == world.lines, world.name)
 }
 
 fn audit_again(
@@ -72,27 +80,33 @@ fn write_report(text: &mut String, report: &Report) -> Result<(), Failure> {
 
 /// `run_audit` writes the verdict, or else nothing but the line that names want of memory.
 pub fn run_audits(alloc: Global) -> Result<(), Failure> {
-    for world in RUNS.iter().chain(&AUDITS) {
-        let topology = topology_file(alloc, world)?;
-        let files = files_of(alloc, world)?;
-        let mut sheet = Sheet::new(alloc)?;
-        let mut status = write_audit(alloc, &topology, &files, &mut sheet);
-        if sheet.is_out_of_memory(status) {
-            expect(sheet.out.is_empty(), "lines before a fault")?;
-            sheet.clear();
-            status = write_audit(alloc, &topology, &files, &mut sheet);
-        }
-        expect(status == status_of(world), "another status")?;
-        expect(sheet.err.is_empty(), "a fault of faultless files")?;
-        expect(sheet.out.as_slice() == world.lines.as_bytes(), world.name)?;
+    for world in &RUNS {
+        run_audit_of(alloc, world)?;
+    }
+    for world in &AUDITS {
+        run_audit_of(alloc, world)?;
     }
     Ok(())
 }
 
-fn write_audit(alloc: Global, topology: &str, files: &[Vec<u8>], sheet: &mut Sheet) -> u8 {
+fn run_audit_of(alloc: Global, world: &World) -> Result<(), Failure> {
+    let files = files_of(alloc, world)?;
+    let mut sheet = Sheet::new(alloc)?;
+    let mut status = write_audit(alloc, world, &files, &mut sheet);
+    if sheet.is_out_of_memory(status) {
+        expect(sheet.out.is_empty(), "lines before a fault")?;
+        sheet.clear();
+        status = write_audit(alloc, world, &files, &mut sheet);
+    }
+    expect(status == status_of(world), "another status")?;
+    expect(sheet.err.is_empty(), "a fault of faultless files")?;
+    expect(sheet.out.as_slice() == world.lines.as_bytes(), world.name)
+}
+
+fn write_audit(alloc: Global, world: &World, files: &[Vec<u8>], sheet: &mut Sheet) -> u8 {
     run_audit(
         alloc,
-        topology.as_bytes(),
+        world.topology.as_bytes(),
         files,
         &mut sheet.out,
         &mut sheet.err,
@@ -115,19 +129,4 @@ pub fn files_of(alloc: Global, world: &World) -> Result<Vec<Vec<u8>>, Failure> {
         files.push(making::file_bytes(alloc, file)?)?;
     }
     Ok(files)
-}
-
-/// The file that names the sites of a world.
-pub fn topology_file(alloc: Global, world: &World) -> Result<String, Failure> {
-    let mut text = String::new(alloc);
-    write!(text, "{{\"edition\":1,\"sites\":[")?;
-    for (i, (site, processes)) in world.sites.iter().enumerate() {
-        let comma = if i == 0 { "" } else { "," };
-        write!(
-            text,
-            "{comma}{{\"site\":{site},\"processes\":{processes:?}}}"
-        )?;
-    }
-    write!(text, "]}}")?;
-    Ok(text)
 }

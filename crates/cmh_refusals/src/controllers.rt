@@ -13,20 +13,25 @@ pub fn controller(alloc: Global) -> Result<(), Failure> {
     for world in &RUNS {
         let topology = making::topology(alloc, world.sites)?;
         for site in topology.sites() {
-            let made = new_controller(alloc, &topology, *site)?;
-            expect(made.site() == *site, "a controller of another site")?;
-            expect(
-                made.declared(alloc)?.is_empty(),
-                "a new controller declared",
-            )?;
+            is_empty(alloc, &new_controller(alloc, &topology, *site)?, *site)?;
         }
-        let stranger = Controller::new(alloc, &topology, making::site(9)?);
-        expect(
-            stranger.err() == Some(Refusal::NotHere),
-            "a controller of an unknown site",
-        )?;
+        is_stranger(alloc, &topology)?;
     }
     Ok(())
+}
+
+fn is_empty(alloc: Global, controller: &Controller, site: SiteId) -> Result<(), Failure> {
+    expect(controller.site() == site, "a controller of another site")?;
+    let declared = controller.declared(alloc)?;
+    expect(declared.is_empty(), "a new controller declared a process")
+}
+
+fn is_stranger(alloc: Global, topology: &Topology) -> Result<(), Failure> {
+    let stranger = making::site(9)?;
+    match Controller::new(alloc, topology, stranger) {
+        Err(Refusal::NotHere) => Ok(()),
+        _ => Err(Failure::Wrong("a controller of an unknown site")),
+    }
 }
 
 fn new_controller(alloc: Global, topology: &Topology, site: SiteId) -> Result<Controller, Failure> {
@@ -48,22 +53,35 @@ pub fn steps(alloc: Global) -> Result<(), Failure> {
     for world in &RUNS {
         let topology = making::topology(alloc, world.sites)?;
         for journal in &making::journals(alloc, world)? {
-            let mut controller = new_controller(alloc, &topology, journal.site())?;
-            for entry in journal.entries() {
-                let before = controller.copy(alloc)?;
-                let outcome = match controller.step(&entry.event) {
-                    Err(Refusal::Memory) => {
-                        is_unchanged(alloc, &controller, &before, journal)?;
-                        controller.step(&entry.event)
-                    }
-                    answer => answer,
-                };
-                is_recorded(entry, outcome)?;
-            }
-            declared_all(alloc, &controller, journal)?;
+            steps_of(alloc, &topology, journal)?;
         }
     }
     Ok(())
+}
+
+fn steps_of(alloc: Global, topology: &Topology, journal: &Journal) -> Result<(), Failure> {
+    let mut controller = new_controller(alloc, topology, journal.site())?;
+    for entry in journal.entries() {
+        step(alloc, &mut controller, entry, journal)?;
+    }
+    declared_all(alloc, &controller, journal)
+}
+
+fn step(
+    alloc: Global,
+    controller: &mut Controller,
+    entry: &Entry,
+    journal: &Journal,
+) -> Result<(), Failure> {
+    let before = controller.copy(alloc)?;
+    let outcome = match controller.step(&entry.event) {
+        Err(Refusal::Memory) => {
+            is_unchanged(alloc, controller, &before, journal)?;
+            controller.step(&entry.event)
+        }
+        answer => answer,
+    };
+    is_recorded(entry, outcome)
 }
 
 /// A controller that refused a step is as it was, as far as its calls tell.
@@ -121,16 +139,24 @@ fn declared_all(alloc: Global, controller: &Controller, journal: &Journal) -> Re
 
 /// `replay` answers the controller at the end, or the first entry that isn't lawful, or want of memory.
 pub fn replays(alloc: Global) -> Result<(), Failure> {
-    for world in RUNS.iter().chain(&AUDITS) {
-        let topology = making::topology(alloc, world.sites)?;
-        for (place, file) in world.files.iter().enumerate() {
-            let journal = making::journal(alloc, file)?;
-            let lawful = match place {
-                0 => world.lawful,
-                _ => file.entries.len(),
-            };
-            replay_one(alloc, &topology, &journal, lawful)?;
-        }
+    for world in &RUNS {
+        replay_world(alloc, world)?;
+    }
+    for world in &AUDITS {
+        replay_world(alloc, world)?;
+    }
+    Ok(())
+}
+
+fn replay_world(alloc: Global, world: &World) -> Result<(), Failure> {
+    let topology = making::topology(alloc, world.sites)?;
+    for file in world.files {
+        replay_one(
+            alloc,
+            &topology,
+            &making::journal(alloc, file)?,
+            file.lawful,
+        )?;
     }
     Ok(())
 }

@@ -16,6 +16,16 @@ pub enum Failure {
     Wrong(&'static str),
 }
 
+/// No site and no process has such a number.
+#[derive(Clone, Copy, Debug)]
+pub struct BadNumber;
+
+impl From<BadNumber> for Failure {
+    fn from(_: BadNumber) -> Failure {
+        Failure::Wrong("a number that nobody has")
+    }
+}
+
 impl From<AllocError> for Failure {
     fn from(_: AllocError) -> Failure {
         Failure::Memory

@@ -1,23 +1,17 @@
 //! What a scenario makes before the calls that it looks at.
 
-use crate::failure::Failure;
+use crate::failure::{BadNumber, Failure};
 use crate::worlds::{File, World};
 use cmh_frames::{Edition, ProcId, SiteId, SiteRow, Topology};
 use cmh_journal::{Journal, encode_header, read_journal};
 use std::alloc::Global;
 
-pub fn process(number: u16) -> Result<ProcId, Failure> {
-    match ProcId::new(number) {
-        Some(process) => Ok(process),
-        None => Err(Failure::Wrong("no process has this number")),
-    }
+pub fn process(number: u16) -> Result<ProcId, BadNumber> {
+    ProcId::new(number).ok_or(BadNumber)
 }
 
-pub fn site(number: u16) -> Result<SiteId, Failure> {
-    match SiteId::new(number) {
-        Some(site) => Ok(site),
-        None => Err(Failure::Wrong("no site has this number")),
-    }
+pub fn site(number: u16) -> Result<SiteId, BadNumber> {
+    SiteId::new(number).ok_or(BadNumber)
 }
 
 pub fn site_rows(alloc: Global, sites: &[(u16, &[u16])]) -> Result<Vec<SiteRow>, Failure> {

@@ -25,23 +25,28 @@ pub const ROWS: [Row; 2] = [
 /// `run_play` answers all lines; or the first that differs names want of memory; or all ends there with the fault.
 pub fn play(alloc: Global) -> Result<(), Failure> {
     for row in &ROWS {
-        let mut sheet = Sheet::new(alloc)?;
-        let status = play_row(alloc, row, &mut sheet);
-        if status != 0 || sheet.out.as_slice() != row.answers.as_bytes() {
-            expect(
-                is_want_of_memory(&sheet, status, row.answers),
-                "an answer changed, and does not say that memory was refused",
-            )?;
-            sheet.clear();
-            expect(play_row(alloc, row, &mut sheet) == 0, "another status")?;
-        }
-        expect(
-            sheet.out.as_slice() == row.answers.as_bytes(),
-            "other answers",
-        )?;
-        expect(sheet.err.is_empty(), "a fault beside all answers")?;
+        play_again(alloc, row)?;
     }
     Ok(())
+}
+
+fn play_again(alloc: Global, row: &Row) -> Result<(), Failure> {
+    let mut sheet = Sheet::new(alloc)?;
+    let mut status = play_row(alloc, row, &mut sheet);
+    if status != 0 || sheet.out.as_slice() != row.answers.as_bytes() {
+        expect(
+            is_want_of_memory(&sheet, status, row.answers),
+            "an answer changed, and does not say that memory was refused",
+        )?;
+        sheet.clear();
+        status = play_row(alloc, row, &mut sheet);
+    }
+    expect(status == 0, "another status")?;
+    expect(sheet.err.is_empty(), "a fault beside all answers")?;
+    expect(
+        sheet.out.as_slice() == row.answers.as_bytes(),
+        "other answers",
+    )
 }
 
 fn play_row(alloc: Global, row: &Row, sheet: &mut Sheet) -> u8 {
@@ -60,10 +65,13 @@ fn is_want_of_memory(sheet: &Sheet, status: u8, answers: &str) -> bool {
 
 /// Whether the first line that differs is a refusal for want of memory.
 fn first_refusal(given: &[u8], wanted: &[u8]) -> bool {
-    let lines = given.split(|byte| *byte == b'\n');
-    for (line, want) in lines.zip(wanted.split(|byte| *byte == b'\n')) {
-        if line != want {
-            return line == b"refused 11".as_slice() || line == b"topology 5".as_slice();
+    let mut line = given;
+    for (at, byte) in given.iter().enumerate() {
+        if wanted.get(at) != Some(byte) {
+            return line.starts_with(b"refused 11\n") || line.starts_with(b"topology 5\n");
+        }
+        if *byte == b'\n' {
+            line = &given[at + 1..];
         }
     }
     false

@@ -2,98 +2,126 @@
 
 use crate::failure::{Failure, expect};
 use crate::making;
-use crate::worlds::RUNS;
-use cmh_audit::{Verdict, audit, check_set};
-use cmh_controller::Controller;
+use crate::worlds::{RUNS, World};
+use cmh_audit::{Report, Verdict, audit, check_set};
+use cmh_controller::{Controller, Event};
 use cmh_dependents::DependentSets;
-use cmh_frames::{Edition, Frame, Front, Reply, decode_front, decode_hello, encode, encode_hello};
+use cmh_frames::{
+    Edition, Frame, Front, ProcId, Reply, SiteId, Topology, decode_front, decode_hello, encode,
+    encode_hello,
+};
 use cmh_journal::{Journal, MemSink, Sink, append, encode_header};
 use cmh_reader::FrameReader;
 use cmh_waits::LocalWaits;
 use std::alloc::Global;
 
-/// Topologies are asked, and frames and hellos are spelled and read.
-pub fn frames(alloc: Global, rounds: u32) -> Result<(), Failure> {
+/// A topology is asked.
+pub fn topology(alloc: Global, rounds: u32) -> Result<(), Failure> {
     let topology = making::topology(alloc, &[(1, &[1, 3]), (2, &[2])])?;
+    let (process, site) = (making::process(3)?, making::site(1)?);
+    let mut holds = true;
+    for _ in 0..rounds {
+        holds = holds && is_home(&topology, process, site);
+    }
+    expect(holds, "another home")
+}
+
+fn is_home(topology: &Topology, process: ProcId, site: SiteId) -> bool {
+    topology.home(process) == Some(site)
+        && topology.has_site(site)
+        && topology.sites().len() == 2
+        && topology.members(site).len() == 2
+}
+
+/// Frames and hellos are spelled and read.
+pub fn frames(rounds: u32) -> Result<(), Failure> {
     let (holder, asker) = (making::process(2)?, making::process(3)?);
-    let home = making::site(1)?;
+    let site = making::site(1)?;
+    let mut holds = true;
+    for _ in 0..rounds {
+        holds = holds && is_spelled(holder, asker) && is_hello(site);
+    }
+    expect(holds, "another frame or hello")
+}
+
+fn is_spelled(holder: ProcId, asker: ProcId) -> bool {
     if holder == asker {
-        return Err(Failure::Wrong("two numbers are one"));
+        return false;
     }
     let frame = Frame::Reply(Reply { holder, asker });
-    for _ in 0..rounds {
-        expect(topology.home(asker) == Some(home), "another home")?;
-        expect(topology.has_site(home), "a site is missing")?;
-        expect(topology.members(home).len() == 2, "other members")?;
-        let spelled = encode(&frame);
-        let front = decode_front(spelled.as_slice());
-        expect(front == Front::Whole(frame, 5), "another frame")?;
-        expect(decode_front(&[3, 0]) == Front::Short, "a whole frame")?;
-        expect(decode_front(&[4]) == Front::Bad, "a good frame")?;
-        let hello = encode_hello(Edition::Two, home);
-        expect(
-            decode_hello(Edition::Two, &hello) == Some(home),
-            "another hello",
-        )?;
-    }
-    Ok(())
+    let spelled = encode(&frame);
+    decode_front(spelled.as_slice()) == Front::Whole(frame, 5)
+        && decode_front(&[3, 0]) == Front::Short
+        && decode_front(&[4]) == Front::Bad
+}
+
+fn is_hello(site: SiteId) -> bool {
+    decode_hello(Edition::Two, &encode_hello(Edition::Two, site)) == Some(site)
 }
 
 /// A reader tells its rest and its sender.
 pub fn reader(alloc: Global, rounds: u32) -> Result<(), Failure> {
     let mut senders = Vec::with_capacity(alloc, 1)?;
     senders.push(making::site(1)?)?;
-    let sender = senders.first().copied();
     let mut reader = FrameReader::new(alloc, Edition::One, senders);
     reader.feed(&[0x43, 0x4D, 0x48, 1, 0, 1, 3, 0])?;
+    let mut holds = true;
     for _ in 0..rounds {
-        expect(reader.rest() == [3, 0].as_slice(), "another rest")?;
-        expect(reader.sender() == sender, "another sender")?;
+        holds = holds && reader.rest().len() == 2 && reader.sender().is_some();
     }
-    Ok(())
+    expect(holds, "another rest or sender")
 }
 
-/// Process 1 of a site waits for 2 there and for 3 elsewhere, and 2 owes replies to 1 and to 3.
-fn waiting(alloc: Global) -> Result<LocalWaits, Failure> {
-    let (one, two, three) = (
-        making::process(1)?,
-        making::process(2)?,
-        making::process(3)?,
-    );
-    let mut waits = LocalWaits::new(
-        alloc,
-        making::topology(alloc, &[(1, &[1, 2])])?.members(making::site(1)?),
-    )?;
-    if waits.is_member(one) && !waits.is_blocked(one) {
-        waits.ask(one, &[two, three])?;
-    }
-    Ok(waits)
-}
+/// How many waits are made, whatever the rounds.
+const MADE: u32 = 32;
 
-/// Waits are asked and end, and dependents are asked and forgotten.
+/// Waits are asked and end.
 pub fn waits(alloc: Global, rounds: u32) -> Result<(), Failure> {
     let (one, two, three) = (
         making::process(1)?,
         making::process(2)?,
         making::process(3)?,
     );
-    for round in 0..32 {
-        let mut waits = waiting(alloc)?;
+    for round in 0..MADE {
+        let mut waits = waiting(alloc, one, two, three)?;
+        if round < rounds {
+            expect(all_end(&mut waits, one, two, three), "other waits")?;
+        }
+    }
+    Ok(())
+}
+
+/// Process 1 of a site waits for 2 there and for 3 elsewhere.
+fn waiting(alloc: Global, one: ProcId, two: ProcId, three: ProcId) -> Result<LocalWaits, Failure> {
+    let topology = making::topology(alloc, &[(1, &[1, 2])])?;
+    let mut waits = LocalWaits::new(alloc, topology.members(making::site(1)?))?;
+    if two < three && one < two && waits.is_member(one) && !waits.is_blocked(one) {
+        waits.ask(one, &[two, three])?;
+    }
+    Ok(waits)
+}
+
+/// Both waits of process 1 end.
+fn all_end(waits: &mut LocalWaits, one: ProcId, two: ProcId, three: ProcId) -> bool {
+    if !waits.is_member(one) || !waits.is_member(two) || waits.is_member(three) {
+        return false;
+    }
+    if waits.is_blocked(two) || !waits.owes(two, one) || waits.reply(two, one) {
+        return false;
+    }
+    waits.waits(one, three) && waits.got_reply(one, three) && !waits.is_blocked(one)
+}
+
+/// Dependents are asked and forgotten.
+pub fn dependents(alloc: Global, rounds: u32) -> Result<(), Failure> {
+    let (one, two) = (making::process(1)?, making::process(2)?);
+    for round in 0..MADE {
         let mut dependents = DependentSets::new(alloc);
         dependents.add(one, two)?;
         if round < rounds {
-            expect(waits.is_blocked(one), "an active process")?;
-            expect(waits.waits(one, three), "a wait is missing")?;
-            if waits.is_member(two) && !waits.is_blocked(two) && waits.owes(two, one) {
-                expect(!waits.reply(two, one), "the last wait of three")?;
-            }
-            if waits.is_member(one) && !waits.is_member(three) && waits.waits(one, three) {
-                expect(waits.got_reply(one, three), "not the last wait")?;
-            }
-            expect(!waits.is_blocked(one), "a wait stays")?;
-            expect(dependents.has(one, two), "a dependent is missing")?;
+            let had = dependents.has(one, two);
             dependents.clear(one);
-            expect(!dependents.has(one, two), "a dependent stays")?;
+            expect(had && !dependents.has(one, two), "other dependents")?;
         }
     }
     Ok(())
@@ -104,16 +132,35 @@ pub fn checks(alloc: Global, rounds: u32) -> Result<(), Failure> {
     for world in &RUNS {
         let topology = making::topology(alloc, world.sites)?;
         for journal in &making::journals(alloc, world)? {
-            let mut controller = Controller::new(alloc, &topology, journal.site())?;
-            for entry in journal.entries() {
-                for _ in 0..rounds {
-                    expect(controller.check(&entry.event).is_ok(), "a lawful event")?;
-                }
-                controller.step(&entry.event)?;
-            }
+            check_each(alloc, &topology, journal, rounds)?;
         }
     }
     Ok(())
+}
+
+fn check_each(
+    alloc: Global,
+    topology: &Topology,
+    journal: &Journal,
+    rounds: u32,
+) -> Result<(), Failure> {
+    let mut controller = Controller::new(alloc, topology, journal.site())?;
+    for entry in journal.entries() {
+        expect(
+            is_lawful(&controller, &entry.event, rounds),
+            "a lawful event is refused",
+        )?;
+        controller.step(&entry.event)?;
+    }
+    Ok(())
+}
+
+fn is_lawful(controller: &Controller, event: &Event, rounds: u32) -> bool {
+    let mut lawful = true;
+    for _ in 0..rounds {
+        lawful = lawful && controller.check(event).is_ok();
+    }
+    lawful
 }
 
 /// A journal begins, and bytes are appended to a sink that has room for them.
@@ -121,39 +168,58 @@ pub fn journal(alloc: Global, rounds: u32) -> Result<(), Failure> {
     let site = making::site(1)?;
     let mut sink = MemSink::new(alloc, None);
     sink.reserve(7 * 1024)?;
+    let mut holds = true;
     for _ in 0..rounds.min(1024) {
-        let journal = Journal::new(alloc, Edition::One, site);
-        expect(journal.entries().is_empty(), "a new journal has entries")?;
-        if sink.faults() < u64::MAX {
-            expect(
-                append(&mut sink, &encode_header(Edition::One, site)).is_ok(),
-                "a sink with room failed",
-            )?;
-        }
+        holds = holds && begins(alloc, &mut sink, site);
+    }
+    expect(holds, "a journal does not begin")
+}
+
+fn begins(alloc: Global, sink: &mut MemSink, site: SiteId) -> bool {
+    let journal = Journal::new(alloc, Edition::One, site);
+    journal.entries().is_empty()
+        && sink.faults() < u64::MAX
+        && append(sink, &encode_header(Edition::One, site)).is_ok()
+}
+
+/// Sets of journals are checked, and reports are asked.
+pub fn audits(alloc: Global, rounds: u32) -> Result<(), Failure> {
+    for world in &RUNS {
+        audit_one(alloc, world, rounds)?;
     }
     Ok(())
 }
 
-/// Sets of journals are checked, and verdicts are asked.
-pub fn audits(alloc: Global, rounds: u32) -> Result<(), Failure> {
-    for world in &RUNS {
-        let topology = making::topology(alloc, world.sites)?;
-        let journals = making::journals(alloc, world)?;
-        for _ in 0..rounds {
-            expect(check_set(&topology, &journals).is_ok(), "no set")?;
-        }
-        if check_set(&topology, &journals).is_ok() {
-            let Verdict::Accepted(report) = audit(alloc, &topology, &journals)? else {
-                return Err(Failure::Wrong("journals of a run are refused"));
-            };
-            for _ in 0..rounds {
-                for process in report.declared() {
-                    expect(report.cycle(*process).is_some(), "no cycle")?;
-                }
-                expect(report.waits().len() > 1, "no waits")?;
-                expect(report.in_transit() == 0, "frames in transit")?;
-            }
-        }
+fn audit_one(alloc: Global, world: &World, rounds: u32) -> Result<(), Failure> {
+    let topology = making::topology(alloc, world.sites)?;
+    let journals = making::journals(alloc, world)?;
+    expect(is_set(&topology, &journals, rounds), "journals are missing")?;
+    if check_set(&topology, &journals).is_err() {
+        return Err(Failure::Wrong("journals are missing"));
     }
-    Ok(())
+    match audit(alloc, &topology, &journals)? {
+        Verdict::Accepted(report) => expect(reports(&report, rounds), "another report"),
+        Verdict::Refused(_) => Err(Failure::Wrong("journals of a run are refused")),
+    }
+}
+
+fn is_set(topology: &Topology, journals: &[Journal], rounds: u32) -> bool {
+    let mut holds = true;
+    for _ in 0..rounds {
+        holds = holds && check_set(topology, journals).is_ok();
+    }
+    holds
+}
+
+/// Whether there is a cycle for the declared process.
+fn reports(report: &Report, rounds: u32) -> bool {
+    let mut holds = true;
+    for _ in 0..rounds {
+        let cycle = match report.declared().first() {
+            Some(process) => report.cycle(*process),
+            None => None,
+        };
+        holds = holds && cycle.is_some() && report.waits().len() > 1 && report.in_transit() == 0;
+    }
+    holds
 }

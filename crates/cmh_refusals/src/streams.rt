@@ -93,15 +93,24 @@ const STREAMS: [&[Piece]; 6] = [
 /// `feed` answers the frames and then the fault of a stream, or want of memory, after which the piece is fed again.
 pub fn feed(alloc: Global) -> Result<(), Failure> {
     for stream in &STREAMS {
-        let mut senders = Vec::with_capacity(alloc, 2)?;
-        senders.push(site(1)?)?;
-        senders.push(site(2)?)?;
-        let mut reader = FrameReader::new(alloc, Edition::One, senders);
-        for piece in *stream {
-            let answer = feed_again(&mut reader, piece.bytes)?;
-            is_answer(answer, &piece.answer)?;
-            expect(reader.rest().len() == piece.rest, "another rest")?;
-        }
+        feed_stream(&mut new_reader(alloc)?, *stream)?;
+    }
+    Ok(())
+}
+
+/// A reader of edition 1 that expects sites 1 and 2.
+fn new_reader(alloc: Global) -> Result<FrameReader, Failure> {
+    let mut senders = Vec::with_capacity(alloc, 2)?;
+    senders.push(site(1)?)?;
+    senders.push(site(2)?)?;
+    Ok(FrameReader::new(alloc, Edition::One, senders))
+}
+
+fn feed_stream(reader: &mut FrameReader, stream: &[Piece]) -> Result<(), Failure> {
+    for piece in stream {
+        let answer = feed_again(reader, piece.bytes)?;
+        is_answer(answer, &piece.answer)?;
+        expect(reader.rest().len() == piece.rest, "another rest")?;
     }
     Ok(())
 }

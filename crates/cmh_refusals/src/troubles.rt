@@ -1,15 +1,12 @@
 //! Reads and writes that fail or move one byte, under the commands.
 
-use crate::audits::{files_of, status_of, topology_file};
+use crate::audits::{files_of, status_of};
 use crate::carriers::{Reader, Sheet, Trouble, Writer};
 use crate::failure::{Failure, expect};
 use crate::plays::{ROWS, Row};
 use crate::worlds::{AUDITS, RUNS, World};
 use cmh_site::{run_audit, run_play};
 use std::alloc::Global;
-
-/// More calls than any scenario makes of one reader or writer.
-const MANY: u64 = 1024;
 
 /// How a command ended.
 #[derive(Drop)]
@@ -31,12 +28,16 @@ fn play(alloc: Global, row: &Row, reads: Trouble, writes: Trouble) -> Result<End
 }
 
 /// Audits the journals of a world; the writes take a byte at a time.
-fn audit(alloc: Global, world: &World, writes: Trouble) -> Result<Ended, Failure> {
-    let topology = topology_file(alloc, world)?;
-    let files = files_of(alloc, world)?;
+fn audit(
+    alloc: Global,
+    world: &World,
+    files: &[Vec<u8>],
+    writes: Trouble,
+) -> Result<Ended, Failure> {
     let mut sheet = Sheet::new(alloc)?;
     let mut out = Writer::new(&mut sheet.out, writes);
-    let status = run_audit(alloc, topology.as_bytes(), &files, &mut out, &mut sheet.err);
+    let topology = world.topology.as_bytes();
+    let status = run_audit(alloc, topology, files, &mut out, &mut sheet.err);
     let met = out.met();
     Ok(Ended { status, sheet, met })
 }
@@ -68,15 +69,11 @@ impl Ended {
 /// A play one of whose reads fails ends with `fault input`.
 pub fn failing_reads(alloc: Global) -> Result<(), Failure> {
     for row in &ROWS {
-        let mut meets = true;
-        for call in 0..MANY {
-            if meets {
-                let ended = play(alloc, row, Trouble::Fails(call), Trouble::None)?;
-                ended.is_right(0, row.answers, "fault input\n")?;
-                meets = ended.met;
-            }
+        // A read that finds the end comes behind one for each byte.
+        for call in 0..row.script.len() as u64 + 2 {
+            let ended = play(alloc, row, Trouble::Fails(call), Trouble::None)?;
+            ended.is_right(0, row.answers, "fault input\n")?;
         }
-        expect(!meets, "reads without end")?;
     }
     Ok(())
 }
@@ -84,45 +81,63 @@ pub fn failing_reads(alloc: Global) -> Result<(), Failure> {
 /// A play or an audit one of whose writes fails, or takes nothing, ends with `fault output`.
 pub fn failing_writes(alloc: Global) -> Result<(), Failure> {
     for row in &ROWS {
-        let mut meets = true;
-        for call in 0..MANY {
-            if meets {
-                meets = false;
-                for trouble in [Trouble::Fails(call), Trouble::TakesNothing(call)] {
-                    let ended = play(alloc, row, Trouble::None, trouble)?;
-                    ended.is_right(0, row.answers, "fault output\n")?;
-                    meets = ended.met;
-                }
-            }
-        }
-        expect(!meets, "writes without end")?;
-    }
-    for world in RUNS.iter().chain(&AUDITS) {
-        for call in 0..world.lines.len() as u64 + 1 {
-            for trouble in [Trouble::Fails(call), Trouble::TakesNothing(call)] {
-                let ended = audit(alloc, world, trouble)?;
-                ended.is_right(status_of(world), world.lines, "fault output\n")?;
-            }
+        for call in 0..row.answers.len() as u64 + 1 {
+            play_fails(alloc, row, Trouble::Fails(call))?;
+            play_fails(alloc, row, Trouble::TakesNothing(call))?;
         }
     }
     Ok(())
 }
 
+fn play_fails(alloc: Global, row: &Row, writes: Trouble) -> Result<(), Failure> {
+    let ended = play(alloc, row, Trouble::None, writes)?;
+    ended.is_right(0, row.answers, "fault output\n")
+}
+
+/// An audit one of whose writes fails, or takes nothing, ends with `fault output`.
+pub fn failing_verdicts(alloc: Global) -> Result<(), Failure> {
+    for world in &RUNS {
+        failing_verdict(alloc, world)?;
+    }
+    for world in &AUDITS {
+        failing_verdict(alloc, world)?;
+    }
+    Ok(())
+}
+
+fn failing_verdict(alloc: Global, world: &World) -> Result<(), Failure> {
+    let files = files_of(alloc, world)?;
+    for call in 0..world.lines.len() as u64 + 1 {
+        audit_fails(alloc, world, &files, Trouble::Fails(call))?;
+        audit_fails(alloc, world, &files, Trouble::TakesNothing(call))?;
+    }
+    Ok(())
+}
+
+fn audit_fails(
+    alloc: Global,
+    world: &World,
+    files: &[Vec<u8>],
+    writes: Trouble,
+) -> Result<(), Failure> {
+    let ended = audit(alloc, world, files, writes)?;
+    ended.is_right(status_of(world), world.lines, "fault output\n")
+}
+
 /// A fault line that can't be written changes no status.
 pub fn failing_fault_lines(alloc: Global) -> Result<(), Failure> {
     let mut sheet = Sheet::new(alloc)?;
-    let mut input = Reader::new(ROWS[0].script.as_bytes(), Trouble::Fails(0));
+    let mut input = Reader::new(b"site 1 1\n", Trouble::Fails(0));
     let mut err = Writer::new(&mut sheet.err, Trouble::Fails(0));
-    let status = run_play(alloc, &mut input, &mut sheet.out, &mut err);
+    let played = run_play(alloc, &mut input, &mut sheet.out, &mut err);
     expect(
-        status == 3,
-        "a play without a fault line has another status",
+        played == 3,
+        "a play without its fault line has another status",
     )?;
-    sheet.clear();
     let mut err = Writer::new(&mut sheet.err, Trouble::Fails(0));
-    let status = run_audit(alloc, b"{", &[], &mut sheet.out, &mut err);
+    let audited = run_audit(alloc, b"{", &[], &mut sheet.out, &mut err);
     expect(
-        status == 3,
-        "an audit without a fault line has another status",
+        audited == 3,
+        "an audit without its fault line has another status",
     )
 }

@@ -4,15 +4,17 @@
 pub struct File {
     pub site: u16,
     pub entries: &'static [&'static [u8]],
+    /// How many of them are lawful.
+    pub lawful: usize,
 }
 
 /// Sites with their processes, their journals in any order, and the lines of their audit.
 pub struct World {
     pub name: &'static str,
     pub sites: &'static [(u16, &'static [u16])],
+    /// The file that names the sites.
+    pub topology: &'static str,
     pub files: &'static [File],
-    /// How many entries of the first file are lawful.
-    pub lawful: usize,
     pub lines: &'static str,
 }
 
@@ -84,6 +86,7 @@ pub const RUNS: [World; 3] = [
     World {
         name: "a probe comes home over two sites",
         sites: &[(1, &[1]), (2, &[2])],
+        topology: r#"{"edition":1,"sites":[{"site":1,"processes":[1]},{"site":2,"processes":[2]}]}"#,
         files: &[
             File {
                 site: 1,
@@ -93,18 +96,20 @@ pub const RUNS: [World; 3] = [
                     &START_1,
                     &GOT_PROBE_1_2_1_DECLARED_1,
                 ],
+                lawful: 4,
             },
             File {
                 site: 2,
                 entries: &[&ASK_2_1, &GOT_REQUEST_1_2, &GOT_PROBE_1_1_2_SENT_1_2_1],
+                lawful: 3,
             },
         ],
-        lawful: 4,
         lines: "accepted\nevents 7\nwait 1 2\nwait 2 1\ndeclared 1 cycle 1 2 1\n",
     },
     World {
         name: "a probe declares its origin by local dependence",
         sites: &[(1, &[1, 3]), (2, &[2])],
+        topology: r#"{"edition":1,"sites":[{"site":1,"processes":[1,3]},{"site":2,"processes":[2]}]}"#,
         files: &[
             File {
                 site: 1,
@@ -115,18 +120,20 @@ pub const RUNS: [World; 3] = [
                     &START_1,
                     &GOT_PROBE_1_2_3_DECLARED_1,
                 ],
+                lawful: 5,
             },
             File {
                 site: 2,
                 entries: &[&ASK_2_3, &GOT_REQUEST_1_2, &GOT_PROBE_1_1_2_SENT_1_2_3],
+                lawful: 3,
             },
         ],
-        lawful: 5,
         lines: "accepted\nevents 8\nwait 1 2\nwait 2 3\nwait 3 1\ndeclared 1 cycle 1 2 3 1\n",
     },
     World {
         name: "dependents are forgotten when their process becomes active",
         sites: &[(1, &[1]), (2, &[2, 3])],
+        topology: r#"{"edition":1,"sites":[{"site":1,"processes":[1]},{"site":2,"processes":[2,3]}]}"#,
         files: &[
             File {
                 site: 1,
@@ -137,6 +144,7 @@ pub const RUNS: [World; 3] = [
                     &START_1,
                     &GOT_PROBE_1_2_1_DECLARED_1,
                 ],
+                lawful: 5,
             },
             File {
                 site: 2,
@@ -148,9 +156,9 @@ pub const RUNS: [World; 3] = [
                     &ASK_2_1,
                     &GOT_PROBE_1_1_2_SENT_1_2_1,
                 ],
+                lawful: 6,
             },
         ],
-        lawful: 5,
         lines: "accepted\nevents 11\nwait 1 2\nwait 2 1\ndeclared 1 cycle 1 2 1\n",
     },
 ];
@@ -160,53 +168,60 @@ pub const AUDITS: [World; 3] = [
     World {
         name: "a site may get a request before its own site asks anything",
         sites: &[(1, &[1]), (2, &[2]), (3, &[3])],
+        topology: r#"{"edition":1,"sites":[{"site":1,"processes":[1]},{"site":2,"processes":[2]},{"site":3,"processes":[3]}]}"#,
         files: &[
             File {
                 site: 1,
                 entries: &[&GOT_REQUEST_3_1],
+                lawful: 1,
             },
             File {
                 site: 2,
                 entries: &[],
+                lawful: 0,
             },
             File {
                 site: 3,
                 entries: &[&ASK_3_1],
+                lawful: 1,
             },
         ],
-        lawful: 1,
         lines: "accepted\nevents 2\nwait 3 1\n",
     },
     World {
         name: "frames of one link are got in the order of sending",
         sites: &[(1, &[1]), (2, &[2, 3])],
+        topology: r#"{"edition":1,"sites":[{"site":1,"processes":[1]},{"site":2,"processes":[2,3]}]}"#,
         files: &[
             File {
                 site: 1,
                 entries: &[&ASK_1_2_3],
+                lawful: 1,
             },
             File {
                 site: 2,
                 entries: &[&GOT_REQUEST_1_3, &GOT_REQUEST_1_2],
+                lawful: 2,
             },
         ],
-        lawful: 1,
         lines: "refused\nstop 2 at 1\n",
     },
     World {
         name: "a probe that was not sent is missed",
         sites: &[(1, &[1]), (2, &[2, 3])],
+        topology: r#"{"edition":1,"sites":[{"site":1,"processes":[1]},{"site":2,"processes":[2,3]}]}"#,
         files: &[
             File {
                 site: 1,
                 entries: &[&ASK_1_2_3, &START_1],
+                lawful: 1,
             },
             File {
                 site: 2,
                 entries: &[],
+                lawful: 0,
             },
         ],
-        lawful: 1,
         lines: "refused\nstop 1 at 2\n",
     },
 ];
