@@ -1,6 +1,7 @@
 pub mod Fronts
 pub mod Joins
 pub mod Readings
+pub mod Wanted
 pub mod Hellos
 pub mod Faults
 pub mod Links

@@ -31,6 +31,14 @@ pub record Splits (edition : Edition) (senders stream : List ℕ) (sender : ℕ)
   pub each : AllByRecursion IsFrame frames
   pub whole : stream ≡ link_bytes edition sender frames ++ rest
 
+-- The stream has frames behind these.
+pub record HasMore (edition : Edition) (senders stream : List ℕ) (frames : List Frame) : Type 0 where
+  pub sender : ℕ
+  pub more : List Frame
+  pub rest : List ℕ
+  pub some : 0 < length more
+  pub splits : Splits edition senders stream sender (frames ++ more) rest
+
 -- the place in the stream behind the hello and the frames, as far as 64 bits can tell it
 abbrev pub place_behind : List Frame → ℕ
 place_behind frames = min (6 + length (spelled frames)) 18446744073709551615

@@ -2,7 +2,7 @@
 
 ghost use Rattle.std.specs.Prelude.{◌≡◌, ◌≢◌, ℕ, ◌++◌, List, [], true, Some, None, Err, IfOk, IfErr, MatchResult};
 ghost use Rattle.cmh_frames.specs.declared.frame.Frame.{Frame};
-ghost use Rattle.cmh_reader.specs.Stream.{fault_of, sender_of, rest_of};
+ghost use Rattle.cmh_reader.specs.Stream.{HasMore, fault_of, sender_of, rest_of};
 ghost use Rattle.cmh_reader.specs.Reader.{StandsFor, Takes, ExpectsSame, BeginsLink, fresh};
 
 use crate::fault::ReadFault;
@@ -66,7 +66,9 @@ impl FrameReader {
         ensures no_frames { IfErr result (λ fault. fault ≢ ReadFault.Memory → Takes self.old self.new piece.now []) }
         ensures stays { (fault : ReadFault) → fault_of self.old.standing ≡ Some fault → (result ≡ Err fault) × (self.new ≡ self.old) }
 
-        // Want of memory changes nothing, and leaves its mark.
+        // Want of memory comes only where there are new frames, changes nothing, and leaves its mark.
+        ensures wanted { result ≡ Err ReadFault.Memory → (stream : List ℕ) (frames : List Frame) → StandsFor self.old stream frames
+            → HasMore self.old.edition self.old.senders (stream ++ piece.now) frames }
         ensures memory { result ≡ Err ReadFault.Memory → self.new ≡ record self.old { starved = true } }
         ensures fed { result ≢ Err ReadFault.Memory → self.new.starved ≡ self.old.starved }
         ensures kept { ExpectsSame self.old self.new }

@@ -1,10 +1,10 @@
 //! Frames, as the pieces of a stream make them whole.
 
-ghost use Rattle.std.specs.Prelude.{ℕ, ◌<◌, ◌++◌, List, [], length, IfOk};
+ghost use Rattle.std.specs.Prelude.{ℕ, ◌<◌, ◌++◌, List, [], length, IfOk, OnErr};
 ghost use Rattle.cmh_frames.specs.Wire.{IsShort};
 ghost use Rattle.cmh_frames.specs.declared.edition.Edition.{Edition};
 ghost use Rattle.cmh_frames.specs.declared.frame.Frame.{Frame};
-ghost use Rattle.cmh_reader.specs.Stream.{Reads, IsPending};
+ghost use Rattle.cmh_reader.specs.Stream.{HasMore, Reads, IsPending};
 
 use crate::rest::{MAX_FRAME_LEN, Rest};
 use crate::standing::Standing;
@@ -31,6 +31,9 @@ pub fn greet(
         → Reads edition senders.now stream before (Standing.Greeting begun.now)
         → Reads edition senders.now (stream ++ piece.now) (before ++ progress.frames.items) progress.standing) }
     ensures pending { IfOk result (λ progress. IsPending progress.standing) }
+    ensures refused { OnErr result ((stream : List ℕ) (before : List Frame)
+        → Reads edition senders.now stream before (Standing.Greeting begun.now)
+        → HasMore edition senders.now (stream ++ piece.now) before) }
 {
     let bytes = begun.joined(piece, HELLO_LEN);
     let frames = Vec::new(alloc);
@@ -69,6 +72,9 @@ pub fn read_on(
         → Reads edition senders stream before (Standing.Open sender begun.now offset)
         → Reads edition senders (stream ++ piece.now) (before ++ progress.frames.items) progress.standing) }
     ensures pending { IfOk result (λ progress. IsPending progress.standing) }
+    ensures refused { OnErr result ((edition : Edition) (senders stream : List ℕ) (before : List Frame)
+        → Reads edition senders stream before (Standing.Open sender begun.now offset)
+        → HasMore edition senders (stream ++ piece.now) before) }
 {
     let bytes = begun.joined(piece, MAX_FRAME_LEN);
     let mut frames = Vec::new(alloc);
@@ -109,6 +115,9 @@ fn read_frames(
         → Reads edition senders stream (before ++ frames.items) (Standing.Open sender [] offset)
         → Reads edition senders (stream ++ bytes.now) (before ++ progress.frames.items) progress.standing) }
     ensures pending { IfOk result (λ progress. IsPending progress.standing) }
+    ensures refused { OnErr result ((edition : Edition) (senders stream : List ℕ) (before : List Frame)
+        → Reads edition senders stream (before ++ frames.items) (Standing.Open sender [] offset)
+        → HasMore edition senders (stream ++ bytes.now) before) }
 {
     let mut used = 0;
     loop {

@@ -6,6 +6,7 @@ use Rattle.cmh_frames.specs.declared.frame.Front.TheVariants.{Bad}
 use Rattle.cmh_reader.specs.Stream.{Reads}
 use Rattle.cmh_reader.specs.declared.standing.Standing.TheVariants.{Open, Broken}
 use Rattle.cmh_reader.proofs.Readings.{begun_short, begun_bad, begun_whole, finish_in_range}
+use Rattle.cmh_reader.proofs.Wanted.{begun_wanted, on_err}
 use Rattle.cmh_reader.proofs.reading.read_on.Goals as goal
 
 pub slice_bounds-read_frames-count : goal.slice_bounds-read_frames-count
@@ -60,3 +61,21 @@ returns-in_ok-push-in-Whole-clause-reads c =
     (append_assoc stream (take at piece) (take (length piece - at) (drop at piece)) ∙ ap (λ b. stream ++ b) (ap (λ b. take at piece ++ b) (take_rest piece at) ∙ take-append-drop at piece))
     (reads edition senders (stream ++ take at piece) before now))
     c.read_frames.ensures.reads
+
+pub returns-in_err-push-in-Whole-clause-refused : goal.returns-in_err-push-in-Whole-clause-refused
+returns-in_err-push-in-Whole-clause-refused c =
+    let f = c.in-Whole.frame in
+    let n = c.in-Whole.len in
+    let cut = subst (λ b. n ≤ length b) c.as_slice.ensures c.in-Whole.ensures.0 in
+    let spells = subst (λ b. Spells (take n b) f) c.as_slice.ensures c.in-Whole.ensures.1 in
+    on_err c.from_residual.result (λ edition senders stream before is.
+    begun_wanted edition senders stream c.args.sender c.args.offset before c.args.begun.now c.args.piece.now c.joined-bytes.result f n is c.joined-bytes.ensures cut spells)
+
+pub returns-in_ok-push-in-Whole-clause-refused : goal.returns-in_ok-push-in-Whole-clause-refused
+returns-in_ok-push-in-Whole-clause-refused c =
+    let f = c.in-Whole.frame in
+    let n = c.in-Whole.len in
+    let cut = subst (λ b. n ≤ length b) c.as_slice.ensures c.in-Whole.ensures.0 in
+    let spells = subst (λ b. Spells (take n b) f) c.as_slice.ensures c.in-Whole.ensures.1 in
+    on_err c.read_frames.result (λ edition senders stream before is.
+    begun_wanted edition senders stream c.args.sender c.args.offset before c.args.begun.now c.args.piece.now c.joined-bytes.result f n is c.joined-bytes.ensures cut spells)
