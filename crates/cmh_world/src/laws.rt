@@ -83,3 +83,8 @@ pub fn count_law(topology: &Topology, events: &[WorldEvent])
     requires run { IsRun topology.now events.now }
     ensures counts { AsksAndReplies events.now }
 {}
+
+/// The count law of every run over the topology, for a caller that knows of a run and does not hold its list.
+pub fn count_law_of_every_run(topology: &Topology)
+    ensures counts { (events : List WorldEvent) → IsRun topology.now events → AsksAndReplies events }
+{}
