@@ -20,6 +20,7 @@ use Rattle.cmh_audit.specs.Transit.{sum_over, in_transit}
 use Rattle.cmh_audit.specs.Turns.{turned, turns}
 use Rattle.cmh_audit.specs.Cycles.{WaitsIn, IsCycleIn}
 use Rattle.cmh_audit.specs.Reports.{beside, IsFirstCycle, IsFirstCycleIn, AreFirstCycles, AreOnCycles}
+use Rattle.cmh_audit.proofs.Members.{contains_rest}
 use Rattle.cmh_audit.proofs.CountingLemmas.{Fresh, sum_same}
 use Rattle.cmh_audit.proofs.DeclarationLemmas.{declared_at_end}
 use Rattle.cmh_audit.proofs.TurnLemmas.{waits_at_end}
@@ -62,13 +63,6 @@ firsts-length waits [] (c ∷ cs) are = absurd are
 firsts-length waits (i ∷ is) [] are = absurd are
 firsts-length waits (i ∷ is) (c ∷ cs) are = ap suc (firsts-length waits is cs are.1)
 
-not_first : (i d : ℕ) (is : List ℕ) → d ≢ i → Contains (d ∷ is) i → Contains is i
-not_first i d is ne c = go c.0 c.1 c.2
-  where
-    go : (k : ℕ) → k < length (d ∷ is) → get_or (d ∷ is) k i ≡ i → Contains is i
-    go zero l e = absurd (ne e)
-    go (suc k) l e = (k, omega arith, e)
-
 later : (i d : ℕ) (is : List ℕ) → Contains is i → Contains (d ∷ is) i
 later i d is c = (suc c.0, let l = c.1 in omega (arith, l), c.2)
 
@@ -84,7 +78,7 @@ beside_is waits (d ∷ is) (m ∷ cs) i are =
     (cases_eq d i)
   where
     wider : (o : Option (List ℕ)) → d ≢ i → MatchOption o (Contains is i → ⊥) (λ c. Contains is i × IsFirstCycleIn waits i c) → MatchOption o (Contains (d ∷ is) i → ⊥) (λ c. Contains (d ∷ is) i × IsFirstCycleIn waits i c)
-    wider None ne h = λ c. h (not_first i d is ne c)
+    wider None ne h = λ c. h (contains_rest i d is ne c)
     wider (Some c) ne h = (later i d is h.0, h.1)
 
 -- ---- the waits of the list are those at the end of the run
