@@ -17,7 +17,7 @@ use Rattle.cmh_journal.specs.Entries.{event_spelling, sendings_spelling, declara
 use Rattle.cmh_audit.specs.Journals.{journal_of, entry_count, NoneAt, OneEach}
 use Rattle.cmh_audit.specs.Sums.{in_entries, in_journals}
 use Rattle.cmh_audit.specs.Transit.{sum_over, sent_count}
-use Rattle.cmh_audit.proofs.Members.{no_member}
+use Rattle.cmh_audit.proofs.Members.{contains_rest, no_member}
 use Rattle.cmh_audit.proofs.Sums.{journals_more}
 
 -- ---- entries
@@ -218,13 +218,6 @@ frames_bound sites js queue apart few =
 
 -- ---- no more journals than sites
 
-in_rest : (x y : ℕ) (ys : List ℕ) → x ≢ y → Contains (y ∷ ys) x → Contains ys x
-in_rest x y ys ne c = go c.0 c.1 c.2
-  where
-    go : (k : ℕ) → k < length (y ∷ ys) → get_or (y ∷ ys) k x ≡ x → Contains ys x
-    go zero l e = absurd (ne (sym e))
-    go (suc k) l e = (k, omega arith, e)
-
 -- the list without x
 abbrev pub without : ℕ → List ℕ → List ℕ
 without x [] = []
@@ -236,7 +229,7 @@ without_length x (y ∷ ys) c = ⊎_elim
     (λ (e : x ≡ y). let h : length (without x (y ∷ ys)) ≡ length ys = ap (λ t. length (if t then ys else y ∷ without x ys)) (eq-eqb x y e) in omega (arith, h))
     (λ (ne : x ≢ y).
     let h : length (without x (y ∷ ys)) ≡ length (without x ys) + 1 = ap (λ t. length (if t then ys else y ∷ without x ys)) (ne_eqb x y ne) ∙ plus_one (length (without x ys)) in
-    let m = without_length x ys (in_rest x y ys ne c) in omega (arith, h, m))
+    let m = without_length x ys (contains_rest x y ys (λ e. ne (sym e)) c) in omega (arith, h, m))
     (cases_eq x y)
   where
     plus_one : (n : ℕ) → suc n ≡ n + 1
@@ -245,10 +238,10 @@ without_length x (y ∷ ys) c = ⊎_elim
 pub without_keeps : (x z : ℕ) (ys : List ℕ) → x ≢ z → Contains ys z → Contains (without x ys) z
 without_keeps x z [] apart c = absurd (no_member z c)
 without_keeps x z (y ∷ ys) apart c = ⊎_elim
-    (λ (e : x ≡ y). subst (λ l. Contains l z) (sym (ap (λ t. if t then ys else y ∷ without x ys) (eq-eqb x y e))) (in_rest z y ys (λ f. apart (e ∙ sym f)) c))
+    (λ (e : x ≡ y). subst (λ l. Contains l z) (sym (ap (λ t. if t then ys else y ∷ without x ys) (eq-eqb x y e))) (contains_rest z y ys (λ f. apart (e ∙ f)) c))
     (λ (ne : x ≢ y). subst (λ l. Contains l z) (sym (ap (λ t. if t then ys else y ∷ without x ys) (ne_eqb x y ne))) (⊎_elim
     (λ (f : z ≡ y). (0, omega arith, sym f))
-    (λ (nf : z ≢ y). let d = without_keeps x z ys apart (in_rest z y ys nf c) in (suc d.0, let l = d.1 in omega (arith, l), d.2))
+    (λ (nf : z ≢ y). let d = without_keeps x z ys apart (contains_rest z y ys (λ f. nf (sym f)) c) in (suc d.0, let l = d.1 in omega (arith, l), d.2))
     (cases_eq z y)))
     (cases_eq x y)
 

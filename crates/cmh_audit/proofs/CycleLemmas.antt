@@ -5,6 +5,7 @@ use Rattle.std.specs.BTreeMap.{BTreeMap}
 use Rattle.std.proofs.lemmas.Bool.{cases_lt}
 use Rattle.cmh_audit.specs.Cycles.{WaitsIn, Leads, IsCycleIn, NotAbove, ComesFirst, distance_of, AreDistances}
 use Rattle.cmh_audit.specs.Levels.{IsLeast, at_distance}
+use Rattle.cmh_audit.proofs.Beginnings.{empty_list}
 use Rattle.cmh_audit.proofs.LeastLemmas.{some_eq, none_is, at_left, took_process}
 
 -- these are the holders for which v waits
@@ -35,10 +36,6 @@ below_not_above (x ∷ xs) (y ∷ ys) h = ⊎_elim (λ l. inl l) (λ e. inr (e.0
 not_above_refl : (xs : List ℕ) → NotAbove xs xs
 not_above_refl [] = tt
 not_above_refl (x ∷ xs) = inr (refl, not_above_refl xs)
-
-no_rest : (xs : List ℕ) → length xs ≡ 0 → xs ≡ []
-no_rest [] h = refl
-no_rest (x ∷ xs) h = absurd (omega arith)
 
 -- ---- the walk
 
@@ -163,7 +160,7 @@ module _ (waits : List (ℕ × ℕ)) (i first : ℕ) (table : BTreeMap ℕ ℕ) 
               (k, leads.0, d.1 ∙ ap (λ x. Some x) same)
 
   home : left ≡ 0 → Leads waits next [] i
-  home e = let p = are.reached next left next_waited.1 in subst (λ m. Leads waits next m i) (no_rest p.0 (p.2 ∙ e)) p.1
+  home e = let p = are.reached next left next_waited.1 in subst (λ m. Leads waits next m i) (empty_list p.0 (p.2 ∙ e)) p.1
 
   -- the walk is back
   pub walk_cycle : left ≡ 0 → IsCycleIn waits i (members ++ next ∷ [])
@@ -183,7 +180,7 @@ module _ (waits : List (ℕ × ℕ)) (i first : ℕ) (table : BTreeMap ℕ ℕ) 
         ⊎_elim
             (λ b. below_not_above (members ++ next ∷ []) other b)
             (λ r. let m = ap length r.1 ∙ length-append (members ++ next ∷ []) r.0 in
-            let none : r.0 ≡ [] = no_rest r.0 (omega (arith, m, n, w, e, same)) in
+            let none : r.0 ≡ [] = empty_list r.0 (omega (arith, m, n, w, e, same)) in
             subst (NotAbove (members ++ next ∷ [])) (sym (r.1 ∙ ap (λ l. (members ++ next ∷ []) ++ l) none ∙ append-nil (members ++ next ∷ []))) (not_above_refl (members ++ next ∷ [])))
             (others_next other h same),
       ))

@@ -22,6 +22,14 @@ contains_push {X = X} (y ∷ ys) x k c = go c.0 c.1 c.2 (λ d. contains_push ys 
     go zero l e more = inl (0, omega arith, e)
     go (suc q) l e more = ⊎_elim (λ d. inl (suc d.0, let m = d.1 in omega (arith, m), d.2)) (λ f. inr f) (more (q, omega arith, e))
 
+-- a member that isn't the first is one of the rest
+pub contains_rest : {X : Type 0} (x y : X) (ys : List X) → (y ≡ x → ⊥) → Contains (y ∷ ys) x → Contains ys x
+contains_rest {X = X} x y ys ne c = go c.0 c.1 c.2
+  where
+    go : (k : ℕ) → k < length (y ∷ ys) → get_or (y ∷ ys) k x ≡ x → Contains ys x
+    go zero l e = absurd (ne e)
+    go (suc k) l e = (k, omega arith, e)
+
 pub no_member : {X : Type 0} (k : X) → Contains [] k → ⊥
 no_member k c = let l = c.1 in let z : c.0 < 0 = l in absurd (omega (arith, z))
 

@@ -10,7 +10,7 @@ use Rattle.cmh_model.specs.Journals.{sendings_of, receipts_of}
 use Rattle.cmh_model.specs.Runs.{IsRun, ComesFrom, under_way, receipts}
 use Rattle.cmh_model.specs.Waits.{Waits, IsCycle, IsDeclared}
 use Rattle.cmh_model.proofs.PathLemmas.{path_map}
-use Rattle.cmh_world.proofs.RunsSoFar.{dark_path}
+use Rattle.cmh_model.specs.Laws.{DarkPath, AsksAndReplies}
 use Rattle.cmh_journal.specs.Journal.{Journal}
 use Rattle.cmh_audit.specs.Declarations.{declares}
 use Rattle.cmh_audit.specs.Journals.{journal_of, OneEach}
@@ -20,6 +20,7 @@ use Rattle.cmh_audit.specs.Transit.{sum_over, in_transit}
 use Rattle.cmh_audit.specs.Turns.{turned, turns}
 use Rattle.cmh_audit.specs.Cycles.{WaitsIn, IsCycleIn}
 use Rattle.cmh_audit.specs.Reports.{beside, IsFirstCycle, IsFirstCycleIn, AreFirstCycles, AreOnCycles}
+use Rattle.cmh_audit.proofs.Members.{contains_rest}
 use Rattle.cmh_audit.proofs.CountingLemmas.{Fresh, sum_same}
 use Rattle.cmh_audit.proofs.DeclarationLemmas.{declared_at_end}
 use Rattle.cmh_audit.proofs.TurnLemmas.{waits_at_end}
@@ -62,13 +63,6 @@ firsts-length waits [] (c ∷ cs) are = absurd are
 firsts-length waits (i ∷ is) [] are = absurd are
 firsts-length waits (i ∷ is) (c ∷ cs) are = ap suc (firsts-length waits is cs are.1)
 
-not_first : (i d : ℕ) (is : List ℕ) → d ≢ i → Contains (d ∷ is) i → Contains is i
-not_first i d is ne c = go c.0 c.1 c.2
-  where
-    go : (k : ℕ) → k < length (d ∷ is) → get_or (d ∷ is) k i ≡ i → Contains is i
-    go zero l e = absurd (ne e)
-    go (suc k) l e = (k, omega arith, e)
-
 later : (i d : ℕ) (is : List ℕ) → Contains is i → Contains (d ∷ is) i
 later i d is c = (suc c.0, let l = c.1 in omega (arith, l), c.2)
 
@@ -84,7 +78,7 @@ beside_is waits (d ∷ is) (m ∷ cs) i are =
     (cases_eq d i)
   where
     wider : (o : Option (List ℕ)) → d ≢ i → MatchOption o (Contains is i → ⊥) (λ c. Contains is i × IsFirstCycleIn waits i c) → MatchOption o (Contains (d ∷ is) i → ⊥) (λ c. Contains (d ∷ is) i × IsFirstCycleIn waits i c)
-    wider None ne h = λ c. h (not_first i d is ne c)
+    wider None ne h = λ c. h (contains_rest i d is ne c)
     wider (Some c) ne h = (later i d is h.0, h.1)
 
 -- ---- the waits of the list are those at the end of the run
@@ -113,9 +107,9 @@ module _ (waits : List (ℕ × ℕ)) (run : List WorldEvent) (same : (j k : ℕ)
 -- ---- what the parts of a report come to, of every run from which the journals come
 
 module _ (t : Topology) (js : List Journal) (run : List WorldEvent) (one : OneEach js) (is_run : IsRun t run) (come : ComesFrom (journal_of js) run) where
-  pub waits_same : (waits : List (ℕ × ℕ)) → ((j k : ℕ) → Contains waits (j, k) ↔ (turned (in_journals (turns j k) js) false ≡ true)) → (j k : ℕ) → WaitsIn waits j k ↔ Waits run j k
-  waits_same waits are j k =
-      let end = waits_at_end t js run one is_run come j k in
+  pub waits_same : AsksAndReplies run → (waits : List (ℕ × ℕ)) → ((j k : ℕ) → Contains waits (j, k) ↔ (turned (in_journals (turns j k) js) false ≡ true)) → (j k : ℕ) → WaitsIn waits j k ↔ Waits run j k
+  waits_same take_turns waits are j k =
+      let end = waits_at_end t js run one is_run come take_turns j k in
       (λ c. sym end ∙ (are j k).0 c, λ w. (are j k).1 (end ∙ w))
 
   pub declared_same : (declared : List ℕ) → ((i : ℕ) → Contains declared i ↔ (0 < in_journals (declares i) js)) → (i : ℕ) → Contains declared i ↔ IsDeclared run i
@@ -124,9 +118,9 @@ module _ (t : Topology) (js : List Journal) (run : List WorldEvent) (one : OneEa
       (λ c. end.0 ((are i).0 c), λ d. (are i).1 (end.1 d))
 
   -- by the dark path law each declared process is on a cycle
-  pub on_cycles : (waits : List (ℕ × ℕ)) (declared : List ℕ) → ((j k : ℕ) → WaitsIn waits j k ↔ Waits run j k) → ((i : ℕ) → Contains declared i ↔ IsDeclared run i) → AreOnCycles waits declared
-  on_cycles waits declared same are i c =
-      let found = (dark_path t run is_run).declared i ((are i).0 c) in
+  pub on_cycles : DarkPath t run → (waits : List (ℕ × ℕ)) (declared : List ℕ) → ((j k : ℕ) → WaitsIn waits j k ↔ Waits run j k) → ((i : ℕ) → Contains declared i ↔ IsDeclared run i) → AreOnCycles waits declared
+  on_cycles dark_path waits declared same are i c =
+      let found = dark_path.declared i ((are i).0 c) in
       (found.0, cycle_from waits run same i found.0 found.1)
 
   -- what is left on the links is what is under way at the end

@@ -20,9 +20,8 @@ use Rattle.cmh_model.specs.Rules.{Accepts, after, IsAscending}
 use Rattle.cmh_model.specs.Journals.{LawfulFrom}
 use Rattle.cmh_model.specs.Runs.{IsRun, ComesFrom, entries_of}
 use Rattle.cmh_model.specs.Waits.{asks_for, grants, wait_after}
-use Rattle.cmh_model.specs.Laws.{bit, count_of}
+use Rattle.cmh_model.specs.Laws.{bit, count_of, AsksAndReplies}
 use Rattle.cmh_model.proofs.Pairs.{pair_cmp_total}
-use Rattle.cmh_world.proofs.Turns.{asks_and_replies}
 use Rattle.cmh_journal.specs.Journal.{Journal}
 use Rattle.cmh_audit.specs.Journals.{journal_of, OneEach}
 use Rattle.cmh_audit.specs.Sums.{in_entries, in_journals, in_run}
@@ -143,11 +142,11 @@ turned-bit true = refl
 turned-bit false = refl
 
 -- the journals' turns tell who waits at the end of every run that they come from
-pub waits_at_end : (t : Topology) (js : List Journal) (run : List WorldEvent) → OneEach js → IsRun t run → ComesFrom (journal_of js) run → (j k : ℕ) → turned (in_journals (turns j k) js) false ≡ wait_after false j k run
-waits_at_end t js run one is_run come j k =
+pub waits_at_end : (t : Topology) (js : List Journal) (run : List WorldEvent) → OneEach js → IsRun t run → ComesFrom (journal_of js) run → AsksAndReplies run → (j k : ℕ) → turned (in_journals (turns j k) js) false ≡ wait_after false j k run
+waits_at_end t js run one is_run come take_turns j k =
     let sum = in_run-in_journals (speaks j k) (turns j k) js run one come (λ site. turns_lawful t site empty_state j k (entries_of site run) (is_run.lawful site)) in
     let split = in_run-speaks j k run in
-    let law = asks_and_replies t run is_run j k in
+    let law = take_turns j k in
     let replies : ℕ = count_of (λ (e : WorldEvent). grants k j e.entry.event) run in
     let total : in_journals (turns j k) js ≡ (count_of (λ (e : WorldEvent). grants k j e.entry.event) run + count_of (λ (e : WorldEvent). grants k j e.entry.event) run) + bit (wait_after false j k run) = omega (arith, sum, split, law) in
     ap (λ n. turned n false) total

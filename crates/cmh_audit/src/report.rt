@@ -19,6 +19,7 @@ use crate::merge::Merged;
 use crate::waits::waits_of;
 use cmh_frames::{ProcId, Topology};
 use cmh_journal::Journal;
+use cmh_world::{count_law_of_every_run, dark_path_of_every_run};
 use std::alloc::{AllocError, Global};
 use std::marker::Model;
 
@@ -179,6 +180,9 @@ pub fn report_of(
     ensures events { IfOk result (λ report. report.events ≡ events) }
     ensures tries { IfOk result (λ report. report.tries ≡ merged.now.tries) }
 {
+    // The laws that the report rests on: asks and replies take turns, and each declared process lies on a cycle.
+    count_law_of_every_run(topology);
+    dark_path_of_every_run(topology);
     let graph = Graph::new(alloc, waits_of(alloc, journals)?)?;
     let declared = declared_of(alloc, journals)?;
     let cycles = cycles_of(alloc, &graph, &declared)?;

@@ -7,5 +7,6 @@ pub mod Runs
 pub mod Waits
 pub mod Stops
 pub mod Laws
+pub mod Declarations
 pub mod LastAsker
 pub mod Scripts

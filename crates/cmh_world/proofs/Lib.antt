@@ -8,3 +8,4 @@ pub mod Drained
 pub mod DrainedRuns
 pub mod Waits
 pub mod Turns
+pub mod Declared

@@ -7,6 +7,7 @@ ghost use Rattle.std.specs.Prelude.{◌≡◌, true, List};
 ghost use Rattle.cmh_frames.specs.Edition.{starts_at_ask};
 ghost use Rattle.cmh_model.specs.declared.journal.WorldEvent.{WorldEvent};
 ghost use Rattle.cmh_model.specs.Laws.{DarkPath, SameJournals, SameWaits, StopsAnywhere, EachCycleDeclared, OneOutcome, WaitsStandUnanswered, LawfulStates, AsksAndReplies};
+ghost use Rattle.cmh_model.specs.Declarations.{DeclaredByEntries};
 ghost use Rattle.cmh_model.specs.Runs.{IsRun, IsDrained};
 ghost use Rattle.cmh_model.specs.LastAsker.{LastAskerDeclared};
 
@@ -72,8 +73,10 @@ pub fn wait_law()
 
 /// Of the state of every lawful journal, whatever the other sites do: waits and owed replies are those of the site's own processes with known ones,
 /// a process with dependents is blocked, and a wait between two processes of the site is what is owed between them.
+/// The processes that the controller keeps as declared are those that the journal's entries declare.
 pub fn journal_law(topology: &Topology)
     ensures states { LawfulStates topology.now }
+    ensures declared { DeclaredByEntries topology.now }
 {}
 
 /// Asks and replies of two processes take turns: of every run, the asks of one for the other are as many as the replies, and one more where it waits.
@@ -82,4 +85,9 @@ pub fn journal_law(topology: &Topology)
 pub fn count_law(topology: &Topology, events: &[WorldEvent])
     requires run { IsRun topology.now events.now }
     ensures counts { AsksAndReplies events.now }
+{}
+
+/// The count law of every run over the topology, for a caller that knows of a run and does not hold its list.
+pub fn count_law_of_every_run(topology: &Topology)
+    ensures counts { (events : List WorldEvent) → IsRun topology.now events → AsksAndReplies events }
 {}

@@ -14,11 +14,11 @@ pub cycles_of-requires-clause-on_cycles : goal.cycles_of-requires-clause-on_cycl
 cycles_of-requires-clause-on_cycles c =
     let js = c.args.journals.now in
     let W : List (ℕ × ℕ) → Type 0 = λ ws. (j k : ℕ) → Contains ws (j, k) ↔ (turned (in_journals (turns j k) c.args.journals.now) false ≡ true) in
-    let waits = waits_same c.args.topology.now c.args.journals.now c.requires.comes.0 c.requires.once c.requires.comes.1 c.requires.comes.2 c.in_ok-graph.graph.waits.items (subst W (sym c.in_ok-graph.ensures.waits_are) c.in_ok-waits_of.ensures.waits) in
+    let waits = waits_same c.args.topology.now c.args.journals.now c.requires.comes.0 c.requires.once c.requires.comes.1 c.requires.comes.2 (c.count_law_of_every_run.ensures.counts c.requires.comes.0 c.requires.comes.1) c.in_ok-graph.graph.waits.items (subst W (sym c.in_ok-graph.ensures.waits_are) c.in_ok-waits_of.ensures.waits) in
     let declared = declared_same c.args.topology.now c.args.journals.now c.requires.comes.0 c.requires.once c.requires.comes.1 c.requires.comes.2 c.in_ok-declared.declared.items c.in_ok-declared.ensures.declared in
     let A : List ℕ → Type 0 = λ ds. AreOnCycles c.in_ok-graph.graph.waits.items ds in
     subst A (sym c.deref.ensures.value)
-    (on_cycles c.args.topology.now c.args.journals.now c.requires.comes.0 c.requires.once c.requires.comes.1 c.requires.comes.2 c.in_ok-graph.graph.waits.items c.in_ok-declared.declared.items waits declared)
+    (on_cycles c.args.topology.now c.args.journals.now c.requires.comes.0 c.requires.once c.requires.comes.1 c.requires.comes.2 (c.dark_path_of_every_run.ensures.dark_path c.requires.comes.0 c.requires.comes.1) c.in_ok-graph.graph.waits.items c.in_ok-declared.declared.items waits declared)
 
 pub count_frames-in_transit-requires : goal.count_frames-in_transit-requires
 count_frames-in_transit-requires c =
@@ -36,7 +36,7 @@ invariant_of-result c =
 pub returns-clause-reports : goal.returns-clause-reports
 returns-clause-reports c = λ run is_run come.
     let W : List (ℕ × ℕ) → Type 0 = λ ws. (j k : ℕ) → Contains ws (j, k) ↔ (turned (in_journals (turns j k) c.args.journals.now) false ≡ true) in
-    let waits = waits_same c.args.topology.now c.args.journals.now run c.requires.once is_run come c.in_ok-graph.graph.waits.items (subst W (sym c.in_ok-graph.ensures.waits_are) c.in_ok-waits_of.ensures.waits) in
+    let waits = waits_same c.args.topology.now c.args.journals.now run c.requires.once is_run come (c.count_law_of_every_run.ensures.counts run is_run) c.in_ok-graph.graph.waits.items (subst W (sym c.in_ok-graph.ensures.waits_are) c.in_ok-waits_of.ensures.waits) in
     let declared = declared_same c.args.topology.now c.args.journals.now run c.requires.once is_run come c.in_ok-declared.declared.items c.in_ok-declared.ensures.declared in
     let F : List ℕ → Type 0 = λ ds. AreFirstCycles c.in_ok-graph.graph.waits.items ds c.in_ok-cycles.cycles.items in
     let firsts = subst F c.deref.ensures.value c.in_ok-cycles.ensures in
