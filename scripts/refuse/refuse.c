@@ -1,9 +1,10 @@
 /* Preloaded into a program, this refuses the Nth call of one kind, once, or lets each read and write move one byte.
 
-   REFUSE=KIND:N   KIND is memory, read, write or sync; the Nth call of it, counted from 1, fails
-   REFUSE=short    each read and each write moves at most one byte
-   REFUSE_MARK=F   the file F is made when a call is refused
-   REFUSE_COUNT=F  at the end the file F gets the number of allocations */
+   REFUSE=KIND:N         KIND is memory, read, write or sync; the Nth call of it, counted from 1, fails
+   REFUSE=short          each read and each write moves at most one byte
+   REFUSE=short KIND:N   both
+   REFUSE_MARK=F         the file F is made when a call is refused
+   REFUSE_COUNT=F        at the end the file F gets the number of allocations */
 #define _GNU_SOURCE
 #include <errno.h>
 #include <fcntl.h>
@@ -17,15 +18,21 @@ extern void *__libc_malloc(size_t);
 extern void *__libc_calloc(size_t, size_t);
 extern void *__libc_realloc(void *, size_t);
 
-enum kind { NONE, MEMORY, READ, WRITE, SYNC, SHORT };
+enum kind { NONE, MEMORY, READ, WRITE, SYNC };
 static enum kind wanted;
+static int moves_one;
 static long place, calls, allocations;
 
 __attribute__((constructor)) static void begin(void) {
     static const struct { const char *name; enum kind kind; } kinds[] = {
-        {"memory:", MEMORY}, {"read:", READ}, {"write:", WRITE}, {"sync:", SYNC}, {"short", SHORT}};
+        {"memory:", MEMORY}, {"read:", READ}, {"write:", WRITE}, {"sync:", SYNC}};
     const char *text = getenv("REFUSE");
     allocations = 0;
+    if (text && strncmp(text, "short", 5) == 0) {
+        moves_one = 1;
+        text += 5;
+        text += strspn(text, " ");
+    }
     for (size_t i = 0; text && i < sizeof kinds / sizeof *kinds; i++) {
         size_t length = strlen(kinds[i].name);
         if (strncmp(text, kinds[i].name, length) == 0) {
@@ -63,12 +70,12 @@ void *realloc(void *block, size_t size) { return no_memory() ? NULL : __libc_rea
 
 ssize_t read(int file, void *buffer, size_t size) {
     if (refused(READ, EIO)) return -1;
-    return syscall(SYS_read, file, buffer, wanted == SHORT && size > 1 ? 1 : size);
+    return syscall(SYS_read, file, buffer, moves_one && size > 1 ? 1 : size);
 }
 
 ssize_t write(int file, const void *buffer, size_t size) {
     if (refused(WRITE, EIO)) return -1;
-    return syscall(SYS_write, file, buffer, wanted == SHORT && size > 1 ? 1 : size);
+    return syscall(SYS_write, file, buffer, moves_one && size > 1 ? 1 : size);
 }
 
 int fsync(int file) { return refused(SYNC, EIO) ? -1 : (int)syscall(SYS_fsync, file); }

@@ -2,8 +2,8 @@
 //!
 //! Each scenario makes calls, of which one may be refused memory, and looks at their answers: each is the undisturbed
 //! one or names want of memory, nothing has changed by a refusal, and the same call then gives the undisturbed answer.
-//! `cmh_refusals` runs all scenarios, `cmh_refusals NAME` one, and `cmh_refusals NAME idle` leaves out those calls that
-//! take no memory. What is printed is the same whatever was refused.
+//! `cmh_refusals` runs all scenarios, `cmh_refusals NAME` one. Behind a name, `idle` leaves out those calls that take no
+//! memory, and `busy` does not. What is printed is the same whatever was refused.
 #![tactic(auto)]
 
 mod audits;
@@ -61,7 +61,7 @@ fn words<R: Env + AllocGlobal>(rt: &R) -> io::Result<Vec<String>> {
     Ok(words)
 }
 
-/// The words of the command line, behind that of the program.
+/// The words of the command line, asked for once more where memory was refused.
 fn words_again<R: Env + AllocGlobal>(rt: &R) -> io::Result<Vec<String>> {
     match words(rt) {
         Err(_) => words(rt),
