@@ -3,9 +3,9 @@
 use crate::carriers::Sheet;
 use crate::failure::{Failure, expect};
 use crate::making;
-use crate::worlds::{AUDITS, RUNS, World};
+use crate::worlds::{AUDITS, RUNS, STARTING, World};
 use cmh_audit::{AuditMemory, Report, Verdict, audit, check_set};
-use cmh_frames::Topology;
+use cmh_frames::{Edition, Topology};
 use cmh_journal::Journal;
 use cmh_site::run_audit;
 use std::alloc::Global;
@@ -15,6 +15,9 @@ pub fn audits(alloc: Global) -> Result<(), Failure> {
     for world in &RUNS {
         audit_world(alloc, world)?;
     }
+    for world in &STARTING {
+        audit_world(alloc, world)?;
+    }
     for world in &AUDITS {
         audit_world(alloc, world)?;
     }
@@ -22,10 +25,10 @@ pub fn audits(alloc: Global) -> Result<(), Failure> {
 }
 
 fn audit_world(alloc: Global, world: &World) -> Result<(), Failure> {
-    let topology = making::topology(alloc, world.sites)?;
+    let topology = making::topology(alloc, world)?;
     let journals = making::journals(alloc, world)?;
     let verdict = audit_again(alloc, &topology, &journals)?;
-    let text = text_of(alloc, &verdict)?;
+    let text = text_of(alloc, world.edition, &verdict)?;
     expect(text.as_str() == world.lines, world.name)
 }
 
@@ -47,11 +50,11 @@ fn audit_again(
     }
 }
 
-/// The lines of a verdict in edition 1.
-fn text_of(alloc: Global, verdict: &Verdict) -> Result<String, Failure> {
+/// The lines of a verdict.
+fn text_of(alloc: Global, edition: Edition, verdict: &Verdict) -> Result<String, Failure> {
     let mut text = String::new(alloc);
     match verdict {
-        Verdict::Accepted(report) => write_report(&mut text, report)?,
+        Verdict::Accepted(report) => write_report(&mut text, edition, report)?,
         Verdict::Refused(stops) => {
             writeln!(text, "refused")?;
             for (site, entry) in stops.rows() {
@@ -62,9 +65,12 @@ fn text_of(alloc: Global, verdict: &Verdict) -> Result<String, Failure> {
     Ok(text)
 }
 
-fn write_report(text: &mut String, report: &Report) -> Result<(), Failure> {
+fn write_report(text: &mut String, edition: Edition, report: &Report) -> Result<(), Failure> {
     writeln!(text, "accepted")?;
     writeln!(text, "events {}", report.events())?;
+    if edition == Edition::Two && report.in_transit() == 0 {
+        writeln!(text, "drained")?;
+    }
     for (asker, holder) in report.waits() {
         writeln!(text, "wait {asker} {holder}")?;
     }
@@ -81,6 +87,9 @@ fn write_report(text: &mut String, report: &Report) -> Result<(), Failure> {
 /// `run_audit` writes the verdict, or else nothing but the line that names want of memory.
 pub fn run_audits(alloc: Global) -> Result<(), Failure> {
     for world in &RUNS {
+        run_audit_of(alloc, world)?;
+    }
+    for world in &STARTING {
         run_audit_of(alloc, world)?;
     }
     for world in &AUDITS {
@@ -126,7 +135,7 @@ pub fn status_of(world: &World) -> u8 {
 pub fn files_of(alloc: Global, world: &World) -> Result<Vec<Vec<u8>>, Failure> {
     let mut files = Vec::with_capacity(alloc, world.files.len())?;
     for file in world.files {
-        files.push(making::file_bytes(alloc, file)?)?;
+        files.push(making::file_bytes(alloc, world.edition, file)?)?;
     }
     Ok(files)
 }

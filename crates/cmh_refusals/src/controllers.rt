@@ -2,16 +2,16 @@
 
 use crate::failure::{Failure, expect};
 use crate::making;
-use crate::worlds::{AUDITS, RUNS, World};
-use cmh_controller::{Controller, Entry, Outcome, Refusal, Replayed, Sendings, replay};
-use cmh_frames::{Frame, SiteId, Topology};
+use crate::worlds::{AUDITS, RUNS, STARTING, World};
+use cmh_controller::{Controller, Entry, Event, Outcome, Refusal, Replayed, Sendings, replay};
+use cmh_frames::{Frame, ProcId, Reply, Request, SiteId, Topology};
 use cmh_journal::Journal;
 use std::alloc::Global;
 
 /// `Controller::new` answers an empty controller or want of memory; of an unknown site `NotHere`, whatever memory does.
 pub fn controller(alloc: Global) -> Result<(), Failure> {
     for world in &RUNS {
-        let topology = making::topology(alloc, world.sites)?;
+        let topology = making::topology(alloc, world)?;
         for site in topology.sites() {
             is_empty(alloc, &new_controller(alloc, &topology, *site)?, *site)?;
         }
@@ -51,10 +51,18 @@ fn new_controller(alloc: Global, topology: &Topology, site: SiteId) -> Result<Co
 /// Each `step` of the worked worlds answers its outcome or want of memory, after which the controller is as it was.
 pub fn steps(alloc: Global) -> Result<(), Failure> {
     for world in &RUNS {
-        let topology = making::topology(alloc, world.sites)?;
-        for journal in &making::journals(alloc, world)? {
-            steps_of(alloc, &topology, journal)?;
-        }
+        steps_in(alloc, world)?;
+    }
+    for world in &STARTING {
+        steps_in(alloc, world)?;
+    }
+    Ok(())
+}
+
+fn steps_in(alloc: Global, world: &World) -> Result<(), Failure> {
+    let topology = making::topology(alloc, world)?;
+    for journal in &making::journals(alloc, world)? {
+        steps_of(alloc, &topology, journal)?;
     }
     Ok(())
 }
@@ -62,21 +70,16 @@ pub fn steps(alloc: Global) -> Result<(), Failure> {
 fn steps_of(alloc: Global, topology: &Topology, journal: &Journal) -> Result<(), Failure> {
     let mut controller = new_controller(alloc, topology, journal.site())?;
     for entry in journal.entries() {
-        step(alloc, &mut controller, entry, journal)?;
+        step(alloc, &mut controller, entry)?;
     }
     declared_all(alloc, &controller, journal)
 }
 
-fn step(
-    alloc: Global,
-    controller: &mut Controller,
-    entry: &Entry,
-    journal: &Journal,
-) -> Result<(), Failure> {
+fn step(alloc: Global, controller: &mut Controller, entry: &Entry) -> Result<(), Failure> {
     let before = controller.copy(alloc)?;
     let outcome = match controller.step(&entry.event) {
         Err(Refusal::Memory) => {
-            is_unchanged(alloc, controller, &before, journal)?;
+            is_unchanged(alloc, controller, &before)?;
             controller.step(&entry.event)
         }
         answer => answer,
@@ -89,19 +92,57 @@ fn is_unchanged(
     alloc: Global,
     controller: &Controller,
     before: &Controller,
-    journal: &Journal,
 ) -> Result<(), Failure> {
-    for entry in journal.entries() {
-        expect(
-            controller.check(&entry.event) == before.check(&entry.event),
-            "a refused step changed what is accepted",
-        )?;
+    for first in 1..4 {
+        for second in 1..4 {
+            let (first, second) = (making::process(first)?, making::process(second)?);
+            expect(
+                accepts_same(controller, before, first, second),
+                "a refused step changed what is accepted",
+            )?;
+        }
     }
     let declared = controller.declared(alloc)?;
     expect(
         declared.as_slice() == before.declared(alloc)?.as_slice(),
         "a refused step declared a process",
     )
+}
+
+/// Whether both check alike what tells of a wait or a request between two processes.
+fn accepts_same(left: &Controller, right: &Controller, first: ProcId, second: ProcId) -> bool {
+    let start = Event::Start { of: first };
+    let reply = Event::Reply {
+        holder: first,
+        asker: second,
+    };
+    left.check(&start) == right.check(&start)
+        && left.check(&reply) == right.check(&reply)
+        && gets_same(left, right, first, second)
+}
+
+/// Whether both check alike the frames of the two from either site.
+fn gets_same(left: &Controller, right: &Controller, first: ProcId, second: ProcId) -> bool {
+    if first == second {
+        return true;
+    }
+    let request = Frame::Request(Request {
+        asker: first,
+        holder: second,
+    });
+    let reply = Frame::Reply(Reply {
+        holder: first,
+        asker: second,
+    });
+    for site in [SiteId::new(1), SiteId::new(2)].into_iter().flatten() {
+        for frame in [request, reply] {
+            let got = Event::Got { from: site, frame };
+            if left.check(&got) != right.check(&got) {
+                return false;
+            }
+        }
+    }
+    true
 }
 
 /// The outcome is the one that the entry records.
@@ -142,6 +183,9 @@ pub fn replays(alloc: Global) -> Result<(), Failure> {
     for world in &RUNS {
         replay_world(alloc, world)?;
     }
+    for world in &STARTING {
+        replay_world(alloc, world)?;
+    }
     for world in &AUDITS {
         replay_world(alloc, world)?;
     }
@@ -149,12 +193,12 @@ pub fn replays(alloc: Global) -> Result<(), Failure> {
 }
 
 fn replay_world(alloc: Global, world: &World) -> Result<(), Failure> {
-    let topology = making::topology(alloc, world.sites)?;
+    let topology = making::topology(alloc, world)?;
     for file in world.files {
         replay_one(
             alloc,
             &topology,
-            &making::journal(alloc, file)?,
+            &making::journal(alloc, world.edition, file)?,
             file.lawful,
         )?;
     }

@@ -4,7 +4,7 @@ ghost use Rattle.cmh_journal.specs.Entries.{IsWhole};
 
 use crate::failure::{Failure, expect};
 use crate::making::{file_bytes, journal};
-use crate::worlds::{AUDITS, File, RUNS, World};
+use crate::worlds::{AUDITS, File, RUNS, STARTING, World};
 use cmh_controller::Entry;
 use cmh_frames::Edition;
 use cmh_journal::{Journal, JournalFault, Tail, encode_entry, read_journal};
@@ -15,12 +15,15 @@ pub fn encode(alloc: Global) -> Result<(), Failure> {
     for world in &RUNS {
         encode_world(alloc, world)?;
     }
+    for world in &STARTING {
+        encode_world(alloc, world)?;
+    }
     Ok(())
 }
 
 fn encode_world(alloc: Global, world: &World) -> Result<(), Failure> {
     for file in world.files {
-        spells_again(alloc, &journal(alloc, file)?, file)?;
+        spells_again(alloc, &journal(alloc, world.edition, file)?, file)?;
     }
     Ok(())
 }
@@ -80,7 +83,7 @@ const BEHIND: [Behind; 4] = [
     },
 ];
 
-/// `read_journal` answers the journal with its tail, or the fault of the file, or want of memory.
+/// `read_journal` of edition 1 answers the journal with its tail, or the fault of the file, or want of memory.
 pub fn read(alloc: Global) -> Result<(), Failure> {
     for world in &RUNS {
         read_world(alloc, world)?;
@@ -101,7 +104,7 @@ fn read_world(alloc: Global, world: &World) -> Result<(), Failure> {
 }
 
 fn read_file(alloc: Global, file: &File, behind: &Behind) -> Result<(), Failure> {
-    let mut bytes = file_bytes(alloc, file)?;
+    let mut bytes = file_bytes(alloc, Edition::One, file)?;
     let whole = bytes.len();
     bytes.extend_from_slice(behind.bytes)?;
     let read = match read_journal(alloc, &bytes) {

@@ -25,23 +25,22 @@ pub fn site_rows(alloc: Global, sites: &[(u16, &[u16])]) -> Result<Vec<SiteRow>,
     Ok(rows)
 }
 
-/// A topology of edition 1.
-pub fn topology(alloc: Global, sites: &[(u16, &[u16])]) -> Result<Topology, Failure> {
-    let rows = site_rows(alloc, sites)?;
-    Ok(Topology::new(alloc, Edition::One, &rows)?)
+pub fn topology(alloc: Global, world: &World) -> Result<Topology, Failure> {
+    let rows = site_rows(alloc, world.sites)?;
+    Ok(Topology::new(alloc, world.edition, &rows)?)
 }
 
-/// The bytes of a journal's file, of edition 1.
-pub fn file_bytes(alloc: Global, file: &File) -> Result<Vec<u8>, Failure> {
-    let mut bytes = Vec::from_slice(alloc, &encode_header(Edition::One, site(file.site)?))?;
+/// The bytes of a journal's file.
+pub fn file_bytes(alloc: Global, edition: Edition, file: &File) -> Result<Vec<u8>, Failure> {
+    let mut bytes = Vec::from_slice(alloc, &encode_header(edition, site(file.site)?))?;
     for entry in file.entries {
         bytes.extend_from_slice(*entry)?;
     }
     Ok(bytes)
 }
 
-pub fn journal(alloc: Global, file: &File) -> Result<Journal, Failure> {
-    let bytes = file_bytes(alloc, file)?;
+pub fn journal(alloc: Global, edition: Edition, file: &File) -> Result<Journal, Failure> {
+    let bytes = file_bytes(alloc, edition, file)?;
     let (journal, _) = read_journal(alloc, &bytes)?;
     Ok(journal)
 }
@@ -49,7 +48,7 @@ pub fn journal(alloc: Global, file: &File) -> Result<Journal, Failure> {
 pub fn journals(alloc: Global, world: &World) -> Result<Vec<Journal>, Failure> {
     let mut journals = Vec::with_capacity(alloc, world.files.len())?;
     for file in world.files {
-        journals.push(journal(alloc, file)?)?;
+        journals.push(journal(alloc, world.edition, file)?)?;
     }
     Ok(journals)
 }

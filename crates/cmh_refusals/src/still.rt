@@ -2,7 +2,7 @@
 
 use crate::failure::{Failure, expect};
 use crate::making;
-use crate::worlds::{RUNS, World};
+use crate::worlds::{RUNS, STARTING, World};
 use cmh_audit::{Report, Verdict, audit, check_set};
 use cmh_controller::{Controller, Event};
 use cmh_dependents::DependentSets;
@@ -17,7 +17,7 @@ use std::alloc::Global;
 
 /// A topology is asked.
 pub fn topology(alloc: Global, rounds: u32) -> Result<(), Failure> {
-    let topology = making::topology(alloc, &[(1, &[1, 3]), (2, &[2])])?;
+    let topology = making::topology(alloc, &RUNS[1])?;
     let (process, site) = (making::process(3)?, making::site(1)?);
     let mut holds = true;
     for _ in 0..rounds {
@@ -93,7 +93,7 @@ pub fn waits(alloc: Global, rounds: u32) -> Result<(), Failure> {
 
 /// Process 1 of a site waits for 2 there and for 3 elsewhere.
 fn waiting(alloc: Global, one: ProcId, two: ProcId, three: ProcId) -> Result<LocalWaits, Failure> {
-    let topology = making::topology(alloc, &[(1, &[1, 2])])?;
+    let topology = making::topology(alloc, &STARTING[1])?;
     let mut waits = LocalWaits::new(alloc, topology.members(making::site(1)?))?;
     if two < three && one < two && waits.is_member(one) && !waits.is_blocked(one) {
         waits.ask(one, &[two, three])?;
@@ -130,7 +130,7 @@ pub fn dependents(alloc: Global, rounds: u32) -> Result<(), Failure> {
 /// Each event of the worked worlds is checked where its step is taken.
 pub fn checks(alloc: Global, rounds: u32) -> Result<(), Failure> {
     for world in &RUNS {
-        let topology = making::topology(alloc, world.sites)?;
+        let topology = making::topology(alloc, world)?;
         for journal in &making::journals(alloc, world)? {
             check_each(alloc, &topology, journal, rounds)?;
         }
@@ -191,7 +191,7 @@ pub fn audits(alloc: Global, rounds: u32) -> Result<(), Failure> {
 }
 
 fn audit_one(alloc: Global, world: &World, rounds: u32) -> Result<(), Failure> {
-    let topology = making::topology(alloc, world.sites)?;
+    let topology = making::topology(alloc, world)?;
     let journals = making::journals(alloc, world)?;
     expect(is_set(&topology, &journals, rounds), "journals are missing")?;
     if check_set(&topology, &journals).is_err() {
