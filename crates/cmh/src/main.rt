@@ -2,9 +2,9 @@
 #![tactic(auto)]
 
 use clap::{Arg, ArgAction, ArgMatches, Command, Error, error};
-use cmh_site::{Fault, run_audit, run_play};
+use cmh_site::{Device, Fault, run_audit, run_play};
 use std::alloc::Global;
-use std::io::{ErrorKind, Read, Write};
+use std::io::{BufReader, BufWriter, ErrorKind, Read, Write};
 use std::process::ExitCode;
 use std::rt::{Env, Files};
 use std::{env, fs, io};
@@ -62,20 +62,20 @@ fn words<R: Env + AllocGlobal>(rt: &R) -> io::Result<Vec<String>> {
 /// Reads the command line and runs the command; answers the status.
 fn run<R: AllocGlobal + Env + Files + Print + Eprint, I: Read, W: Write, E: Write>(
     rt: &R,
-    input: &mut I,
-    out: &mut W,
-    err: &mut E,
+    input: &mut Device<I>,
+    out: &mut Device<W>,
+    err: &mut Device<E>,
 ) -> u8 {
     let alloc = rt.alloc();
     let Ok(words) = words(rt) else {
-        return out_of_memory(err);
+        return Fault::Memory.name_on(err);
     };
     let Ok(command) = command(alloc) else {
-        return out_of_memory(err);
+        return Fault::Memory.name_on(err);
     };
     match command.try_get_matches_from(words.as_slice()) {
         Ok(matches) => carry_out(rt, &matches, input, out, err),
-        Err(error) if error.kind() == error::ErrorKind::OutOfMemory => out_of_memory(err),
+        Err(error) if error.kind() == error::ErrorKind::OutOfMemory => Fault::Memory.name_on(err),
         Err(error) => {
             let _ = error.print(rt);
             u8::try_from(error.exit_code()).unwrap_or(2)
@@ -87,19 +87,16 @@ fn run<R: AllocGlobal + Env + Files + Print + Eprint, I: Read, W: Write, E: Writ
 fn carry_out<R: AllocGlobal + Files, I: Read, W: Write, E: Write>(
     rt: &R,
     matches: &ArgMatches<'_>,
-    input: &mut I,
-    out: &mut W,
-    err: &mut E,
+    input: &mut Device<I>,
+    out: &mut Device<W>,
+    err: &mut Device<E>,
 ) -> u8 {
     let Some(audit) = matches.subcommand_matches(AUDIT) else {
         return run_play(rt.alloc(), input, out, err);
     };
     match files_of(rt, audit) {
         Ok(files) => run_audit(rt.alloc(), &files.topology, &files.journals, out, err),
-        Err(fault) => {
-            let _ = writeln!(err, "{fault}");
-            fault.status()
-        }
+        Err(fault) => fault.name_on(err),
     }
 }
 
@@ -132,14 +129,15 @@ fn read_file<R: AllocGlobal + Files>(rt: &R, path: &str, fault: Fault) -> Result
     }
 }
 
-fn out_of_memory<E: Write>(err: &mut E) -> u8 {
-    let _ = writeln!(err, "fault memory");
-    1
-}
-
 fn main(rt: HostRuntime) -> ExitCode {
-    let mut input = rt.stdin();
-    let mut out = rt.stdout();
-    let mut err = rt.stderr();
+    let mut err = Device::new(rt.stderr());
+    let Ok(input) = BufReader::new(rt.alloc(), rt.stdin()) else {
+        return ExitCode::from(Fault::Memory.name_on(&mut err));
+    };
+    let Ok(out) = BufWriter::new(rt.alloc(), rt.stdout()) else {
+        return ExitCode::from(Fault::Memory.name_on(&mut err));
+    };
+    let mut input = Device::new(input);
+    let mut out = Device::new(out);
     ExitCode::from(run(&rt, &mut input, &mut out, &mut err))
 }

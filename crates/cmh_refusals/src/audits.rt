@@ -7,7 +7,7 @@ use crate::worlds::{AUDITS, RUNS, STARTING, World};
 use cmh_audit::{AuditMemory, Report, Verdict, audit, check_set};
 use cmh_frames::{Edition, Topology};
 use cmh_journal::Journal;
-use cmh_site::run_audit;
+use cmh_site::{Device, run_audit};
 use std::alloc::Global;
 
 /// `audit` answers the verdict or want of memory.
@@ -117,8 +117,8 @@ fn write_audit(alloc: Global, world: &World, files: &[Vec<u8>], sheet: &mut Shee
         alloc,
         world.topology.as_bytes(),
         files,
-        &mut sheet.out,
-        &mut sheet.err,
+        &mut Device::new(&mut sheet.out),
+        &mut Device::new(&mut sheet.err),
     )
 }
 

@@ -2,7 +2,7 @@
 
 use crate::carriers::Sheet;
 use crate::failure::{Failure, expect};
-use cmh_site::run_play;
+use cmh_site::{Device, run_play};
 use std::alloc::Global;
 
 /// A script and its answers.
@@ -50,8 +50,12 @@ fn play_again(alloc: Global, row: &Row) -> Result<(), Failure> {
 }
 
 fn play_row(alloc: Global, row: &Row, sheet: &mut Sheet) -> u8 {
-    let mut input = row.script.as_bytes();
-    run_play(alloc, &mut input, &mut sheet.out, &mut sheet.err)
+    run_play(
+        alloc,
+        &mut Device::new(row.script.as_bytes()),
+        &mut Device::new(&mut sheet.out),
+        &mut Device::new(&mut sheet.err),
+    )
 }
 
 /// Whether the first line that differs says that memory was refused, or the answers end early and the fault says so.

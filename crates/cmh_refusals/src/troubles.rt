@@ -5,7 +5,7 @@ use crate::carriers::{Reader, Sheet, Trouble, Writer};
 use crate::failure::{Failure, expect};
 use crate::plays::{ROWS, Row};
 use crate::worlds::{AUDITS, RUNS, World};
-use cmh_site::{run_audit, run_play};
+use cmh_site::{Device, run_audit, run_play};
 use std::alloc::Global;
 
 /// How a command ended.
@@ -22,7 +22,12 @@ fn play(alloc: Global, row: &Row, reads: Trouble, writes: Trouble) -> Result<End
     let mut sheet = Sheet::new(alloc)?;
     let mut input = Reader::new(row.script.as_bytes(), reads);
     let mut out = Writer::new(&mut sheet.out, writes);
-    let status = run_play(alloc, &mut input, &mut out, &mut sheet.err);
+    let status = run_play(
+        alloc,
+        &mut Device::new(&mut input),
+        &mut Device::new(&mut out),
+        &mut Device::new(&mut sheet.err),
+    );
     let met = input.met() || out.met();
     Ok(Ended { status, sheet, met })
 }
@@ -37,7 +42,13 @@ fn audit(
     let mut sheet = Sheet::new(alloc)?;
     let mut out = Writer::new(&mut sheet.out, writes);
     let topology = world.topology.as_bytes();
-    let status = run_audit(alloc, topology, files, &mut out, &mut sheet.err);
+    let status = run_audit(
+        alloc,
+        topology,
+        files,
+        &mut Device::new(&mut out),
+        &mut Device::new(&mut sheet.err),
+    );
     let met = out.met();
     Ok(Ended { status, sheet, met })
 }
@@ -127,15 +138,26 @@ fn audit_fails(
 /// A fault line that can't be written changes no status.
 pub fn failing_fault_lines(alloc: Global) -> Result<(), Failure> {
     let mut sheet = Sheet::new(alloc)?;
-    let mut input = Reader::new(b"site 1 1\n", Trouble::Fails(0));
-    let mut err = Writer::new(&mut sheet.err, Trouble::Fails(0));
-    let played = run_play(alloc, &mut input, &mut sheet.out, &mut err);
+    let input = Reader::new(b"site 1 1\n", Trouble::Fails(0));
+    let err = Writer::new(&mut sheet.err, Trouble::Fails(0));
+    let played = run_play(
+        alloc,
+        &mut Device::new(input),
+        &mut Device::new(&mut sheet.out),
+        &mut Device::new(err),
+    );
     expect(
         played == 3,
         "a play without its fault line has another status",
     )?;
-    let mut err = Writer::new(&mut sheet.err, Trouble::Fails(0));
-    let audited = run_audit(alloc, b"{", &[], &mut sheet.out, &mut err);
+    let err = Writer::new(&mut sheet.err, Trouble::Fails(0));
+    let audited = run_audit(
+        alloc,
+        b"{",
+        &[],
+        &mut Device::new(&mut sheet.out),
+        &mut Device::new(err),
+    );
     expect(
         audited == 3,
         "an audit without its fault line has another status",

@@ -1,5 +1,5 @@
 -- What was read of a line so far.
-use Rattle.std.proofs.Common.{◌≡◌, ℕ, suc, zero, ◌+◌, ◌-◌, ◌<◌, ◌≤◌, Bool, true, false, ◌&&◌, List, [], ◌∷◌, ◌++◌, Option, None, Some, ◌==◌, length, get_or, take, refl, sym, ap, subst, ◌∙◌, arith, inl, inr, nat_lt, length-append, length-take, append_assoc, true≢false}
+use Rattle.std.proofs.Common.{◌≡◌, ℕ, suc, zero, ◌+◌, ◌-◌, ◌^◌, ◌<◌, ◌≤◌, Bool, true, false, ◌&&◌, List, [], ◌∷◌, ◌++◌, Option, None, Some, ◌==◌, length, get_or, take, refl, sym, ap, subst, ◌∙◌, arith, inl, inr, nat_lt, length-append, length-take, append_assoc, true≢false}
 use Rattle.std.proofs.lemmas.List.{take_all, take-append-le}
 use Rattle.std.proofs.lemmas.Bool.{lt-ltb}
 use Rattle.std.specs.Prelude.{if◌then◌else◌, IfSome, ◌⊎◌}
@@ -7,7 +7,7 @@ use Rattle.std.specs.Io.BufRead.{take_through, drop_through, ends_with_byte, str
 use Rattle.std.proofs.lemmas.List.{append-nil}
 use Rattle.cmh_site.specs.declared.lines.NextLine.{NextLine}
 use Rattle.cmh_site.specs.declared.lines.NextLine.TheVariants.{Line, TooLong, End}
-use Rattle.cmh_site.specs.Lines.{IsNextByte, Judges, JudgesAtEnd, IsNextLine}
+use Rattle.cmh_site.specs.Lines.{IsEndless, IsNextByte, Judges, JudgesAtEnd, IsNextLine}
 
 -- no byte is a line feed
 abbrev pub NoFeed : List ℕ → Type 0
@@ -94,8 +94,8 @@ length-strip_last b xs = go (ends_with_byte b xs)
     go true = let taken = length-take (length xs - 1) xs in omega arith
     go false = omega arith
 
--- of the bytes, these were seen and those are left; the line keeps the first 1,025 of them
-pub record SeenOf (bytes : List ℕ) (now : Option (List ℕ)) (line : List ℕ) (is_cut : Bool) : Type 0 where
+-- of the bytes, these n were seen and those are left; the line keeps the first 1,025 of them
+pub record SeenOf (bytes : List ℕ) (now : Option (List ℕ)) (line : List ℕ) (is_cut : Bool) (n : ℕ) : Type 0 where
   pub seen : List ℕ
   pub left : List ℕ
   pub split : bytes ≡ seen ++ left
@@ -104,16 +104,26 @@ pub record SeenOf (bytes : List ℕ) (now : Option (List ℕ)) (line : List ℕ)
   pub kept : line ≡ take 1025 seen
   pub cut : is_cut ≡ true → 1025 < length seen
   pub uncut : is_cut ≡ false → length seen ≤ 1025
+  pub counted : length seen ≡ n
 
 -- the same, where the reader tells its bytes
-abbrev pub HasSeen : Option (List ℕ) → Option (List ℕ) → List ℕ → Bool → Type 0
-HasSeen start now line is_cut = (bytes : List ℕ) → start ≡ Some bytes → SeenOf bytes now line is_cut
+abbrev pub HasSeen : Option (List ℕ) → Option (List ℕ) → List ℕ → Bool → ℕ → Type 0
+HasSeen start now line is_cut n = (bytes : List ℕ) → start ≡ Some bytes → SeenOf bytes now line is_cut n
+
+-- who sees so many bytes has no end of them
+pub endless : (start now : Option (List ℕ)) (line : List ℕ) (is_cut : Bool) (n : ℕ) → HasSeen start now line is_cut n → 2 ^ 64 - 1 ≤ n → IsEndless start
+endless None now line is_cut n seen many = tt
+endless (Some bytes) now line is_cut n seen many =
+    let s = seen bytes refl in
+    let whole = ap length s.split ∙ length-append s.seen s.left in
+    let counted = s.counted in
+    omega (arith, whole, counted, many)
 
 pub if_some : (o : Option (List ℕ)) (P : List ℕ → Type 0) → ((bytes : List ℕ) → o ≡ Some bytes → P bytes) → IfSome o P
 if_some None P f = tt
 if_some (Some bytes) P f = f bytes refl
 
-module _ (bytes : List ℕ) (now after : Option (List ℕ)) (line : List ℕ) (is_cut : Bool) (s : SeenOf bytes now line is_cut) where
+module _ (bytes : List ℕ) (now after : Option (List ℕ)) (line : List ℕ) (is_cut : Bool) (n : ℕ) (s : SeenOf bytes now line is_cut n) where
   length-kept : length line ≡ length (take 1025 s.seen)
   length-kept = ap length s.kept
 
@@ -124,7 +134,7 @@ module _ (bytes : List ℕ) (now after : Option (List ℕ)) (line : List ℕ) (i
   short few = s.kept ∙ take_all 1025 s.seen few
 
   -- one byte more is kept, or left out
-  pub seen_kept : (byte : ℕ) → IfSome now (λ left. IsNextByte left (Some byte) after) → (byte == 10) ≡ false → length line ≤ 1024 → SeenOf bytes after (line ++ byte ∷ []) is_cut
+  pub seen_kept : (byte : ℕ) → IfSome now (λ left. IsNextByte left (Some byte) after) → (byte == 10) ≡ false → length line ≤ 1024 → SeenOf bytes after (line ++ byte ∷ []) is_cut (n + 1)
   seen_kept byte h feed room =
       let r = read (Some byte) h in
       let lengths = length-kept in
@@ -141,9 +151,10 @@ module _ (bytes : List ℕ) (now after : Option (List ℕ)) (line : List ℕ) (i
         kept = ap (λ xs. xs ++ byte ∷ []) (short (omega arith)) ∙ sym (take_all 1025 (s.seen ++ byte ∷ []) within);
         cut = λ c. let many = s.cut c in absurd (omega arith);
         uncut = λ _. within;
+        counted = let counted = s.counted in omega (arith, grown, counted);
       }
 
-  pub seen_left : (byte : ℕ) → IfSome now (λ left. IsNextByte left (Some byte) after) → (byte == 10) ≡ false → 1024 < length line → SeenOf bytes after line true
+  pub seen_left : (byte : ℕ) → IfSome now (λ left. IsNextByte left (Some byte) after) → (byte == 10) ≡ false → 1024 < length line → SeenOf bytes after line true (n + 1)
   seen_left byte h feed full =
       let r = read (Some byte) h in
       let lengths = length-kept in
@@ -159,6 +170,7 @@ module _ (bytes : List ℕ) (now after : Option (List ℕ)) (line : List ℕ) (i
         kept = s.kept ∙ sym (take-append-le 1025 s.seen (byte ∷ []) many);
         cut = λ c. omega arith;
         uncut = λ e. absurd (true≢false e);
+        counted = let counted = s.counted in omega (arith, grown, counted);
       }
 
   -- the script ends
@@ -170,7 +182,12 @@ module _ (bytes : List ℕ) (now after : Option (List ℕ)) (line : List ℕ) (i
       (go next judges all whole, r.1 ∙ ap Some (sym (ap (drop_through 10) all ∙ drop_through-end s.seen s.no_feed)))
     where
       go : (next : NextLine) → JudgesAtEnd line is_cut next → bytes ≡ s.seen → first_line bytes ≡ s.seen → IsNextLine bytes line next
-      go Line j all whole = (short (s.uncut j.0) ∙ sym whole, j.1)
+      go Line j all whole =
+          let lengths = length-kept in
+          let taken = length-take 1025 s.seen in
+          let some = j.0 in
+          let same = ap length all in
+          (omega (arith, lengths, taken, some, same), short (s.uncut j.1) ∙ sym whole, j.2)
       go TooLong j all whole =
           let lengths = length-kept in
           let taken = length-take 1025 s.seen in
@@ -202,6 +219,10 @@ module _ (bytes : List ℕ) (now after : Option (List ℕ)) (line : List ℕ) (i
       over false many few (inr l) = subst (λ (xs : List ℕ). 1024 < length xs) (same (few refl)) l
 
       go : (next : NextLine) → Judges stripped is_cut next → first_line bytes ≡ strip_last 13 s.seen → IsNextLine bytes stripped next
-      go Line j whole = (same (s.uncut j.0) ∙ sym whole, j.1)
+      go Line j whole =
+          let r = read (Some byte) h in
+          let lengths = ap length (s.split ∙ ap (λ xs. s.seen ++ xs) r.1) in
+          let grown = length-append s.seen (byte ∷ r.0) in
+          (omega (arith, lengths, grown), same (s.uncut j.0) ∙ sym whole, j.1)
       go TooLong j whole = subst (λ (xs : List ℕ). 1024 < length xs) (sym whole) (over is_cut s.cut s.uncut j)
       go End j whole = absurd j

@@ -13,7 +13,7 @@ use Rattle.cmh_controller.specs.Controller.{Controller}
 use Rattle.cmh_journal.specs.Journal.{Journal}
 use Rattle.cmh_audit.specs.Journals.{journal_of, NoneAt, OneEach}
 use Rattle.cmh_audit.specs.Set.{IsSet}
-use Rattle.cmh_audit.proofs.CountLemmas.{journal_here}
+use Rattle.cmh_site.proofs.JournalLists.{journal_here}
 use Rattle.cmh_site.specs.Sites.{controller_of, IsStanding, ArePlaced, AreOfEdition, AreLawful, ArePlayed}
 
 abbrev site_in : Journal → ℕ

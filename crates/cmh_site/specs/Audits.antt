@@ -1,5 +1,5 @@
 -- An audit: from the bytes of its files to the auditor's verdict.
-use Rattle.std.specs.Prelude.{◌≡◌, ℕ, ◌+◌, ◌↔◌, List, [], ◌∷◌, ◌++◌, length, ⊤, Option, Some}
+use Rattle.std.specs.Prelude.{◌≡◌, ℕ, ◌+◌, ◌*◌, ◌≤◌, ◌↔◌, Bool, true, ◌⊎◌, List, [], ◌∷◌, ◌++◌, length, ⊤, Option, Some}
 use Rattle.std.specs.List.Sorted.{IsPermutation}
 use Rattle.std.specs.Io.KnownBytes.{Appends}
 use Rattle.cmh_frames.specs.declared.edition.Edition.{Edition}
@@ -19,13 +19,14 @@ use Rattle.cmh_audit.specs.Set as set
 use Rattle.cmh_audit.specs.Set.{IsSet}
 use Rattle.cmh_audit.specs.declared.set.SetFault.{SetFault}
 use Rattle.cmh_audit.specs.Stops.{AreStops}
-use Rattle.cmh_audit.specs.Verdicts.{IsAccepted, IfAccepted, IfRefused}
+use Rattle.cmh_audit.specs.Verdicts.{IsAccepted, IfAccepted, IfRefused, tries_of}
 use Rattle.cmh_audit.specs.declared.verdict.Verdict.{Verdict}
 use Rattle.cmh_audit.specs.declared.verdict.Verdict.TheVariants.{Accepted, Refused}
 use Rattle.cmh_site.specs.AuditTexts.{cuts_text, verdict_text}
+use Rattle.cmh_site.specs.Faults.{NamesFault}
 use Rattle.cmh_site.specs.TopologyFile.{Says, IsFaultOfFile}
 use Rattle.cmh_site.specs.declared.faults.Fault as faults
-use Rattle.cmh_site.specs.declared.faults.Fault.TheVariants.{Json, Topology as NoTopology, Journal as NoJournal, Set as NoSet, Memory}
+use Rattle.cmh_site.specs.declared.faults.Fault.TheVariants.{Json, Topology as NoTopology, Journal as NoJournal, Set as NoSet, Output, Memory}
 use Rattle.cmh_site.specs.declared.topology_file.TopologyFileFault.TheVariants.{Json as NoJson}
 
 -- ---- the files
@@ -65,6 +66,7 @@ pub record IsVerdictOn (t : Topology) (journals : List Journal) (verdict : Verdi
   pub order : IfAccepted verdict IsInOrder
   pub counted : IfAccepted verdict (λ report. report.events ≡ entry_count journals)
   pub stops : IfRefused verdict (λ stops. AreStops t journals stops.rows)
+  pub tries : tries_of verdict ≤ (entry_count journals + 1) * length journals
 
 -- the audit of a topology file and of the journals' files
 pub record Audits (topology : List ℕ) (files : List (List ℕ)) (edition : Edition) (cuts : List (ℕ × ℕ)) (verdict : Verdict) : Type 0 where
@@ -111,6 +113,15 @@ IsFaultOfFiles files (NoJournal place fault) = IsFirstFaulty files place fault
 IsFaultOfFiles files Memory = ⊤
 IsFaultOfFiles files fault = ⊥
 
+-- the topology file is that of a topology, and of the files the one at this place is the first at fault
+pub record IsOfNoJournal (topology : List ℕ) (files : List (List ℕ)) (place : ℕ) (fault : JournalFault) : Type 0 where
+  pub edition : Edition
+  pub rows : List Row
+  pub world : Topology
+  pub says : Says topology edition rows
+  pub world_is : IsTopologyOf edition rows world
+  pub first : IsFirstFaulty files place fault
+
 -- the files are those of journals that are not of one world
 pub record IsOfNoWorld (topology : List ℕ) (files : List (List ℕ)) (fault : SetFault) : Type 0 where
   pub edition : Edition
@@ -134,7 +145,18 @@ pub record IsOfNoTopology (topology : List ℕ) (fault : TopologyFault) : Type 0
 abbrev pub IsAuditFault : List ℕ → List (List ℕ) → faults.Fault → Type 0
 IsAuditFault topology files Json = IsFaultOfFile topology NoJson
 IsAuditFault topology files (NoTopology fault) = IsOfNoTopology topology fault
-IsAuditFault topology files (NoJournal place fault) = IsFirstFaulty files place fault
+IsAuditFault topology files (NoJournal place fault) = IsOfNoJournal topology files place fault
 IsAuditFault topology files (NoSet fault) = IsOfNoWorld topology files fault
 IsAuditFault topology files Memory = ⊤
 IsAuditFault topology files fault = ⊥
+
+-- Why an audit ends without a verdict. Nothing was written then, but where the writer failed.
+abbrev pub IsCause : List ℕ → List (List ℕ) → Option (List ℕ) → Option (List ℕ) → Bool → faults.Fault → Type 0
+IsCause topology files old new has_failed Output = has_failed ≡ true
+IsCause topology files old new has_failed fault = IsAuditFault topology files fault × (new ≡ old)
+
+-- an audit wrote its lines and nothing else, or named why it couldn't
+abbrev pub AuditEnds : List ℕ → List (List ℕ) → Option (List ℕ) → Option (List ℕ) → Bool → Option (List ℕ) → Option (List ℕ) → Bool → ℕ → Type 0
+AuditEnds topology files old new has_failed err_old err_new err_failed status =
+    (WroteAudit topology files old new status × (err_new ≡ err_old))
+    ⊎ NamesFault (IsCause topology files old new has_failed) status err_old err_new err_failed

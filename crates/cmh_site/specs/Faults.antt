@@ -1,5 +1,5 @@
 -- The faults of a command, by their statuses and their lines.
-use Rattle.std.specs.Prelude.{ℕ, List, [], ◌++◌, codes}
+use Rattle.std.specs.Prelude.{◌≡◌, ℕ, Bool, List, [], ◌∷◌, ◌++◌, codes, Option}
 use Rattle.std.specs.Fmt.{decimal}
 use Rattle.cmh_frames.specs.Rows.{fault_number}
 use Rattle.cmh_frames.specs.declared.rows.TopologyFault.{TopologyFault}
@@ -8,6 +8,7 @@ use Rattle.cmh_journal.specs.Journal as journal
 use Rattle.cmh_journal.specs.declared.journal.JournalFault.{JournalFault}
 use Rattle.cmh_journal.specs.declared.journal.JournalFault.TheVariants.{BadEntry, Memory as NoMemory}
 use Rattle.cmh_audit.specs.Set as set
+use Rattle.cmh_site.specs.Device.{Tells}
 use Rattle.cmh_site.specs.declared.faults.Fault.{Fault}
 use Rattle.cmh_site.specs.declared.lines.LineFault.{LineFault}
 use Rattle.cmh_site.specs.declared.lines.LineFault.TheVariants.{Input as NoInput, Memory as NoSpace}
@@ -54,3 +55,12 @@ of_topology fault = Topology fault
 abbrev pub of_journal : ℕ → JournalFault → Fault
 of_journal place NoMemory = Memory
 of_journal place fault = Journal place fault
+
+-- ---- the end of a command
+
+-- a command ended with the status of a fault that has a cause, and named it, unless that writer failed
+pub record NamesFault (is_cause : Fault → Type 0) (status : ℕ) (old new : Option (List ℕ)) (has_failed : Bool) : Type 0 where
+  pub fault : Fault
+  pub cause : is_cause fault
+  pub status_is : status ≡ status_of fault
+  pub named : Tells old new has_failed (fault_text fault ++ 10 ∷ [])

@@ -1,10 +1,14 @@
+pub mod Answers
 pub mod AuditTexts
 pub mod Audits
+pub mod Device
 pub mod Draft
 pub mod Faults
 pub mod Lines
 pub mod Links
+pub mod Play
 pub mod Playground
+pub mod Script
 pub mod Sites
 pub mod Status
 pub mod TopologyFile

@@ -1,7 +1,7 @@
 //! The sites of a world as a script names them, before its first command.
 
-ghost use Rattle.std.specs.Prelude.{◌≡◌, ◌==◌, [], ◌∷◌, ◌++◌, length, IfOk, OnOk, OnErr, MatchOption};
-ghost use Rattle.cmh_frames.specs.Rows.{IsFaultOf};
+ghost use Rattle.std.specs.Prelude.{◌≡◌, ◌==◌, [], ◌∷◌, ◌++◌, length, IfOk, OnOk, OnErr, MatchOption, None};
+ghost use Rattle.cmh_frames.specs.Rows.{IsFaultOf, fault_of};
 ghost use Rattle.cmh_frames.specs.Topology.{IsTopologyOf};
 
 use cmh_frames::{Edition, SiteRow, Topology, TopologyFault};
@@ -64,7 +64,7 @@ impl Draft {
     /// Adds a site. A row with which the rows are no topology is left out, and its fault answered.
     pub fn add(&mut self, row: SiteRow) -> Result<Option<TopologyFault>, AllocError>
         ensures added { IfOk result (λ fault. MatchOption fault
-            (self.new ≡ record { edition = self.old.edition; rows = self.old.rows ++ row ∷ [] })
+            ((self.new ≡ record { edition = self.old.edition; rows = self.old.rows ++ row ∷ [] }) × (fault_of self.old.edition (self.old.rows ++ row ∷ []) ≡ None))
             (λ fault. (self.new ≡ self.old) × IsFaultOf self.old.edition (self.old.rows ++ row ∷ []) fault)) }
         ensures err { OnErr result (self.new ≡ self.old) }
     {

@@ -1,8 +1,10 @@
 //! Why a command ends before its work is done.
 
-ghost use Rattle.std.specs.Prelude.{◌≡◌, Some};
+ghost use Rattle.std.specs.Prelude.{◌≡◌, [], ◌∷◌, ◌++◌, Some};
+ghost use Rattle.cmh_site.specs.Device.{Tells};
 ghost use Rattle.cmh_site.specs.Faults as spec;
 
+use crate::device::{Device, WriteFault};
 use crate::lines::LineFault;
 use crate::topology_file::TopologyFileFault;
 use cmh_audit::{AuditMemory, SetFault};
@@ -10,6 +12,7 @@ use cmh_frames::TopologyFault;
 use cmh_journal::JournalFault;
 use std::alloc::{AllocError, AllocFailed};
 use std::fmt;
+use std::io::Write;
 
 /// Why a command ends before its work is done. Printed, it is the fault's line.
 #[derive(Clone, Copy, Debug, PartialEq, Eq)]
@@ -43,6 +46,15 @@ impl Fault {
             Fault::Memory => 1,
             _ => 3,
         }
+    }
+
+    /// Names the fault on `err`, a write to which may fail, and answers the status with which the program ends.
+    pub fn name_on<E: Write>(self, err: &mut Device<E>) -> u8
+        ensures status { result ≡ spec.status_of self }
+        ensures named { Tells (E.contents err.old.inner) (E.contents err.new.inner) err.new.has_failed (spec.fault_text self ++ 10 ∷ []) }
+    {
+        let _ = err.write_line(self);
+        self.status()
     }
 }
 
@@ -137,6 +149,16 @@ impl From<LineFault> for Fault {
             LineFault::Input => Fault::Input,
             LineFault::Memory => Fault::Memory,
         }
+    }
+}
+
+impl From<WriteFault> for Fault {
+    ghost use Rattle.cmh_site.specs.declared.faults.Fault.TheVariants.{Output};
+
+    ghost from_gives = { λ _ fault. fault ≡ Output };
+
+    fn from(_: WriteFault) -> Fault {
+        Fault::Output
     }
 }
 

@@ -3,6 +3,7 @@
 
 mod audit_texts;
 mod auditing;
+mod device;
 mod draft;
 mod faults;
 mod lines;
@@ -16,5 +17,6 @@ mod topology_file;
 mod words;
 
 pub use crate::auditing::run_audit;
+pub use crate::device::Device;
 pub use crate::faults::Fault;
 pub use crate::play::run_play;

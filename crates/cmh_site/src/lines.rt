@@ -1,12 +1,12 @@
 //! Lines of a script, from a reader.
 
-ghost use Rattle.std.specs.Prelude.{◌≡◌, IfOk, IfSome, Some};
+ghost use Rattle.std.specs.Prelude.{◌≡◌, ◌≢◌, true, false, IfOk, IfErr, IfSome, OnOk, Some};
 ghost use Rattle.std.specs.Io.BufRead.{drop_through, strip_last};
 ghost use Rattle.cmh_site.specs.declared.lines.LineFault.TheVariants.{Memory};
-ghost use Rattle.cmh_site.specs.Lines.{IsNextByte, IsNextLine, Judges, JudgesAtEnd};
+ghost use Rattle.cmh_site.specs.Lines.{IsLineFault, IsNextLine, Judges, JudgesAtEnd};
 
+use crate::device::{Device, ReadFault};
 use std::alloc::AllocFailed;
-use std::io;
 use std::io::Read;
 
 /// How many bytes a line of a script may have, its end left out.
@@ -23,10 +23,22 @@ pub enum NextLine {
     End,
 }
 
+impl NextLine {
+    pub fn is_end(self) -> bool
+        ensures yes { result ≡ true → self ≡ NextLine.End }
+        ensures no { result ≡ false → self ≢ NextLine.End }
+    {
+        match self {
+            NextLine::End => true,
+            NextLine::Line | NextLine::TooLong => false,
+        }
+    }
+}
+
 /// Why no line could be read.
 #[derive(Clone, Copy, Debug, PartialEq, Eq)]
 pub enum LineFault {
-    /// The reader failed.
+    /// The reader failed, or the line has no end within 2^64 bytes.
     Input,
     /// Memory was refused.
     Memory,
@@ -40,14 +52,13 @@ impl<T: Drop> From<AllocFailed<T>> for LineFault {
     }
 }
 
-/// The next byte, or `None` at the end.
-fn next_byte<R: Read>(input: &mut R) -> io::Result<Option<u8>>
-    ensures { IfOk result (λ byte. IfSome (R.remaining input.old) (λ bytes. IsNextByte bytes byte (R.remaining input.new))) }
-{
-    let mut byte = [0];
-    match input.read(&mut byte)? {
-        0 => Ok(None),
-        _ => Ok(Some(byte[0])),
+impl From<ReadFault> for LineFault {
+    ghost use Rattle.cmh_site.specs.declared.lines.LineFault.TheVariants.{Input};
+
+    ghost from_gives = { λ _ e. e ≡ Input };
+
+    fn from(_e: ReadFault) -> LineFault {
+        LineFault::Input
     }
 }
 
@@ -86,18 +97,17 @@ fn judged_at_end(line: &[u8], is_cut: bool) -> NextLine
 /// Reads the next line into `line`, of which it keeps at most one byte more than the limit.
 ///
 /// A line ends with a line feed; one carriage return before it is dropped. The last line may lack its end.
-pub fn read_line<R: Read>(input: &mut R, line: &mut Vec<u8>) -> Result<NextLine, LineFault>
+pub fn read_line<R: Read>(input: &mut Device<R>, line: &mut Vec<u8>) -> Result<NextLine, LineFault>
     // Where the reader tells its bytes, the line is the first of them.
-    ensures line { IfOk result (λ next. IfSome (R.remaining input.old) (λ bytes. IsNextLine bytes line.new.items next)) }
-    ensures rest { IfOk result (λ next. IfSome (R.remaining input.old) (λ bytes. R.remaining input.new ≡ Some (drop_through 10 bytes))) }
+    ensures line { IfOk result (λ next. IfSome (R.remaining input.old.inner) (λ bytes. IsNextLine bytes line.new.items next)) }
+    ensures rest { IfOk result (λ next. IfSome (R.remaining input.old.inner) (λ bytes. R.remaining input.new.inner ≡ Some (drop_through 10 bytes))) }
+    ensures ok { OnOk result (input.new.has_failed ≡ input.old.has_failed) }
+    ensures fault { IfErr result (IsLineFault (R.remaining input.old.inner) input.new.has_failed) }
 {
     line.clear();
     let mut is_cut = false;
-    for _ in 0..u64::MAX {
-        let Ok(next) = next_byte(input) else {
-            return Err(LineFault::Input);
-        };
-        let Some(byte) = next else {
+    for turn in 0..u64::MAX {
+        let Some(byte) = input.next_byte()? else {
             return Ok(judged_at_end(line, is_cut));
         };
         if byte == b'\n' {

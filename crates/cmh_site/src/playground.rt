@@ -59,11 +59,7 @@ pub enum Severance {
 }
 
 impl Playground {
-    ghost use Rattle.cmh_model.specs.declared.journal.WorldEvent.{WorldEvent};
-    ghost use Rattle.cmh_model.specs.Runs.{IsRun, ComesFrom};
-    ghost use Rattle.cmh_audit.specs.Reports.{Reports, IsInOrder};
-    ghost use Rattle.cmh_audit.specs.Stops.{AreStops};
-    ghost use Rattle.cmh_audit.specs.Verdicts.{IsAccepted, IfAccepted, IfRefused};
+    ghost use Rattle.cmh_site.specs.Audits.{IsVerdictOn};
     ghost use Rattle.cmh_site.specs.Playground.{is_link, link_at, entries_at, IsDelivery, IsSeverance, IsStep, IsStepOf};
 
     /// A world in which nothing has happened yet.
@@ -169,15 +165,7 @@ impl Playground {
 
     /// Audits the journals as they stand. The only error is want of memory.
     pub fn audit(&self, alloc: Global) -> Result<Verdict, AuditMemory>
-        // Accepted exactly where the journals come from a run.
-        ensures accepted { IfOk result (λ v. IsAccepted v
-            ↔ ((events : List WorldEvent) × IsRun self.now.topology events × ComesFrom (entries_at self.now) events)) }
-
-        // The report holds of every run from which they come.
-        ensures report { IfOk result (λ v. IfAccepted v (λ report. (events : List WorldEvent) → IsRun self.now.topology events
-            → ComesFrom (entries_at self.now) events → Reports self.now.topology events report)) }
-        ensures order { IfOk result (λ v. IfAccepted v IsInOrder) }
-        ensures stops { IfOk result (λ v. IfRefused v (λ stops. AreStops self.now.topology self.now.journals.items stops.rows)) }
+        ensures { IfOk result (IsVerdictOn self.now.topology self.now.journals.items) }
     {
         audit(alloc, &self.topology, &self.journals)
     }

@@ -1,5 +1,10 @@
 //! What the lines of a script of `play` say.
 
+ghost use Rattle.std.specs.Prelude.{◌≡◌, ◌≢◌, ℕ, List, [], ◌∷◌, All, IfOk, MatchOption};
+ghost use Rattle.cmh_frames.specs.Number.{IsNumber};
+ghost use Rattle.cmh_site.specs.declared.script.Form as declared_form;
+ghost use Rattle.cmh_site.specs.Script.{IsFitted, IsLineOf, Says, Spell, is_comment, name_of};
+
 use crate::words::{Words, number};
 use cmh_frames::{Edition, ProcId, SiteId, SiteRow};
 use cmh_model::{Event, Targets};
@@ -30,28 +35,111 @@ pub enum Command {
     Report,
 }
 
+/// The forms of lines, by their names.
+#[derive(Clone, Copy, Debug, PartialEq, Eq)]
+enum Form {
+    Edition,
+    Site,
+    Ask,
+    Reply,
+    Start,
+    Deliver,
+    Cut,
+    Report,
+}
+
 /// What a line of a script says.
-pub fn parse(alloc: Global, line: &[u8]) -> Result<Line, AllocError> {
+pub fn parse(alloc: Global, line: &[u8]) -> Result<Line, AllocError>
+    ensures { IfOk result (Says line.now) }
+{
     let mut words = Words::new(line);
     let Some(name) = words.next_word() else {
         return Ok(Line::Silent);
     };
-    if name.first() == Some(&b'#') {
+    if is_comment(name) {
         return Ok(Line::Silent);
     }
+    match fitted(alloc, name, words)? {
+        Some(line) => Ok(line),
+        None => Ok(Line::Bad),
+    }
+}
+
+/// Whether a line whose first word this is is a comment.
+fn is_comment(word: &[u8]) -> bool
+    ensures { result ≡ is_comment word.now }
+{
+    match word {
+        [byte, ..] => *byte == b'#',
+        [] => false,
+    }
+}
+
+/// The line of a name and the words behind it, if they fit a form.
+fn fitted(alloc: Global, name: &[u8], words: Words<'_>) -> Result<Option<Line>, AllocError>
+    ensures { IfOk result (IsFitted (name.now ∷ words.entry)) }
+{
+    let Some(form) = form_of(name) else {
+        return Ok(None);
+    };
     let Some(numbers) = numbers(alloc, words)? else {
-        return Ok(Line::Bad);
+        return Ok(None);
     };
-    let fitted = match name {
-        b"edition" => edition(&numbers),
-        b"site" => site(alloc, &numbers)?,
-        _ => read_command(alloc, name, &numbers)?.map(Line::Command),
-    };
-    Ok(fitted.unwrap_or(Line::Bad))
+    line_of(alloc, form, &numbers)
+}
+
+/// The form of this name.
+fn form_of(name: &[u8]) -> Option<Form>
+    ensures { MatchOption result ((form : declared_form.Form) → name.now ≢ name_of form) (λ form. name.now ≡ name_of form) }
+{
+    if name == b"edition".as_slice() {
+        return Some(Form::Edition);
+    }
+    if name == b"site".as_slice() {
+        return Some(Form::Site);
+    }
+    if name == b"ask".as_slice() {
+        return Some(Form::Ask);
+    }
+    if name == b"reply".as_slice() {
+        return Some(Form::Reply);
+    }
+    if name == b"start".as_slice() {
+        return Some(Form::Start);
+    }
+    if name == b"deliver".as_slice() {
+        return Some(Form::Deliver);
+    }
+    if name == b"cut".as_slice() {
+        return Some(Form::Cut);
+    }
+    if name == b"report".as_slice() {
+        return Some(Form::Report);
+    }
+    None
+}
+
+/// The line of this form with these numbers.
+fn line_of(alloc: Global, form: Form, numbers: &[u16]) -> Result<Option<Line>, AllocError>
+    requires { All IsNumber numbers.now }
+    ensures { IfOk result (IsLineOf form numbers.now) }
+{
+    match form {
+        Form::Edition => Ok(edition(numbers)),
+        Form::Site => site(alloc, numbers),
+        Form::Ask => ask(alloc, numbers),
+        Form::Reply => Ok(reply(numbers)),
+        Form::Start => Ok(start(numbers)),
+        Form::Deliver => Ok(deliver(numbers)),
+        Form::Cut => Ok(cut(numbers)),
+        Form::Report => Ok(report(numbers)),
+    }
 }
 
 /// The numbers that the words spell, if each of them spells one.
-fn numbers(alloc: Global, mut words: Words<'_>) -> Result<Option<Vec<u16>>, AllocError> {
+fn numbers(alloc: Global, mut words: Words<'_>) -> Result<Option<Vec<u16>>, AllocError>
+    ensures { IfOk result (λ numbers. MatchOption numbers ((ns : List ℕ) → Spell words.entry ns → ⊥) (λ numbers. Spell words.entry numbers.items)) }
+{
     let mut numbers = Vec::new(alloc);
     while let Some(word) = words.next_word() {
         match number(word) {
@@ -62,17 +150,19 @@ fn numbers(alloc: Global, mut words: Words<'_>) -> Result<Option<Vec<u16>>, Allo
     Ok(Some(numbers))
 }
 
-fn edition(numbers: &[u16]) -> Option<Line> {
-    match numbers {
-        [number] => {
-            let number = u8::try_from(*number).ok()?;
-            Edition::of_number(number).map(Line::Edition)
-        }
-        _ => None,
-    }
+fn edition(numbers: &[u16]) -> Option<Line>
+    ensures { IsLineOf Form.Edition numbers.now result }
+{
+    let [number] = numbers else {
+        return None;
+    };
+    let edition = Edition::of_number(u8::try_from(*number).ok()?)?;
+    Some(Line::Edition(edition))
 }
 
-fn site(alloc: Global, numbers: &[u16]) -> Result<Option<Line>, AllocError> {
+fn site(alloc: Global, numbers: &[u16]) -> Result<Option<Line>, AllocError>
+    ensures { IfOk result (IsLineOf Form.Site numbers.now) }
+{
     let Some((site, processes)) = numbers.split_first() else {
         return Ok(None);
     };
@@ -82,24 +172,11 @@ fn site(alloc: Global, numbers: &[u16]) -> Result<Option<Line>, AllocError> {
     })))
 }
 
-fn read_command(
-    alloc: Global,
-    name: &[u8],
-    numbers: &[u16],
-) -> Result<Option<Command>, AllocError> {
-    Ok(match name {
-        b"ask" => ask(alloc, numbers)?,
-        b"reply" => reply(numbers),
-        b"start" => start(numbers),
-        b"deliver" => link(numbers).map(|(from, to)| Command::Deliver { from, to }),
-        b"cut" => link(numbers).map(|(from, to)| Command::Cut { from, to }),
-        b"report" => report(numbers),
-        _ => None,
-    })
-}
-
 /// An ask names at least one target.
-fn ask(alloc: Global, numbers: &[u16]) -> Result<Option<Command>, AllocError> {
+fn ask(alloc: Global, numbers: &[u16]) -> Result<Option<Line>, AllocError>
+    requires { All IsNumber numbers.now }
+    ensures { IfOk result (IsLineOf Form.Ask numbers.now) }
+{
     let [asker, named @ ..] = numbers else {
         return Ok(None);
     };
@@ -116,48 +193,73 @@ fn ask(alloc: Global, numbers: &[u16]) -> Result<Option<Command>, AllocError> {
             None => return Ok(None),
         }
     }
-    Ok(Some(Command::Act {
+    let targets = Targets::new(targets);
+    Ok(Some(Line::Command(Command::Act {
         process: asker,
-        event: Event::Ask {
-            asker,
-            targets: Targets::new(targets),
-        },
-    }))
+        event: Event::Ask { asker, targets },
+    })))
 }
 
-fn reply(numbers: &[u16]) -> Option<Command> {
+fn reply(numbers: &[u16]) -> Option<Line>
+    requires { All IsNumber numbers.now }
+    ensures { IsLineOf Form.Reply numbers.now result }
+{
     let [holder, asker] = numbers else {
         return None;
     };
     let holder = ProcId::new(*holder)?;
     let asker = ProcId::new(*asker)?;
-    Some(Command::Act {
+    Some(Line::Command(Command::Act {
         process: holder,
         event: Event::Reply { holder, asker },
-    })
+    }))
 }
 
-fn start(numbers: &[u16]) -> Option<Command> {
+fn start(numbers: &[u16]) -> Option<Line>
+    requires { All IsNumber numbers.now }
+    ensures { IsLineOf Form.Start numbers.now result }
+{
     let [of] = numbers else {
         return None;
     };
     let of = ProcId::new(*of)?;
-    Some(Command::Act {
+    Some(Line::Command(Command::Act {
         process: of,
         event: Event::Start { of },
-    })
+    }))
+}
+
+fn deliver(numbers: &[u16]) -> Option<Line>
+    requires { All IsNumber numbers.now }
+    ensures { IsLineOf Form.Deliver numbers.now result }
+{
+    let (from, to) = link(numbers)?;
+    Some(Line::Command(Command::Deliver { from, to }))
+}
+
+fn cut(numbers: &[u16]) -> Option<Line>
+    requires { All IsNumber numbers.now }
+    ensures { IsLineOf Form.Cut numbers.now result }
+{
+    let (from, to) = link(numbers)?;
+    Some(Line::Command(Command::Cut { from, to }))
 }
 
 /// It stands alone on its line.
-fn report(numbers: &[u16]) -> Option<Command> {
+fn report(numbers: &[u16]) -> Option<Line>
+    ensures { IsLineOf Form.Report numbers.now result }
+{
     match numbers {
-        [] => Some(Command::Report),
+        [] => Some(Line::Command(Command::Report)),
         _ => None,
     }
 }
 
 /// The sites that a link goes from and to.
-fn link(numbers: &[u16]) -> Option<(SiteId, SiteId)> {
+fn link(numbers: &[u16]) -> Option<(SiteId, SiteId)>
+    requires { All IsNumber numbers.now }
+    ensures { MatchOption result ((from to : ℕ) → numbers.now ≢ from ∷ to ∷ []) (λ ends. numbers.now ≡ ends.0 ∷ ends.1 ∷ []) }
+{
     let [from, to] = numbers else {
         return None;
     };

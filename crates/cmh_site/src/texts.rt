@@ -1,5 +1,8 @@
 //! The answers of a script, as they are printed.
 
+ghost use Rattle.std.specs.Prelude.{Some};
+ghost use Rattle.cmh_site.specs.Answers as spec;
+
 use crate::taking::{Done, Refused};
 use cmh_frames::{Frame, TopologyFault};
 use std::fmt;
@@ -23,6 +26,8 @@ pub enum Answer {
 }
 
 impl fmt::Display for Answer {
+    ghost output = { λ answer. Some (spec.answer_text answer) };
+
     fn fmt<W: fmt::Write>(&self, f: &mut fmt::Formatter<W>) -> fmt::Result {
         match self {
             Answer::Ok => write!(f, "ok"),
@@ -47,6 +52,8 @@ impl fmt::Display for Answer {
 }
 
 impl fmt::Display for Done {
+    ghost output = { λ done. Some (spec.done_text done) };
+
     fn fmt<W: fmt::Write>(&self, f: &mut fmt::Formatter<W>) -> fmt::Result {
         let sent = self.sent;
         write!(f, "sent {sent}")?;

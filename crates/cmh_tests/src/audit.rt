@@ -1,6 +1,6 @@
 //! The command `audit`, from the bytes of its files to the bytes of its answer.
 
-use cmh_site::run_audit;
+use cmh_site::{Device, run_audit};
 use std::io;
 use std::io::{ErrorKind, Write};
 use std::process::Abort;
@@ -228,7 +228,13 @@ fn audit<R: AllocGlobal>(rt: &R, row: &Row, writes: u64) -> Result<Answer, Fail>
     let mut out = Taken { bytes, writes };
     let mut fault = Vec::new(rt.alloc());
     let topology = row.topology.as_bytes();
-    let status = run_audit(rt.alloc(), topology, &files, &mut out, &mut fault);
+    let status = run_audit(
+        rt.alloc(),
+        topology,
+        &files,
+        &mut Device::new(&mut out),
+        &mut Device::new(&mut fault),
+    );
     Ok(Answer {
         status,
         lines: out.bytes,

@@ -1,6 +1,6 @@
 //! The command `play`, from the bytes of a script to the bytes of its answers.
 
-use cmh_site::run_play;
+use cmh_site::{Device, run_play};
 use std::io;
 use std::io::{ErrorKind, Read, Write};
 use std::process::Abort;
@@ -13,7 +13,7 @@ struct Row {
     answers: &'static str,
 }
 
-const ONE_SITE: [Row; 10] = [
+const ONE_SITE: [Row; 11] = [
     Row {
         shows: "of shortest cycles the report gives the least",
         script: "site 1 1 2 3\nask 1 2 3\nask 2 1\nask 3 1\nstart 1\nreport\n",
@@ -58,6 +58,11 @@ const ONE_SITE: [Row; 10] = [
         shows: "lines that fit no form change nothing",
         script: "site 1 1\nask 1\nask 1 0\nask 1 12345\ngo\n",
         answers: "ok\nbad line\nbad line\nbad line\nbad line\n",
+    },
+    Row {
+        shows: "each form has its count of numbers",
+        script: "site\nedition\nedition 3\nedition 1 1\nsite 1 1 2\nreply 1\nreply 1 2 1\nstart\nstart 1 2\ndeliver 1\ndeliver 1 2 1\ncut 1\ncut 1 2 1\nreport 1\nAsk 1 2\nask 1 2x\nask 1 2\n",
+        answers: "bad line\nbad line\nbad line\nbad line\nok\nbad line\nbad line\nbad line\nbad line\nbad line\nbad line\nbad line\nbad line\nbad line\nbad line\nbad line\nok sent 0\n",
     },
     Row {
         shows: "a line ends with or without a carriage return, the last also with nothing",
@@ -183,18 +188,23 @@ struct Played {
 }
 
 fn play<R: AllocGlobal>(rt: &R, script: &str, piece: usize, reads: u64, writes: u64) -> Played {
-    let mut input = Pieces {
+    let mut input = Device::new(Pieces {
         bytes: script.as_bytes(),
         piece,
         reads,
-    };
+    });
     let mut out = Taken {
         bytes: Vec::new(rt.alloc()),
         piece,
         writes,
     };
     let mut fault = Vec::new(rt.alloc());
-    let status = run_play(rt.alloc(), &mut input, &mut out, &mut fault);
+    let status = run_play(
+        rt.alloc(),
+        &mut input,
+        &mut Device::new(&mut out),
+        &mut Device::new(&mut fault),
+    );
     Played {
         status,
         answers: out.bytes,
@@ -269,10 +279,11 @@ fn a_line_has_at_most_1024_bytes(rt: HostRuntime) -> Result<(), Fail> {
             script.push(b' ')?;
         }
         script.extend_from_slice(b"site 1 1\r\n")?;
-        let mut input = script.as_slice();
+        let mut input = Device::new(script.as_slice());
         let mut out = Vec::new(rt.alloc());
-        let mut err = Vec::new(rt.alloc());
-        assert_eq!(rt; run_play(rt.alloc(), &mut input, &mut out, &mut err), 0);
+        let mut err = Device::new(Vec::new(rt.alloc()));
+        let status = run_play(rt.alloc(), &mut input, &mut Device::new(&mut out), &mut err);
+        assert_eq!(rt; status, 0);
         assert!(rt; out.as_slice() == answers.as_bytes(), "{spaces} spaces");
     }
     Ok(())

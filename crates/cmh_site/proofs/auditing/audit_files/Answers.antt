@@ -27,5 +27,6 @@ returns-clause-audits c =
         order = c.in_ok-verdict.ensures.order;
         counted = c.in_ok-verdict.ensures.events;
         stops = c.in_ok-verdict.ensures.stops;
+        tries = c.in_ok-verdict.ensures.tries;
       });
     }

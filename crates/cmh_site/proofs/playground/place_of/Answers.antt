@@ -1,6 +1,6 @@
 use Rattle.std.proofs.Common.{sym, ◌∙◌}
 use Rattle.std.proofs.lemmas.Bool.{eqb-false}
-use Rattle.cmh_audit.proofs.StopLemmas.{none_more}
+use Rattle.cmh_site.proofs.JournalLists.{none_more}
 use Rattle.cmh_site.proofs.playground.place_of.Goals as goal
 
 pub loop-i-preserved : goal.loop-i-preserved

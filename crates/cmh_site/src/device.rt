@@ -1,0 +1,107 @@
+//! What a command reads from and writes to, and whether that failed.
+
+ghost use Rattle.std.specs.Prelude.{◌≡◌, true, false, IfOk, OnOk, OnErr, IfSome};
+ghost use Rattle.std.specs.Fmt.{with_newline};
+ghost use Rattle.std.specs.Io.KnownBytes.{Appends, Keeps};
+ghost use Rattle.cmh_site.specs.Lines.{IsNextByte};
+
+use std::fmt;
+use std::io::{Read, Write};
+
+/// The reader failed.
+#[derive(Clone, Copy, Debug, PartialEq, Eq)]
+pub struct ReadFault;
+
+/// The writer failed.
+#[derive(Clone, Copy, Debug, PartialEq, Eq)]
+pub struct WriteFault;
+
+/// A reader or a writer, and whether a call of it has failed. Only a call that failed sets that.
+#[derive(Debug, Drop)]
+pub struct Device<D> {
+    inner: D,
+    has_failed: bool,
+}
+
+impl<D> Device<D> {
+    pub fn new(inner: D) -> Self
+        ensures inner { result.inner ≡ inner }
+        ensures fresh { result.has_failed ≡ false }
+    {
+        Device {
+            inner,
+            has_failed: false,
+        }
+    }
+
+    pub fn has_failed(&self) -> bool
+        ensures { result ≡ self.now.has_failed }
+    {
+        self.has_failed
+    }
+}
+
+impl<R: Read> Device<R> {
+    /// The next byte, or `None` at the end.
+    pub(crate) fn next_byte(&mut self) -> Result<Option<u8>, ReadFault>
+        ensures byte { IfOk result (λ byte. IfSome (R.remaining self.old.inner) (λ bytes. IsNextByte bytes byte (R.remaining self.new.inner))) }
+        ensures ok { OnOk result (self.new.has_failed ≡ self.old.has_failed) }
+        ensures err { OnErr result (self.new.has_failed ≡ true) }
+    {
+        let mut byte = [0];
+        match self.inner.read(&mut byte) {
+            Ok(0) => Ok(None),
+            Ok(_) => Ok(Some(byte[0])),
+            Err(_) => {
+                self.has_failed = true;
+                Err(ReadFault)
+            }
+        }
+    }
+}
+
+impl<W: Write> Device<W> {
+    /// Writes all of the text.
+    pub(crate) fn write_text<T: fmt::Display + Drop>(&mut self, text: T) -> Result<(), WriteFault>
+        ensures bytes { OnOk result (IfSome (T.output text) (Appends (W.contents self.old.inner) (W.contents self.new.inner))) }
+        ensures ok { OnOk result (self.new.has_failed ≡ self.old.has_failed) }
+        ensures err { OnErr result (self.new.has_failed ≡ true) }
+    {
+        match self.inner.write_fmt(text) {
+            Ok(()) => Ok(()),
+            Err(_) => {
+                self.has_failed = true;
+                Err(WriteFault)
+            }
+        }
+    }
+
+    /// Writes all of the text and a line feed.
+    pub(crate) fn write_line<T: fmt::Display + Drop>(&mut self, text: T) -> Result<(), WriteFault>
+        ensures bytes { OnOk result (IfSome (with_newline (T.output text)) (Appends (W.contents self.old.inner) (W.contents self.new.inner))) }
+        ensures ok { OnOk result (self.new.has_failed ≡ self.old.has_failed) }
+        ensures err { OnErr result (self.new.has_failed ≡ true) }
+    {
+        match self.inner.writeln(text) {
+            Ok(()) => Ok(()),
+            Err(_) => {
+                self.has_failed = true;
+                Err(WriteFault)
+            }
+        }
+    }
+
+    pub(crate) fn flush(&mut self) -> Result<(), WriteFault>
+        ensures bytes { Keeps (W.contents self.old.inner) (W.contents self.new.inner) }
+        ensures ok { OnOk result (self.new.has_failed ≡ self.old.has_failed) }
+        ensures err { OnErr result (self.new.has_failed ≡ true) }
+    {
+        match self.inner.flush() {
+            Ok(()) => Ok(()),
+            Err(_) => {
+                self.has_failed = true;
+                Err(WriteFault)
+            }
+        }
+    }
+}
