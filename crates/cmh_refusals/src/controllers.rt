@@ -121,28 +121,42 @@ fn accepts_same(left: &Controller, right: &Controller, first: ProcId, second: Pr
         && gets_same(left, right, first, second)
 }
 
-/// Whether both check alike the frames of the two from either site.
+/// Whether both check alike the request and the reply of the two from either site.
 fn gets_same(left: &Controller, right: &Controller, first: ProcId, second: ProcId) -> bool {
-    if first == second {
+    let (Some(one), Some(two)) = (SiteId::new(1), SiteId::new(2)) else {
+        return false;
+    };
+    gets_same_from(left, right, one, request(first, second))
+        && gets_same_from(left, right, two, request(first, second))
+        && gets_same_from(left, right, one, reply(first, second))
+        && gets_same_from(left, right, two, reply(first, second))
+}
+
+fn request(asker: ProcId, holder: ProcId) -> Option<Frame> {
+    if asker == holder {
+        return None;
+    }
+    Some(Frame::Request(Request { asker, holder }))
+}
+
+fn reply(holder: ProcId, asker: ProcId) -> Option<Frame> {
+    if holder == asker {
+        return None;
+    }
+    Some(Frame::Reply(Reply { holder, asker }))
+}
+
+fn gets_same_from(
+    left: &Controller,
+    right: &Controller,
+    from: SiteId,
+    frame: Option<Frame>,
+) -> bool {
+    let Some(frame) = frame else {
         return true;
-    }
-    let request = Frame::Request(Request {
-        asker: first,
-        holder: second,
-    });
-    let reply = Frame::Reply(Reply {
-        holder: first,
-        asker: second,
-    });
-    for site in [SiteId::new(1), SiteId::new(2)].into_iter().flatten() {
-        for frame in [request, reply] {
-            let got = Event::Got { from: site, frame };
-            if left.check(&got) != right.check(&got) {
-                return false;
-            }
-        }
-    }
-    true
+    };
+    let got = Event::Got { from, frame };
+    left.check(&got) == right.check(&got)
 }
 
 /// The outcome is the one that the entry records.
