@@ -100,26 +100,33 @@ pub fn run_audits(alloc: Global) -> Result<(), Failure> {
 
 fn run_audit_of(alloc: Global, world: &World) -> Result<(), Failure> {
     let files = files_of(alloc, world)?;
-    let mut sheet = Sheet::new(alloc)?;
-    let mut status = write_audit(alloc, world, &files, &mut sheet);
-    if sheet.is_out_of_memory(status) {
-        expect(sheet.out.is_empty(), "lines before a fault")?;
-        sheet.clear();
-        status = write_audit(alloc, world, &files, &mut sheet);
+    let (status, sheet) = write_audit(alloc, world, &files)?;
+    if !sheet.is_out_of_memory(status) {
+        return is_verdict(world, status, &sheet);
     }
+    expect(sheet.out.is_empty(), "lines before a fault")?;
+    let (status, sheet) = write_audit(alloc, world, &files)?;
+    is_verdict(world, status, &sheet)
+}
+
+/// The verdict on a world was written, and no fault.
+fn is_verdict(world: &World, status: u8, sheet: &Sheet) -> Result<(), Failure> {
     expect(status == status_of(world), "another status")?;
     expect(sheet.err.is_empty(), "a fault of faultless files")?;
     expect(sheet.out.as_slice() == world.lines.as_bytes(), world.name)
 }
 
-fn write_audit(alloc: Global, world: &World, files: &[Vec<u8>], sheet: &mut Sheet) -> u8 {
-    run_audit(
+/// Audits files on a sheet of its own.
+fn write_audit(alloc: Global, world: &World, files: &[Vec<u8>]) -> Result<(u8, Sheet), Failure> {
+    let Sheet { mut out, mut err } = Sheet::new(alloc)?;
+    let status = run_audit(
         alloc,
         world.topology.as_bytes(),
         files,
-        &mut Device::new(&mut sheet.out),
-        &mut Device::new(&mut sheet.err),
-    )
+        &mut Device::new(&mut out),
+        &mut Device::new(&mut err),
+    );
+    Ok((status, Sheet { out, err }))
 }
 
 /// The status of an audit with no fault.

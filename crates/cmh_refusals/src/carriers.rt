@@ -23,11 +23,6 @@ impl Sheet {
         })
     }
 
-    pub fn clear(&mut self) {
-        self.out.clear();
-        self.err.clear();
-    }
-
     /// Whether the command ended with this status for want of memory, and says so.
     pub fn is_out_of_memory(&self, status: u8) -> bool {
         status == 1 && self.err.as_slice() == b"fault memory\n".as_slice()

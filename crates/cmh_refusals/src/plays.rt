@@ -31,31 +31,32 @@ pub fn play(alloc: Global) -> Result<(), Failure> {
 }
 
 fn play_again(alloc: Global, row: &Row) -> Result<(), Failure> {
-    let mut sheet = Sheet::new(alloc)?;
-    let mut status = play_row(alloc, row, &mut sheet);
-    if status != 0 || sheet.out.as_slice() != row.answers.as_bytes() {
-        expect(
-            is_want_of_memory(&sheet, status, row.answers),
-            "an answer changed, and does not say that memory was refused",
-        )?;
-        sheet.clear();
-        status = play_row(alloc, row, &mut sheet);
+    let (status, sheet) = play_row(alloc, row)?;
+    if is_undisturbed(status, &sheet, row) {
+        return Ok(());
     }
-    expect(status == 0, "another status")?;
-    expect(sheet.err.is_empty(), "a fault beside all answers")?;
     expect(
-        sheet.out.as_slice() == row.answers.as_bytes(),
-        "other answers",
-    )
+        is_want_of_memory(&sheet, status, row.answers),
+        "an answer changed, and does not say that memory was refused",
+    )?;
+    let (status, sheet) = play_row(alloc, row)?;
+    expect(is_undisturbed(status, &sheet, row), "other answers")
 }
 
-fn play_row(alloc: Global, row: &Row, sheet: &mut Sheet) -> u8 {
-    run_play(
+/// Plays a script on a sheet of its own.
+fn play_row(alloc: Global, row: &Row) -> Result<(u8, Sheet), Failure> {
+    let Sheet { mut out, mut err } = Sheet::new(alloc)?;
+    let status = run_play(
         alloc,
         &mut Device::new(row.script.as_bytes()),
-        &mut Device::new(&mut sheet.out),
-        &mut Device::new(&mut sheet.err),
-    )
+        &mut Device::new(&mut out),
+        &mut Device::new(&mut err),
+    );
+    Ok((status, Sheet { out, err }))
+}
+
+fn is_undisturbed(status: u8, sheet: &Sheet, row: &Row) -> bool {
+    status == 0 && sheet.err.is_empty() && sheet.out.as_slice() == row.answers.as_bytes()
 }
 
 /// Whether the first line that differs says that memory was refused, or the answers end early and the fault says so.

@@ -19,16 +19,17 @@ struct Ended {
 
 /// Plays a script whose reads and writes move a byte at a time.
 fn play(alloc: Global, row: &Row, reads: Trouble, writes: Trouble) -> Result<Ended, Failure> {
-    let mut sheet = Sheet::new(alloc)?;
+    let Sheet { mut out, mut err } = Sheet::new(alloc)?;
     let mut input = Reader::new(row.script.as_bytes(), reads);
-    let mut out = Writer::new(&mut sheet.out, writes);
+    let mut writer = Writer::new(&mut out, writes);
     let status = run_play(
         alloc,
         &mut Device::new(&mut input),
-        &mut Device::new(&mut out),
-        &mut Device::new(&mut sheet.err),
+        &mut Device::new(&mut writer),
+        &mut Device::new(&mut err),
     );
-    let met = input.met() || out.met();
+    let met = input.met() || writer.met();
+    let sheet = Sheet { out, err };
     Ok(Ended { status, sheet, met })
 }
 
@@ -39,17 +40,18 @@ fn audit(
     files: &[Vec<u8>],
     writes: Trouble,
 ) -> Result<Ended, Failure> {
-    let mut sheet = Sheet::new(alloc)?;
-    let mut out = Writer::new(&mut sheet.out, writes);
+    let Sheet { mut out, mut err } = Sheet::new(alloc)?;
+    let mut writer = Writer::new(&mut out, writes);
     let topology = world.topology.as_bytes();
     let status = run_audit(
         alloc,
         topology,
         files,
-        &mut Device::new(&mut out),
-        &mut Device::new(&mut sheet.err),
+        &mut Device::new(&mut writer),
+        &mut Device::new(&mut err),
     );
-    let met = out.met();
+    let met = writer.met();
+    let sheet = Sheet { out, err };
     Ok(Ended { status, sheet, met })
 }
 
@@ -137,25 +139,25 @@ fn audit_fails(
 
 /// A fault line that can't be written changes no status.
 pub fn failing_fault_lines(alloc: Global) -> Result<(), Failure> {
-    let mut sheet = Sheet::new(alloc)?;
+    let mut line = Vec::new(alloc);
     let input = Reader::new(b"site 1 1\n", Trouble::Fails(0));
-    let err = Writer::new(&mut sheet.err, Trouble::Fails(0));
+    let err = Writer::new(&mut line, Trouble::Fails(0));
     let played = run_play(
         alloc,
         &mut Device::new(input),
-        &mut Device::new(&mut sheet.out),
+        &mut Device::new(Vec::new(alloc)),
         &mut Device::new(err),
     );
     expect(
         played == 3,
         "a play without its fault line has another status",
     )?;
-    let err = Writer::new(&mut sheet.err, Trouble::Fails(0));
+    let err = Writer::new(&mut line, Trouble::Fails(0));
     let audited = run_audit(
         alloc,
         b"{",
         &[],
-        &mut Device::new(&mut sheet.out),
+        &mut Device::new(Vec::new(alloc)),
         &mut Device::new(err),
     );
     expect(
