@@ -5,7 +5,7 @@ use Rattle.std.specs.BTreeMap.{BTreeMap}
 use Rattle.std.proofs.lemmas.Bool.{cases_lt}
 use Rattle.cmh_audit.specs.Cycles.{WaitsIn, Leads, IsCycleIn, NotAbove, ComesFirst, distance_of, AreDistances}
 use Rattle.cmh_audit.specs.Levels.{IsLeast, at_distance}
-use Rattle.cmh_audit.proofs.Beginnings.{empty_list}
+use Rattle.cmh_model.proofs.Beginnings.{empty_list}
 use Rattle.cmh_audit.proofs.LeastLemmas.{some_eq, none_is, at_left, took_process}
 
 -- these are the holders for which v waits

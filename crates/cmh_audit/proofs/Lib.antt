@@ -1,4 +1,3 @@
-pub mod Beginnings
 pub mod RunLemmas
 pub mod FrameLemmas
 pub mod LinkLemmas

@@ -15,7 +15,7 @@ use Rattle.cmh_journal.specs.Journal.{Journal}
 use Rattle.cmh_audit.specs.Journals.{journal_of, OneEach}
 use Rattle.cmh_audit.specs.Links.{Links, waiting, frames_in, link_cmp}
 use Rattle.cmh_audit.specs.Merging.{taken_of, CanGrow, IsNext, Moves, AreLawfulLengths, IsStuck, AreLeft}
-use Rattle.cmh_audit.proofs.Beginnings.{length-beginning, push_eq}
+use Rattle.cmh_model.proofs.Beginnings.{length-beginning, push_eq}
 use Rattle.cmh_audit.proofs.RunLemmas.{entries_of_same, entries_of_other, lawful_beginning, nil_run, longer_run}
 use Rattle.cmh_audit.proofs.CountLemmas.{taken_here, journal_here, taken_set_other, found, taken_within, taken_none, limit_here}
 

@@ -12,7 +12,7 @@ use Rattle.cmh_model.specs.Runs.{IsBeginningOf, entries_of, sendings, receipts, 
 use Rattle.cmh_model.proofs.Effects.{none_from_own}
 use Rattle.cmh_model.proofs.Journals.{entries_here, entries_elsewhere, entries_of-append, sendings_of-append, lawful_front}
 use Rattle.cmh_audit.specs.Merging.{CanGrow}
-use Rattle.cmh_audit.proofs.Beginnings.{beginning_refl, beginning_nil, beginning_trans, beginning_push, beginning_more, grow}
+use Rattle.cmh_model.proofs.Beginnings.{beginning_refl, beginning_nil, beginning_trans, beginning_push, beginning_more, grow}
 
 -- more entries send more
 pub sendings_of-beginning : (b : ℕ) (xs ys : List Entry) → IsBeginningOf xs ys → IsBeginningOf (sendings_of b xs) (sendings_of b ys)

@@ -1,13 +1,14 @@
 -- The tests of a set of journals, and what they test.
-use Rattle.std.proofs.Common.{◌≡◌, ◌↔◌, ℕ, zero, suc, ◌<◌, ◌==◌, ◌||◌, not, Bool, true, false, true≢false, List, [], ◌∷◌, map, length, get_or, ⊎_elim, sym, ap, refl, ◌∙◌, arith}
+use Rattle.std.proofs.Common.{◌≡◌, ◌↔◌, ℕ, ◌==◌, ◌||◌, not, Bool, true, false, true≢false, List, [], ◌∷◌, map, sym, ap, refl, ◌∙◌, arith}
 use Rattle.std.specs.Prelude.{Contains, All}
 use Rattle.std.specs.List.{list_any, AllByRecursion}
-use Rattle.std.proofs.lemmas.Bool.{eq-eqb, ne_eqb, eqb-true, or_cases}
+use Rattle.std.proofs.lemmas.Bool.{eq-eqb, ne_eqb, eqb-true}
 use Rattle.std.proofs.lemmas.List.Elements.{All-from_recursion, recursion_from_All}
 use Rattle.cmh_frames.specs.declared.edition.Edition.{Edition}
 use Rattle.cmh_frames.specs.declared.edition.Edition.TheVariants.{One, Two}
 use Rattle.cmh_frames.specs.Edition.{number_of}
 use Rattle.cmh_frames.specs.Topology.{Topology, sites_of, is_site}
+use Rattle.cmh_model.proofs.Members.{found_at, found_from}
 use Rattle.cmh_journal.specs.Journal.{Journal}
 use Rattle.cmh_audit.specs.Journals.{NoneAt, OneEach}
 use Rattle.cmh_audit.specs.Set.{is_stranger, is_of_other_edition, has_journal, repeats_site, lacks_site}
@@ -33,35 +34,13 @@ any_none : {X : Type 0} (p : X → Bool) (P : X → Type 0) (xs : List X) → ((
 any_none p P [] f h = refl
 any_none p P (x ∷ xs) f h = none_or (p x) (list_any p xs) (f x h.0) (any_none p P xs f h.1)
 
-there : {X : Type 0} (y : X) (ys : List X) (x : X) → Contains ys x → Contains (y ∷ ys) x
-there y ys x c = (suc c.0, let l = c.1 in omega (arith, l), c.2)
-
-pub is_member : (s : ℕ) (xs : List ℕ) → list_any (λ q. q == s) xs ≡ true → Contains xs s
-is_member s [] h = absurd (true≢false (sym h))
-is_member s (x ∷ xs) h = ⊎_elim
-    (λ e. (0, omega arith, eqb-true x s e))
-    (λ more. there x xs s (is_member s xs more))
-    (or_cases (x == s) (list_any (λ q. q == s) xs) h)
-
-or_true : (t : Bool) → (t || true) ≡ true
-or_true true = refl
-or_true false = refl
-
-pub member_is : (s : ℕ) (xs : List ℕ) → Contains xs s → list_any (λ q. q == s) xs ≡ true
-member_is s [] c = let l = c.1 in absurd (omega (arith, l))
-member_is s (x ∷ xs) c = go c.0 c.1 c.2 (member_is s xs)
-  where
-    go : (k : ℕ) → k < length (x ∷ xs) → get_or (x ∷ xs) k s ≡ s → (Contains xs s → list_any (λ q. q == s) xs ≡ true) → ((x == s) || list_any (λ q. q == s) xs) ≡ true
-    go zero l e more = ap (λ t. t || list_any (λ q. q == s) xs) (eq-eqb x s e)
-    go (suc k) l e more = ap (λ t. (x == s) || t) (more (k, omega arith, e)) ∙ or_true (x == s)
-
 -- ---- the four tests
 
 pub known_iff : (t : Topology) (js : List Journal) → (list_any (is_stranger t) js ≡ false) ↔ All (λ (j : Journal). Contains (sites_of t) j.site) js
 known_iff t js =
     let P : Journal → Type 0 = λ j. Contains (sites_of t) j.site in (
-      λ h. All-from_recursion (λ (j : Journal). Contains (sites_of t) j.site) js (none_any (is_stranger t) (λ (j : Journal). Contains (sites_of t) j.site) js (λ j n. is_member j.site (sites_of t) (not_false (is_site t j.site) n)) h),
-      λ all. any_none (is_stranger t) (λ (j : Journal). Contains (sites_of t) j.site) js (λ j c. ap not (member_is j.site (sites_of t) c)) (recursion_from_All (λ (j : Journal). Contains (sites_of t) j.site) js all),
+      λ h. All-from_recursion (λ (j : Journal). Contains (sites_of t) j.site) js (none_any (is_stranger t) (λ (j : Journal). Contains (sites_of t) j.site) js (λ j n. found_at (sites_of t) j.site (not_false (is_site t j.site) n)) h),
+      λ all. any_none (is_stranger t) (λ (j : Journal). Contains (sites_of t) j.site) js (λ j c. ap not (found_from (sites_of t) j.site c)) (recursion_from_All (λ (j : Journal). Contains (sites_of t) j.site) js all),
     )
 
 same_number : (e f : Edition) → number_of e ≡ number_of f → e ≡ f
@@ -99,7 +78,7 @@ has_in s (j ∷ js) = ap (λ t. (j.site == s) || t) (has_in s js)
 pub present_iff : (sites : List ℕ) (js : List Journal) → (lacks_site sites js ≡ false) ↔ All (λ s. Contains (map (λ (j : Journal). j.site) js) s) sites
 present_iff sites js = (
   λ h. All-from_recursion (λ s. Contains (map (λ (j : Journal). j.site) js) s) sites (none_any (λ s. not (has_journal js s)) (λ s. Contains (map (λ (j : Journal). j.site) js) s) sites
-      (λ s n. is_member s (map (λ (j : Journal). j.site) js) (sym (has_in s js) ∙ not_false (has_journal js s) n)) h),
+      (λ s n. found_at (map (λ (j : Journal). j.site) js) s (sym (has_in s js) ∙ not_false (has_journal js s) n)) h),
   λ all. any_none (λ s. not (has_journal js s)) (λ s. Contains (map (λ (j : Journal). j.site) js) s) sites
-      (λ s c. ap not (has_in s js ∙ member_is s (map (λ (j : Journal). j.site) js) c)) (recursion_from_All (λ s. Contains (map (λ (j : Journal). j.site) js) s) sites all),
+      (λ s c. ap not (has_in s js ∙ found_from (map (λ (j : Journal). j.site) js) s c)) (recursion_from_All (λ s. Contains (map (λ (j : Journal). j.site) js) s) sites all),
 )

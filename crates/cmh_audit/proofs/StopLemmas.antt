@@ -16,7 +16,7 @@ use Rattle.cmh_audit.specs.Journals.{journal_of, NoneAt, OneEach}
 use Rattle.cmh_audit.specs.Merging.{taken_of, IsStuck}
 use Rattle.cmh_audit.specs.Set.{IsSet}
 use Rattle.cmh_audit.specs.Stops.{AreStops, before_stop, stops_at}
-use Rattle.cmh_audit.proofs.Beginnings.{length-beginning}
+use Rattle.cmh_model.proofs.Beginnings.{length-beginning}
 use Rattle.cmh_audit.proofs.RunLemmas.{confluence}
 use Rattle.cmh_audit.proofs.Sums.{journal_none}
 use Rattle.cmh_audit.proofs.CountLemmas.{taken_here, journal_here, found}

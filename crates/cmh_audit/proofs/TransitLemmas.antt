@@ -19,8 +19,8 @@ use Rattle.cmh_model.proofs.Journals.{whole}
 use Rattle.cmh_model.proofs.Places.{site_of-at}
 use Rattle.cmh_model.proofs.Sent.{shape, answers_of, to_no, to-append}
 use Rattle.cmh_audit.specs.Transit.{sum_over, in_transit}
-use Rattle.cmh_audit.proofs.Beginnings.{beginning_refl, empty_list}
-use Rattle.cmh_audit.proofs.SetLemmas.{is_member, member_is}
+use Rattle.cmh_model.proofs.Beginnings.{beginning_refl, empty_list}
+use Rattle.cmh_model.proofs.Members.{found_at, found_from}
 
 -- ---- frames go to sites of the topology alone
 
@@ -127,8 +127,8 @@ module _ (t : Topology) where
 
   site_or_not : (s : ℕ) → Contains (sites_of t) s ⊎ (Contains (sites_of t) s → ⊥)
   site_or_not s = ⊎_elim
-      (λ yes'. inl (is_member s (sites_of t) yes'))
-      (λ no'. inr (λ c. true≢false (sym (member_is s (sites_of t) c) ∙ no')))
+      (λ yes'. inl (found_at (sites_of t) s yes'))
+      (λ no'. inr (λ c. true≢false (sym (found_from (sites_of t) s c) ∙ no')))
       (cases_Bool (is_site t s))
 
   -- ---- drained

@@ -1,4 +1,3 @@
-pub mod Ascending
 pub mod Asking
 pub mod Changes
 pub mod Deduped

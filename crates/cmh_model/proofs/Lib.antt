@@ -1,3 +1,5 @@
+pub mod Ascending
+pub mod Beginnings
 pub mod Bits
 pub mod PathLemmas
 pub mod Pairs

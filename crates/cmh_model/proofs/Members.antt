@@ -24,3 +24,8 @@ found_from xs k c = go xs c.0 c.1 c.2
 pub none_is_asker : (P : ℕ → Type 0) (asker : ℕ) (targets : List ℕ) → AllByRecursion (λ k. P k × (k ≢ asker)) targets → list_any (λ k. k == asker) targets ≡ false
 none_is_asker P asker [] all = refl
 none_is_asker P asker (k ∷ targets) all = ap (λ b. b || list_any (λ q. q == asker) targets) (ne_eqb k asker all.0.1) ∙ none_is_asker P asker targets all.1
+
+-- what holds at each place holds of all
+pub all_from : (P : ℕ → Type 0) (xs : List ℕ) → ((k : ℕ) → k < length xs → P (get_or xs k 0)) → AllByRecursion P xs
+all_from P [] each = tt
+all_from P (x ∷ xs) each = (each 0 (omega arith), all_from P xs (λ k h. each (suc k) (omega arith)))

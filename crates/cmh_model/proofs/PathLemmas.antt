@@ -1,6 +1,7 @@
 -- Paths, piece by piece.
 use Rattle.std.proofs.Common.{ℕ, List, [], ◌∷◌, ◌++◌, refl, sym, subst}
-use Rattle.cmh_model.specs.Paths.{IsPath}
+use Rattle.cmh_model.specs.Paths.{IsPath, WaitsAmong}
+use Rattle.cmh_model.specs.Relation.{Relation}
 
 -- one or more waits lead from p to q
 abbrev pub LeadsTo : (ℕ → ℕ → Type 0) → ℕ → ℕ → Type 0
@@ -24,3 +25,8 @@ leads_on R p (x ∷ xs) q r h g = (x, xs ++ r ∷ [], h.0, path_join R x xs q (r
 -- one or more waits and then no or more
 pub leads_further : (R : ℕ → ℕ → Type 0) (p q : ℕ) (ys : List ℕ) (r : ℕ) → LeadsTo R p q → IsPath R q ys r → LeadsTo R p r
 leads_further R p q ys r h g = (h.0, h.1 ++ ys, h.2, path_join R h.0 h.1 q ys r h.3 g)
+
+-- a path among some processes that begins there ends there
+pub path_ends_here : (Here : ℕ → Type 0) (waits : Relation) (p : ℕ) (members : List ℕ) (q : ℕ) → Here p → IsPath (WaitsAmong Here waits) p members q → Here q
+path_ends_here Here waits p [] q here h = subst Here h here
+path_ends_here Here waits p (x ∷ xs) q here h = path_ends_here Here waits x xs q h.0.1 h.1

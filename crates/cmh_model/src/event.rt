@@ -1,6 +1,7 @@
 //! What happens at a controller.
 
-ghost use Rattle.std.specs.Prelude.{◌≡◌};
+ghost use Rattle.std.specs.Prelude.{◌≡◌, ◌↔◌, IsTrue};
+ghost use Rattle.cmh_model.specs.Rules.{IsAscending};
 
 use cmh_frames::{Frame, ProcId, SiteId};
 use std::marker::Model;
@@ -32,6 +33,13 @@ impl Targets {
     {
         &self.processes
     }
+}
+
+/// Whether each is less than the next, as the targets of an ask are.
+pub fn is_ascending(processes: &[ProcId]) -> bool
+    ensures { IsTrue result ↔ IsAscending processes.now }
+{
+    processes.is_sorted_by(|earlier, later| earlier < later)
 }
 
 /// What happens at a controller.

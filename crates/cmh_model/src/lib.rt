@@ -1,11 +1,11 @@
 //! The model of site controllers: what happens at one, what comes of it, and the definitions that every contract above cites.
 //!
-//! Nothing runs here. `specs/` is the part of the product that a reader has to believe; `docs/rules.md` explains it.
+//! Hardly anything runs here. `specs/` is the part of the product that a reader has to believe; `docs/rules.md` explains it.
 #![tactic(auto)]
 
 mod event;
 pub mod examples;
 mod journal;
 
-pub use crate::event::{Event, Targets};
+pub use crate::event::{Event, Targets, is_ascending};
 pub use crate::journal::{Entry, Outcome, Sendings, WorldEvent};

@@ -10,7 +10,7 @@ use Rattle.std.proofs.lemmas.List.Elements.{Contains-push, Contains-append_left,
 use Rattle.cmh_frames.specs.declared.frame.Frame.{Frame}
 use Rattle.cmh_frames.specs.declared.frame.Frame.TheVariants.{Probe}
 use Rattle.cmh_model.specs.Relation.{Relation, pair_cmp, has, has_some}
-use Rattle.cmh_model.specs.Paths.{IsPath, WaitsAmong}
+use Rattle.cmh_model.proofs.PathLemmas.{path_ends_here}
 use Rattle.cmh_waits.specs.Held.{Held, is_member, IsMember}
 use Rattle.cmh_rules.specs.Verdicts.{AreProbesOf, AreProbesFrom, Reaches, acts}
 
@@ -137,13 +137,9 @@ probes_are v reached origin from frames all p = record {
 
 -- ---- the processes in turn
 
-path_end : (v : Held) (p : ℕ) (members : List ℕ) (q : ℕ) → IsMember v p → IsPath (WaitsAmong (λ r. IsMember v r) v.waits) p members q → IsMember v q
-path_end v p [] q here h = subst (λ r. IsMember v r) h here
-path_end v p (x ∷ xs) q here h = path_end v x xs q h.0.1 h.1
-
 -- all that a process reaches are members
 pub are_members : (v : Held) (reached : List ℕ) (from : ℕ) → ((q : ℕ) → Contains reached q ↔ Reaches v from q) → (p : ℕ) → Contains reached p → IsMember v p
-are_members v reached from all p found = let r = (all p).0 found in path_end v from r.1.0 p r.0 r.1.1
+are_members v reached from all p found = let r = (all p).0 found in path_ends_here (λ q. IsMember v q) v.waits from r.1.0 p r.0 r.1.1
 
 -- a member is none of another site
 pub apart : (v : Held) (q to : ℕ) → IsMember v q → is_member v to ≡ false → q ≡ to → ⊥

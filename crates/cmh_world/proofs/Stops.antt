@@ -1,5 +1,5 @@
 -- A run that is stopped at each site.
-use Rattle.std.proofs.Common.{◌≡◌, ◌≢◌, ◌≤◌, ℕ, zero, suc, ◌-◌, List, [], ◌∷◌, ◌++◌, ◌==◌, if◌then◌else◌, refl, sym, ap, ◌∙◌, subst, inl, inr, length, take, drop, arith, append_assoc, take-append-drop, length-append, take_all}
+use Rattle.std.proofs.Common.{◌≡◌, ◌≢◌, ◌≤◌, ℕ, zero, suc, ◌-◌, List, [], ◌∷◌, ◌++◌, ◌==◌, if◌then◌else◌, refl, sym, ap, ◌∙◌, subst, inl, inr, length, take, drop, arith, take-append-drop, take_all}
 use Rattle.std.proofs.lemmas.List.{take-append-le}
 use Rattle.std.proofs.lemmas.Bool.{eq-eqb, ne_eqb, cases_eq, cases_lt}
 use Rattle.cmh_model.specs.declared.journal.Entry.{Entry}
@@ -9,17 +9,10 @@ use Rattle.cmh_model.specs.Runs.{entries_of, sendings, receipts, IsBeginningOf, 
 use Rattle.cmh_model.specs.Journals.{sendings_of, receipts_of, IsLawful}
 use Rattle.cmh_model.specs.Stops.{IsConsistent}
 use Rattle.cmh_model.specs.Laws.{StopsAnywhere}
+use Rattle.cmh_model.proofs.Beginnings.{beginning_trans, length-beginning}
 use Rattle.cmh_model.proofs.Journals.{entries_here, entries_elsewhere, entries_of-append, sendings_of-append, receipts_of-append, lawful_front}
 
 -- ---- beginnings
-
--- a beginning of a beginning is one
-begins_trans : {X : Type 0} (xs ys zs : List X) → IsBeginningOf xs ys → IsBeginningOf ys zs → IsBeginningOf xs zs
-begins_trans xs ys zs h g = (h.0 ++ g.0, sym (append_assoc xs h.0 g.0) ∙ ap (λ z. z ++ g.0) h.1 ∙ g.1)
-
--- a beginning is no longer
-begins_length : {X : Type 0} (xs ys : List X) → IsBeginningOf xs ys → length xs ≤ length ys
-begins_length xs ys h = let l = length-append xs h.0 in let m = ap length h.1 in omega arith
 
 -- of two beginnings of a list the shorter begins the longer
 shorter_begins : {X : Type 0} (xs ys zs : List X) → IsBeginningOf xs zs → IsBeginningOf ys zs → length xs ≤ length ys → IsBeginningOf xs ys
@@ -127,13 +120,13 @@ module _ (t : Topology) (events : List WorldEvent) (run : IsRun t events) (stop 
   in_order_within front begins a b =
       let parts : (s : ℕ) → entries_of s front ++ entries_of s begins.0 ≡ entries_of s events = λ s. sym (entries_of-append s front begins.0) ∙ ap (entries_of s) begins.1 in
       let got : IsBeginningOf (receipts_of a (take (stop b) (entries_of b front))) (sendings a b front) =
-      begins_trans _ (receipts a b front) _ (got_begins a _ _ (take_begins (stop b) (entries_of b front))) (run.in_order front begins a b) in
+      beginning_trans _ (receipts a b front) _ (got_begins a _ _ (take_begins (stop b) (entries_of b front))) (run.in_order front begins a b) in
       elim (cases_lt (stop a) (length (entries_of a front))) [
         | inr all ↦ subst (λ z. IsBeginningOf (receipts_of a (take (stop b) (entries_of b front))) (sendings_of b z)) (sym (take_all (stop a) (entries_of a front) all)) got
         | inl short ↦
             let same : take (stop a) (entries_of a events) ≡ take (stop a) (entries_of a front) = ap (take (stop a)) (sym (parts a)) ∙ take-append-le (stop a) (entries_of a front) (entries_of a begins.0) (omega arith) in
             let later : IsBeginningOf (take (stop b) (entries_of b front)) (take (stop b) (entries_of b events)) = subst (λ z. IsBeginningOf (take (stop b) (entries_of b front)) (take (stop b) z)) (parts b) (take_of_front (stop b) (entries_of b front) (entries_of b begins.0)) in
-            let fewer = begins_length _ _ (got_begins a _ _ later) in
+            let fewer = length-beginning _ _ (got_begins a _ _ later) in
             let bound = consistent a b in
             let long = ap (λ z. length (sendings_of b z)) same in
             shorter_begins _ _ (sendings a b front) got (sent_begins b _ _ (take_begins (stop a) (entries_of a front))) (omega arith)

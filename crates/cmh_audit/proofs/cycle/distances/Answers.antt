@@ -1,7 +1,7 @@
 use Rattle.std.proofs.Common.{◌≡◌, ◌<◌, ◌+◌, ℕ, List, [], ◌∷◌, ◌++◌, length, subst, sym, ap, ◌∙◌, arith}
 use Rattle.std.proofs.lemmas.Bool.{eqb-true, eqb-false}
 use Rattle.cmh_audit.specs.Levels.{MarksLevel}
-use Rattle.cmh_audit.proofs.Beginnings.{some_list, empty_list}
+use Rattle.cmh_model.proofs.Beginnings.{some_list, empty_list}
 use Rattle.cmh_audit.proofs.LevelLemmas.{IsLevel, level_start, level_more, level_smaller, level_end, level_bound}
 use Rattle.cmh_audit.proofs.cycle.distances.Goals as goal
 

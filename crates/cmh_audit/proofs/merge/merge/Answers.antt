@@ -1,6 +1,6 @@
 use Rattle.std.proofs.Common.{◌≡◌, ℕ, List, [], ◌∷◌, length, replicate, subst, sym, ap, ◌∙◌, refl, arith, true≢false, length-append, rules}
 use Rattle.cmh_audit.specs.Merging.{AreTried}
-use Rattle.cmh_audit.proofs.Beginnings.{empty_list}
+use Rattle.cmh_model.proofs.Beginnings.{empty_list}
 use Rattle.cmh_audit.proofs.CountLemmas.{length-limits}
 use Rattle.cmh_audit.proofs.MoveLemmas.{next_other}
 use Rattle.cmh_audit.proofs.ReadyLemmas.{Listed, listed_start, listed_end, listed_tries, place_in, looked_done, looked_past, looked_parked, looked_took, work_step}

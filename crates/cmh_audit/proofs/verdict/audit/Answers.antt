@@ -6,7 +6,7 @@ use Rattle.cmh_audit.specs.Journals.{entry_count}
 use Rattle.cmh_audit.specs.Stops.{stops_at, AreStops}
 use Rattle.cmh_audit.specs.Verdicts.{entries_before}
 use Rattle.cmh_audit.proofs.AuditLemmas.{set_few, tries_fit, all_left}
-use Rattle.cmh_audit.proofs.Beginnings.{empty_list, some_list}
+use Rattle.cmh_model.proofs.Beginnings.{empty_list, some_list}
 use Rattle.cmh_audit.proofs.CountingLemmas.{ascending_apart}
 use Rattle.cmh_audit.proofs.TryLemmas.{looks_made, no_stops}
 use Rattle.cmh_audit.proofs.StopLemmas.{are_stops, come_from, stops_refuse}
