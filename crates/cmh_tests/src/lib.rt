@@ -4,4 +4,6 @@
 #[cfg(test)]
 mod audit;
 #[cfg(test)]
+mod flushing;
+#[cfg(test)]
 mod play;

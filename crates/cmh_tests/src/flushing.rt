@@ -1,0 +1,107 @@
+//! What a command has written is flushed before it ends.
+
+use cmh_site::{Device, run_audit, run_play};
+use std::io;
+use std::io::{ErrorKind, Write};
+use std::test::Fail;
+
+/// Takes all that it is given, and keeps how much of it there was when it was flushed last.
+#[derive(Drop)]
+struct Held {
+    bytes: Vec<u8>,
+    flushed: usize,
+    can_flush: bool,
+}
+
+impl Write for Held {
+    fn write(&mut self, buf: &[u8]) -> io::Result<usize> {
+        self.bytes.extend_from_slice(buf)?;
+        Ok(buf.len())
+    }
+
+    fn flush(&mut self) -> io::Result<()> {
+        if !self.can_flush {
+            return Err(io::Error::from(ErrorKind::Other));
+        }
+        self.flushed = self.bytes.len();
+        Ok(())
+    }
+}
+
+/// How a command ended.
+#[derive(Drop)]
+struct Ended {
+    status: u8,
+    out: Held,
+    fault: Vec<u8>,
+}
+
+fn writer<R: AllocGlobal>(rt: &R, can_flush: bool) -> Held {
+    Held {
+        bytes: Vec::new(rt.alloc()),
+        flushed: 0,
+        can_flush,
+    }
+}
+
+fn play<R: AllocGlobal>(rt: &R, can_flush: bool) -> Ended {
+    let mut input = Device::new(b"site 1 1\nreport\n".as_slice());
+    let mut out = writer(rt, can_flush);
+    let mut fault = Vec::new(rt.alloc());
+    let status = run_play(
+        rt.alloc(),
+        &mut input,
+        &mut Device::new(&mut out),
+        &mut Device::new(&mut fault),
+    );
+    Ended { status, out, fault }
+}
+
+fn audit<R: AllocGlobal>(rt: &R, can_flush: bool) -> Result<Ended, Fail> {
+    let mut files = Vec::new(rt.alloc());
+    files.push(Vec::from_slice(rt.alloc(), b"CMHJ\x01\x00\x01")?)?;
+    let mut out = writer(rt, can_flush);
+    let mut fault = Vec::new(rt.alloc());
+    let status = run_audit(
+        rt.alloc(),
+        br#"{"edition":1,"sites":[{"site":1,"processes":[1]}]}"#,
+        &files,
+        &mut Device::new(&mut out),
+        &mut Device::new(&mut fault),
+    );
+    Ok(Ended { status, out, fault })
+}
+
+#[test]
+fn answers_are_flushed_at_the_end_of_a_script(rt: HostRuntime) {
+    let ended = play(&rt, true);
+    assert_eq!(rt; ended.status, 0);
+    assert!(rt; ended.out.bytes.as_slice() == b"ok\naccepted\nevents 0\n".as_slice());
+    assert_eq!(rt; ended.out.flushed, ended.out.bytes.len());
+    assert!(rt; ended.fault.is_empty());
+}
+
+#[test]
+fn a_script_whose_answers_cannot_be_flushed_ends_with_status_3(rt: HostRuntime) {
+    let ended = play(&rt, false);
+    assert_eq!(rt; ended.status, 3);
+    assert!(rt; ended.fault.as_slice() == b"fault output\n".as_slice());
+}
+
+#[test]
+fn a_verdict_is_flushed(rt: HostRuntime) -> Result<(), Fail> {
+    let ended = audit(&rt, true)?;
+    assert_eq!(rt; ended.status, 0);
+    assert!(rt; ended.out.bytes.as_slice() == b"accepted\nevents 0\n".as_slice());
+    assert_eq!(rt; ended.out.flushed, ended.out.bytes.len());
+    assert!(rt; ended.fault.is_empty());
+    Ok(())
+}
+
+#[test]
+fn a_verdict_that_cannot_be_flushed_ends_with_status_3(rt: HostRuntime) -> Result<(), Fail> {
+    let ended = audit(&rt, false)?;
+    assert_eq!(rt; ended.status, 3);
+    assert!(rt; ended.fault.as_slice() == b"fault output\n".as_slice());
+    Ok(())
+}
