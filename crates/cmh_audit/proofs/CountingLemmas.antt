@@ -6,6 +6,7 @@ use Rattle.std.proofs.lemmas.List.Kept.{AllPairs-from_increasing}
 use Rattle.std.specs.Prelude.{Contains}
 use Rattle.std.specs.List.{AllPairs, AllByRecursion}
 use Rattle.std.specs.List.Sorted.{IsStrictlyIncreasing}
+use Rattle.cmh_model.proofs.Members.{no_member}
 use Rattle.cmh_frames.specs.declared.frame.Frame.{Frame}
 use Rattle.cmh_frames.specs.declared.edition.Edition.{Edition}
 use Rattle.cmh_frames.specs.declared.edition.Edition.TheVariants.{One, Two}
@@ -17,7 +18,7 @@ use Rattle.cmh_journal.specs.Entries.{event_spelling, sendings_spelling, declara
 use Rattle.cmh_audit.specs.Journals.{journal_of, entry_count, NoneAt, OneEach}
 use Rattle.cmh_audit.specs.Sums.{in_entries, in_journals}
 use Rattle.cmh_audit.specs.Transit.{sum_over, sent_count}
-use Rattle.cmh_audit.proofs.Members.{contains_rest, no_member}
+use Rattle.cmh_audit.proofs.Members.{contains_rest}
 use Rattle.cmh_audit.proofs.Sums.{journals_more}
 
 -- ---- entries

@@ -3,10 +3,11 @@ use Rattle.std.proofs.Common.{◌≡◌, ℕ, zero, suc, ◌+◌, ◌-◌, ◌<�
 use Rattle.std.specs.Prelude.{Contains}
 use Rattle.std.specs.BTreeMap.{BTreeMap}
 use Rattle.std.proofs.lemmas.Bool.{cases_lt}
+use Rattle.cmh_model.proofs.Choices.{some_eq}
 use Rattle.cmh_audit.specs.Cycles.{WaitsIn, Leads, IsCycleIn, NotAbove, ComesFirst, distance_of, AreDistances}
 use Rattle.cmh_audit.specs.Levels.{IsLeast, at_distance}
 use Rattle.cmh_model.proofs.Beginnings.{empty_list}
-use Rattle.cmh_audit.proofs.LeastLemmas.{some_eq, none_is, at_left, took_process}
+use Rattle.cmh_audit.proofs.LeastLemmas.{none_is, at_left, took_process}
 
 -- these are the holders for which v waits
 abbrev pub AreHolders : List (ℕ × ℕ) → ℕ → List ℕ → Type 0

@@ -6,9 +6,10 @@ use Rattle.std.specs.BTreeMap.{get, is_at}
 use Rattle.std.specs.Map.{lookup}
 use Rattle.std.specs.Global.{Global}
 use Rattle.std.proofs.lemmas.Bool.{cases_eq, eq-eqb, ne_eqb, eqb-true}
+use Rattle.cmh_model.proofs.Members.{no_member}
 use Rattle.cmh_audit.specs.Graphs.{Index, items_in, listed_at, ListsHolders, ListsAskers}
 use Rattle.cmh_audit.proofs.LinkLemmas.{is_eq-nat_cmp}
-use Rattle.cmh_audit.proofs.Members.{contains_left, contains_last, contains_push, no_member, looked_at, looked_before, looked_now, looked_all, looked_within}
+use Rattle.cmh_audit.proofs.Members.{contains_left, contains_last, contains_push, looked_at, looked_before, looked_now, looked_all, looked_within}
 
 -- the key has this list, and the others theirs
 pub listed_more : (old new : Index) (key process : ℕ) (list : Vec ℕ Global) → ((q : ℕ) → get nat_cmp new q ≡ cond (is_at (nat_cmp key) q) (Some list) (get nat_cmp old q)) → list.items ≡ listed_at old key ++ process ∷ [] →

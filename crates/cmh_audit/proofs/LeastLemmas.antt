@@ -5,11 +5,9 @@ use Rattle.std.specs.Option.{option_eq}
 use Rattle.std.specs.BTreeMap.{BTreeMap}
 use Rattle.std.proofs.lemmas.Bool.{cases_eq, cases_lt, eq-eqb, eqb-true}
 use Rattle.std.proofs.lemmas.List.{get_or_default}
+use Rattle.cmh_model.proofs.Choices.{some_eq}
 use Rattle.cmh_audit.specs.Cycles.{distance_of}
 use Rattle.cmh_audit.specs.Levels.{lesser, IsLeast, at_distance}
-
-pub some_eq : (x y : ℕ) → Some x ≡ Some y → x ≡ y
-some_eq x y h = cc
 
 pub none_is : (b : ℕ) → None ≡ Some b → ⊥
 none_is b h = cc

@@ -5,11 +5,13 @@ use Rattle.std.specs.Ordering.{nat_cmp}
 use Rattle.std.specs.BTreeMap.{get, BTreeMap, is_at}
 use Rattle.std.specs.Map.{lookup}
 use Rattle.std.proofs.lemmas.Bool.{cases_eq, cases_lt, eq-eqb, ne_eqb}
+use Rattle.cmh_model.proofs.Choices.{some_eq}
+use Rattle.cmh_model.proofs.Members.{no_member}
 use Rattle.cmh_audit.specs.Cycles.{WaitsIn, Leads, distance_of, AreDistances}
 use Rattle.cmh_audit.specs.Levels.{unmarked, Marks, MarksLevel}
-use Rattle.cmh_audit.proofs.LeastLemmas.{some_eq, none_is}
+use Rattle.cmh_audit.proofs.LeastLemmas.{none_is}
 use Rattle.cmh_audit.proofs.LinkLemmas.{is_eq-nat_cmp}
-use Rattle.cmh_audit.proofs.Members.{contains_left, contains_last, contains_push, no_member, looked_at, looked_before, looked_now, looked_all, looked_within}
+use Rattle.cmh_audit.proofs.Members.{contains_left, contains_last, contains_push, looked_at, looked_before, looked_now, looked_all, looked_within}
 
 -- the new table has n at k, and at others what the old one has
 abbrev pub SetsAt : BTreeMap ℕ ℕ → BTreeMap ℕ ℕ → ℕ → ℕ → Type 0

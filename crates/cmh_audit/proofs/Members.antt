@@ -30,9 +30,6 @@ contains_rest {X = X} x y ys ne c = go c.0 c.1 c.2
     go zero l e = absurd (ne e)
     go (suc k) l e = (k, omega arith, e)
 
-pub no_member : {X : Type 0} (k : X) → Contains [] k → ⊥
-no_member k c = let l = c.1 in let z : c.0 < 0 = l in absurd (omega (arith, z))
-
 -- one more member of a list is looked at
 module _ {X : Type 0} (xs : List X) (i : ℕ) (x : X) (l : i < length xs) (here : x ≡ get_or xs i x) where
   taken : take (i + 1) xs ≡ take i xs ++ x ∷ []

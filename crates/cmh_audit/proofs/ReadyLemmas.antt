@@ -4,6 +4,7 @@ use Rattle.std.specs.Prelude.{Contains, nat_eq}
 use Rattle.std.specs.Option.{option_eq}
 use Rattle.std.proofs.lemmas.Bool.{cases_eq, eq-eqb, ne_eqb}
 use Rattle.std.proofs.lemmas.List.{drop_all, get_or_read, get_or_default, get_or-set_same, get_or-set_other}
+use Rattle.cmh_model.proofs.Members.{no_member}
 use Rattle.cmh_frames.specs.declared.frame.Frame.{Frame}
 use Rattle.cmh_frames.specs.Topology.{Topology}
 use Rattle.cmh_model.specs.declared.event.Event.{Event}
@@ -17,7 +18,7 @@ use Rattle.cmh_audit.specs.Links.{Links, waiting}
 use Rattle.cmh_audit.specs.Merging.{AreLawfulLengths, IsStuck, IsNext, Moves, total, AreTried}
 use Rattle.cmh_audit.specs.Ready.{Wakes, ArePlaces}
 use Rattle.cmh_audit.proofs.CountLemmas.{total-set, total-none, total-le, none_at, limit_here, length-limits}
-use Rattle.cmh_audit.proofs.Members.{contains_left, contains_last, contains_push, no_member}
+use Rattle.cmh_audit.proofs.Members.{contains_left, contains_last, contains_push}
 use Rattle.cmh_audit.proofs.TryLemmas.{tried_start, tried_failed, tried_whole, tried_took}
 use Rattle.cmh_audit.proofs.MergeLemmas.{Merging, merging_start, merging_more, stuck_at_limit, stuck_at_frame, all_stuck}
 

@@ -10,13 +10,9 @@ use Rattle.cmh_model.specs.Rules.{after}
 use Rattle.cmh_model.specs.Journals.{LawfulFrom, IsLawful, sendings_of, receipts_of}
 use Rattle.cmh_model.specs.Runs.{IsBeginningOf, entries_of, sendings, receipts, IsRun}
 use Rattle.cmh_model.proofs.Effects.{none_from_own}
-use Rattle.cmh_model.proofs.Journals.{entries_here, entries_elsewhere, entries_of-append, sendings_of-append, lawful_front}
+use Rattle.cmh_model.proofs.Journals.{entries_here, entries_elsewhere, entries_of-append, lawful_front}
 use Rattle.cmh_audit.specs.Merging.{CanGrow}
-use Rattle.cmh_model.proofs.Beginnings.{beginning_refl, beginning_nil, beginning_trans, beginning_push, beginning_more, grow}
-
--- more entries send more
-pub sendings_of-beginning : (b : ℕ) (xs ys : List Entry) → IsBeginningOf xs ys → IsBeginningOf (sendings_of b xs) (sendings_of b ys)
-sendings_of-beginning b xs ys p = (sendings_of b p.0, sym (sendings_of-append b xs p.0) ∙ ap (sendings_of b) p.1)
+use Rattle.cmh_model.proofs.Beginnings.{beginning_refl, beginning_nil, beginning_trans, beginning_push, beginning_more, grow, sendings_of-beginning}
 
 pub entries_of-beginning : (site : ℕ) (xs ys : List WorldEvent) → IsBeginningOf xs ys → IsBeginningOf (entries_of site xs) (entries_of site ys)
 entries_of-beginning site xs ys p = (entries_of site p.0, sym (entries_of-append site xs p.0) ∙ ap (entries_of site) p.1)

@@ -4,6 +4,7 @@ use Rattle.std.proofs.lemmas.List.{drop_all}
 use Rattle.std.specs.Prelude.{Contains, IsSome}
 use Rattle.std.specs.List.{list_any, AllByRecursion}
 use Rattle.std.proofs.lemmas.Bool.{cases_Bool}
+use Rattle.cmh_model.proofs.Choices.{some_eq}
 use Rattle.cmh_frames.specs.declared.frame.Frame.{Frame}
 use Rattle.cmh_frames.specs.declared.frame.Frame.TheVariants.{Request, Reply as Reply_frame, Probe}
 use Rattle.cmh_frames.specs.Topology.{Topology, home, home_in, At, is_at, site_of, sites_of, is_site}
@@ -29,10 +30,7 @@ is_home [] p s h = absurd (cc)
 is_home (row ∷ rows) p s h = go (list_any (λ q. q == p) row.1) h (λ g. is_home rows p s g)
   where
     go : (t : Bool) → (if t then Some row.0 else home_in rows p) ≡ Some s → (home_in rows p ≡ Some s → Contains (map (λ (row : ℕ × List ℕ). row.0) rows) s) → Contains (row.0 ∷ map (λ (row : ℕ × List ℕ). row.0) rows) s
-    go true g more = (0, omega arith, same row.0 s g)
-      where
-        same : (x y : ℕ) → Some x ≡ Some y → x ≡ y
-        same x y e = cc
+    go true g more = (0, omega arith, some_eq row.0 s g)
     go false g more = let c = more g in (suc c.0, let l = c.1 in omega (arith, l), c.2)
 
 module _ (t : Topology) where

@@ -4,6 +4,7 @@ use Rattle.std.specs.Prelude.{Contains, nat_lt}
 use Rattle.std.specs.List.{AllByRecursion}
 use Rattle.std.proofs.lemmas.Bool.{cases_eq, cases_lt, cases_Bool, ltb-true}
 use Rattle.std.proofs.lemmas.List.{get_or_default, get_or-set_other}
+use Rattle.cmh_model.proofs.Members.{no_member}
 use Rattle.cmh_frames.specs.Topology.{Topology, sites_of}
 use Rattle.cmh_model.specs.declared.journal.Entry.{Entry}
 use Rattle.cmh_journal.specs.Journal.{Journal}
@@ -15,7 +16,7 @@ use Rattle.cmh_audit.specs.Stops.{before_stop, stops_at}
 use Rattle.cmh_audit.specs.Verdicts.{entries_before}
 use Rattle.cmh_audit.proofs.CountLemmas.{total-set, total-none, taken_here, journal_here, found}
 use Rattle.cmh_audit.proofs.CountingLemmas.{Fresh, Apart, without, without_length, without_keeps}
-use Rattle.cmh_audit.proofs.Members.{contains_left, contains_last, contains_push, no_member}
+use Rattle.cmh_audit.proofs.Members.{contains_left, contains_last, contains_push}
 use Rattle.cmh_audit.proofs.StopLemmas.{before_is}
 
 -- at first no look was made, and all are on the list

@@ -1,14 +1,15 @@
 -- Turns of waits, and what they come to at the end of a run.
-use Rattle.std.proofs.Common.{◌≡◌, ℕ, zero, suc, ◌+◌, ◌<◌, ◌==◌, ◌&&◌, ◌||◌, ◌↔◌, not, Bool, true, false, cond, List, [], ◌∷◌, ◌++◌, length, take, get_or, sym, ap, refl, ◌∙◌, if◌then◌else◌, arith}
+use Rattle.std.proofs.Common.{◌≡◌, ℕ, zero, suc, ◌+◌, ◌<◌, ◌==◌, ◌&&◌, ◌↔◌, not, Bool, true, false, cond, List, [], ◌∷◌, ◌++◌, length, take, get_or, sym, ap, refl, ◌∙◌, if◌then◌else◌, arith}
 use Rattle.std.specs.Prelude.{Contains}
 use Rattle.std.specs.List.{list_any, AllByRecursion}
 use Rattle.std.specs.Ordering.{nat_cmp, is_eq}
 use Rattle.std.specs.BTreeSet.{BTreeSet, contains}
 use Rattle.std.specs.BTreeMap.{is_at}
-use Rattle.std.proofs.lemmas.Bool.{ne_eqb, eqb-true}
+use Rattle.std.proofs.lemmas.Bool.{ne_eqb}
 use Rattle.std.proofs.lemmas.List.{take_more}
 use Rattle.std.proofs.lemmas.Map.Lookups.{CmpEqualImpliesEq, exact_pairs, exact_unsigned}
 use Rattle.std.proofs.lemmas.Map.Views.{btree_set_contains_iff}
+use Rattle.cmh_model.proofs.Sent.{count_ascending}
 use Rattle.cmh_frames.specs.Topology.{Topology}
 use Rattle.cmh_model.specs.declared.event.Event.{Event}
 use Rattle.cmh_model.specs.declared.event.Event.TheVariants.{Ask, Reply, Start, Got}
@@ -16,7 +17,7 @@ use Rattle.cmh_model.specs.declared.journal.Entry.{Entry}
 use Rattle.cmh_model.specs.declared.journal.WorldEvent.{WorldEvent}
 use Rattle.cmh_model.specs.Relation.{pair_cmp}
 use Rattle.cmh_model.specs.State.{State, empty_state}
-use Rattle.cmh_model.specs.Rules.{Accepts, after, IsAscending}
+use Rattle.cmh_model.specs.Rules.{Accepts, after}
 use Rattle.cmh_model.specs.Journals.{LawfulFrom}
 use Rattle.cmh_model.specs.Runs.{IsRun, ComesFrom, entries_of}
 use Rattle.cmh_model.specs.Waits.{asks_for, grants, wait_after}
@@ -91,15 +92,6 @@ above_none x k (y ∷ ys) above e =
     let b = ap bit (ne_eqb y k n) in
     omega (arith, h, b)
 
--- what ascends names each once
-once : (k : ℕ) (xs : List ℕ) → IsAscending xs → count_of (λ q. q == k) xs ≡ bit (list_any (λ q. q == k) xs)
-once k [] ascends = refl
-once k (x ∷ xs) ascends = go (x == k) refl (once k xs ascends.1)
-  where
-    go : (t : Bool) → (x == k) ≡ t → count_of (λ q. q == k) xs ≡ bit (list_any (λ q. q == k) xs) → bit t + count_of (λ q. q == k) xs ≡ bit (t || list_any (λ q. q == k) xs)
-    go true e h = let none = above_none x k xs ascends.0 (eqb-true x k e) in omega (arith, none)
-    go false e h = omega (arith, h)
-
 -- an ask or a reply of the two
 abbrev pub speaks : ℕ → ℕ → Entry → ℕ
 speaks j k e = bit (asks_for j k e.event) + bit (grants k j e.event)
@@ -108,7 +100,7 @@ turns_once : (t : Topology) (s : ℕ) (v : State) (j k : ℕ) (event : Event) �
 turns_once t s v j k (Ask asker targets) accepted = go (asker == j)
   where
     go : (t : Bool) → (if t then count_of (λ q. q == k) targets else 0) ≡ bit (t && list_any (λ q. q == k) targets) + bit false
-    go true = let h = once k targets accepted.2.ascending in omega (arith, h)
+    go true = let h = count_ascending k targets accepted.2.ascending in omega (arith, h)
     go false = omega arith
 turns_once t s v j k (Reply holder asker) accepted = omega arith
 turns_once t s v j k (Start i) accepted = omega arith

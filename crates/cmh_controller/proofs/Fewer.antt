@@ -1,5 +1,5 @@
 -- What a removed wait leaves of the other sets.
-use Rattle.std.proofs.Common.{inl, inr, ◌≡◌, ◌≢◌, ℕ, Bool, true, false, not, ◌&&◌, ◌==◌, refl, sym, ap, ◌∙◌, true≢false}
+use Rattle.std.proofs.Common.{inl, inr, ◌≡◌, ◌≢◌, ℕ, Bool, true, false, not, ◌&&◌, ◌==◌, refl, sym, ap, ◌∙◌}
 use Rattle.std.proofs.lemmas.Bool.{cases_eq, and_parts, eq-eqb, ne_eqb}
 use Rattle.cmh_model.specs.Relation.{Relation, has_some, without_pair, only_firsts}
 use Rattle.cmh_model.proofs.Pairs.{only-same, only-all, others_wait}
@@ -28,11 +28,6 @@ dependents_kept deps waits a h here = only-all deps _ (λ p. elim (cases_eq p a)
   | inl e ↦ ap (keeps waits a h) e ∙ here
   | inr e ↦ keeps_other waits a h p e
 ])
-
-pub still_blocked : (a b : Bool) → b ≡ true → not (a && not b) ≡ true
-still_blocked true true e = refl
-still_blocked false true e = refl
-still_blocked a false e = absurd (true≢false (sym e))
 
 pub was_active : (a b : Bool) → a ≡ false → not (a && not b) ≡ true
 was_active a b e = ap (λ x. not (x && not b)) e

@@ -1,20 +1,16 @@
 -- What a site holds is of its topology, at first and after each call.
-use Rattle.std.proofs.Common.{inl, inr, ◌≡◌, ◌≢◌, ◌↔◌, ℕ, Bool, true, false, true≢false, not, ◌&&◌, ◌==◌, cond, List, [], ◌∷◌, Some, IsSome, refl, sym, ◌∙◌, subst}
+use Rattle.std.proofs.Common.{inl, inr, ◌≡◌, ◌≢◌, ◌↔◌, ℕ, true, false, true≢false, ◌==◌, cond, List, [], ◌∷◌, IsSome, sym, ◌∙◌, subst}
 use Rattle.std.specs.List.{AllByRecursion, list_any}
-use Rattle.std.proofs.lemmas.Bool.{cases_Bool, cases_eq, or_cases, and_parts, eqb-true}
+use Rattle.std.proofs.lemmas.Bool.{cases_Bool, cases_eq, or_cases, eqb-true}
+use Rattle.cmh_model.proofs.Lawful.{without_old}
+use Rattle.cmh_model.proofs.Choices.{same_bool, some_eq}
 use Rattle.cmh_frames.specs.Topology.{Topology, At, home, is_at}
-use Rattle.cmh_model.specs.Relation.{Relation, has, with_each, without_pair}
+use Rattle.cmh_model.specs.Relation.{has, with_each, without_pair}
 use Rattle.cmh_model.specs.Rules.{AreTargets}
-use Rattle.cmh_model.proofs.Pairs.{has-empty, has-with_each, has-with_each_other, has-without}
+use Rattle.cmh_model.proofs.Pairs.{has-empty, has-with_each, has-with_each_other}
 use Rattle.cmh_model.proofs.Places.{is_at-yes, at_from-is_at}
 use Rattle.cmh_waits.specs.Held.{Held, IsMember, is_member, nothing_held, asked, replied, got_reply}
 use Rattle.cmh_controller.specs.Controller.{IsOfSite}
-
--- two tests that answer true in the same cases are equal
-same_test : (a b : Bool) → (a ≡ true → b ≡ true) → (b ≡ true → a ≡ true) → a ≡ b
-same_test true b f g = sym (f refl)
-same_test false true f g = absurd (true≢false (sym (g refl)))
-same_test false false f g = refl
 
 -- ---- members
 
@@ -26,18 +22,15 @@ here_member t s held p site m = at_from-is_at t p s (sym (site.members p) ∙ m)
 
 pub elsewhere : (t : Topology) (s a : ℕ) (held : Held) (p : ℕ) → IsOfSite t s held → At t p a → a ≢ s → is_member held p ≡ false
 elsewhere t s a held p site there other = elim (cases_Bool (is_member held p)) [
-  | inl e ↦ absurd (other (one (sym there ∙ here_member t s held p site e)))
+  | inl e ↦ absurd (other (some_eq _ _ (sym there ∙ here_member t s held p site e)))
   | inr e ↦ e
 ]
-  where
-    one : {x y : ℕ} → Some x ≡ Some y → x ≡ y
-    one e = cc
 
 -- ---- the states of a site
 
 pub empty_site : (t : Topology) (s : ℕ) (members : List ℕ) → ((p : ℕ) → (list_any (λ q. q == p) members ≡ true) ↔ At t p s) → IsOfSite t s (nothing_held members)
 empty_site t s members at = record {
-  members = λ p. same_test (list_any (λ q. q == p) members) (is_at t p s) (λ m. is_at-yes t p s ((at p).0 m)) (λ h. (at p).1 (at_from-is_at t p s h));
+  members = λ p. same_bool (list_any (λ q. q == p) members) (is_at t p s) (λ m. is_at-yes t p s ((at p).0 m)) (λ h. (at p).1 (at_from-is_at t p s h));
   known = λ j k h. absurd (true≢false (sym h ∙ has-empty j k));
 }
 
@@ -62,20 +55,17 @@ asked_site t s held asker targets site are = record {
   ];
 }
 
-was_there : (r : Relation) (a b x y : ℕ) → has (without_pair r a b) x y ≡ true → has r x y ≡ true
-was_there r a b x y h = (and_parts (not ((x == a) && (y == b))) (has r x y) (sym (has-without r a b x y) ∙ h)).1
-
 pub got_reply_site : (t : Topology) (s : ℕ) (held : Held) (asker holder : ℕ) → IsOfSite t s held → IsOfSite t s (got_reply held asker holder)
 got_reply_site t s held asker holder site = record {
   members = site.members;
-  known = λ j k h. site.known j k (was_there held.waits asker holder j k h);
+  known = λ j k h. site.known j k (without_old held.waits asker holder j k h);
 }
 
 pub replied_site : (t : Topology) (s : ℕ) (held : Held) (holder asker : ℕ) → IsOfSite t s held → IsOfSite t s (replied held holder asker)
 replied_site t s held holder asker site = record {
   members = site.members;
   known = λ j k h. elim (cases_Bool (is_member held asker)) as (λ _. IsSome (home t k)) [
-    | inl e ↦ site.known j k (was_there held.waits asker holder j k (subst (λ b. has (cond b (without_pair held.waits asker holder) held.waits) j k ≡ true) e h))
+    | inl e ↦ site.known j k (without_old held.waits asker holder j k (subst (λ b. has (cond b (without_pair held.waits asker holder) held.waits) j k ≡ true) e h))
     | inr e ↦ site.known j k (subst (λ b. has (cond b (without_pair held.waits asker holder) held.waits) j k ≡ true) e h)
   ];
 }

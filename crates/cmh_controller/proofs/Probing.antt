@@ -1,8 +1,9 @@
 -- The probes of a verdict are those of the rules.
-use Rattle.std.proofs.Common.{inl, inr, if◌then◌else◌, suc, ◌≡◌, ℕ, ◌<◌, Bool, true, false, true≢false, List, [], ◌∷◌, ◌++◌, map, length, Contains, Option, None, Some, IsSome, MatchBool, refl, sym, ap, ◌∙◌, subst, arith}
+use Rattle.std.proofs.Common.{inl, inr, if◌then◌else◌, suc, ◌≡◌, ℕ, ◌<◌, true, false, true≢false, List, [], ◌∷◌, ◌++◌, map, length, Contains, Option, None, Some, IsSome, refl, sym, ap, ◌∙◌, subst, arith}
 use Rattle.std.specs.FinSet as set
 use Rattle.std.specs.List.{AllByRecursion}
 use Rattle.std.proofs.lemmas.List.{append-nil}
+use Rattle.cmh_model.proofs.Choices.{match_true, match_false}
 use Rattle.cmh_frames.specs.declared.frame.Frame.{Frame}
 use Rattle.cmh_frames.specs.declared.frame.Frame.TheVariants.{Probe}
 use Rattle.cmh_frames.specs.Edition.{starts_at_ask}
@@ -19,12 +20,6 @@ use Rattle.cmh_controller.specs.Controller.{IsOfSite, state_of}
 use Rattle.cmh_controller.specs.Destinations.{addressed, receiver_of}
 use Rattle.cmh_controller.specs.Beginnings.{Begins}
 use Rattle.cmh_controller.proofs.OfSite.{member_here, here_member, elsewhere}
-
-match_true : (b : Bool) (P Q : Type 0) → b ≡ true → P → MatchBool b P Q
-match_true b P Q e p = subst (λ x. MatchBool x P Q) (sym e) p
-
-match_false : (b : Bool) (P Q : Type 0) → b ≡ false → Q → MatchBool b P Q
-match_false b P Q e q = subst (λ x. MatchBool x P Q) (sym e) q
 
 module _ (t : Topology) (s : ℕ) (held : Held) (site : IsOfSite t s held) where
   waits_here : (x y : ℕ) → WaitsAmong (λ r. IsMember held r) held.waits x y → WaitsLocally t s held.waits x y

@@ -1,17 +1,11 @@
 -- The place of a member in an ascending list.
-use Rattle.std.proofs.Common.{◌≡◌, ℕ, ◌<◌, ◌≤◌, inl, inr, List, length, get_or, sym, ap, ◌∙◌, arith, nat_cmp, Ok, Err}
+use Rattle.std.proofs.Common.{◌≡◌, ℕ, ◌<◌, inl, inr, List, length, get_or, sym, ◌∙◌, arith, nat_cmp, Ok, Err}
 use Rattle.std.specs.List.{Contains}
 use Rattle.std.specs.List.Sorted.{IsStrictlyIncreasing, IsBinarySearchResult}
 use Rattle.std.proofs.lemmas.List.{get_or_default}
 use Rattle.std.proofs.lemmas.List.Sorted.{searched}
-use Rattle.std.proofs.lemmas.Map.Keys.{sorted_from_strictly_increasing, below_from_sorted}
-use Rattle.std.proofs.lemmas.Bool.{cases_eq, cases_lt}
-
-pub not_decreasing : (xs : List ℕ) → IsStrictlyIncreasing xs → (i j : ℕ) → i ≤ j → j < length xs → get_or xs i 0 ≤ get_or xs j 0
-not_decreasing xs up i j le below = elim (cases_eq i j) [
-  | inl e ↦ let same : get_or xs i 0 ≡ get_or xs j 0 = ap (λ k. get_or xs k 0) e in omega arith
-  | inr e ↦ let less : get_or xs i 0 < get_or xs j 0 = below_from_sorted xs i j 0 (sorted_from_strictly_increasing xs up) (omega arith) below in omega arith
-]
+use Rattle.cmh_model.proofs.Members.{not_decreasing}
+use Rattle.std.proofs.lemmas.Bool.{cases_lt}
 
 -- a binary search finds a member
 pub found_place : (xs : List ℕ) (x i : ℕ) → IsStrictlyIncreasing xs → IsBinarySearchResult (λ y. nat_cmp y x) xs (Ok i) → get_or xs i 0 ≡ x

@@ -1,7 +1,10 @@
 -- Lemmas on beginnings of lists.
-use Rattle.std.proofs.Common.{◌≡◌, ◌≤◌, ◌<◌, List, [], ◌∷◌, ◌++◌, length, ◌⊎◌, inl, inr, subst, sym, ap, refl, ◌∙◌, append_assoc, append-nil, arith, length-append}
+use Rattle.std.proofs.Common.{◌≡◌, ℕ, ◌≤◌, ◌<◌, List, [], ◌∷◌, ◌++◌, length, ◌⊎◌, inl, inr, subst, sym, ap, refl, ◌∙◌, append_assoc, append-nil, arith, length-append}
 use Rattle.std.proofs.lemmas.List.{append_cancel_left}
+use Rattle.cmh_model.specs.declared.journal.Entry.{Entry}
+use Rattle.cmh_model.specs.Journals.{sendings_of}
 use Rattle.cmh_model.specs.Runs.{IsBeginningOf}
+use Rattle.cmh_model.proofs.Journals.{sendings_of-append}
 
 pub beginning_refl : {X : Type 0} (xs : List X) → IsBeginningOf xs xs
 beginning_refl xs = ([], append-nil xs)
@@ -74,3 +77,7 @@ empty_list (x ∷ xs) h = absurd (omega arith)
 pub some_list : {X : Type 0} (xs : List X) → (length xs ≡ 0 → ⊥) → 0 < length xs
 some_list [] h = absurd (h refl)
 some_list (x ∷ xs) h = omega arith
+
+-- what a beginning of a journal sends begins what the journal sends
+pub sendings_of-beginning : (b : ℕ) (xs ys : List Entry) → IsBeginningOf xs ys → IsBeginningOf (sendings_of b xs) (sendings_of b ys)
+sendings_of-beginning b xs ys p = (sendings_of b p.0, sym (sendings_of-append b xs p.0) ∙ ap (sendings_of b) p.1)

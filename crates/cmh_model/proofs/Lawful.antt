@@ -1,7 +1,8 @@
 -- What holds of the state of a lawful journal.
-use Rattle.std.proofs.Common.{◌≡◌, ◌⊎◌, ℕ, Bool, true, false, not, ◌&&◌, List, [], ◌∷◌, ◌==◌, if◌then◌else◌, refl, sym, ap, ◌∙◌, subst, inl, inr, true≢false, Option, arith}
+use Rattle.std.proofs.Common.{◌≡◌, ◌⊎◌, ℕ, Bool, true, false, not, ◌&&◌, List, [], ◌∷◌, ◌==◌, if◌then◌else◌, sym, ap, ◌∙◌, subst, inl, inr, true≢false, Option, arith}
 use Rattle.std.specs.List.{list_any}
 use Rattle.std.proofs.lemmas.Bool.{eq-eqb, and_parts, and_from, or_cases, cases_eq, cases_Bool}
+use Rattle.cmh_model.proofs.Choices.{and_yes}
 use Rattle.cmh_frames.specs.declared.frame.Frame.TheVariants.{Request, Reply as Reply_frame, Probe}
 use Rattle.cmh_model.specs.declared.event.Event.{Event}
 use Rattle.cmh_model.specs.declared.event.Event.TheVariants.{Ask, Reply, Start, Got}
@@ -22,7 +23,7 @@ use Rattle.cmh_model.proofs.Bits.{bit_zero, bit_one}
 use Rattle.cmh_model.proofs.Narrow.{narrow_first, narrow_after}
 
 -- what a smaller relation has the greater one had
-without_old : (r : Relation) (a b x y : ℕ) → has (without_pair r a b) x y ≡ true → has r x y ≡ true
+pub without_old : (r : Relation) (a b x y : ℕ) → has (without_pair r a b) x y ≡ true → has r x y ≡ true
 without_old r a b x y h = (and_parts (not ((x == a) && (y == b))) (has r x y) (sym (has-without r a b x y) ∙ h)).1
 
 -- a wait was there before or begins
@@ -75,11 +76,6 @@ owed_means t s v (Got a (Probe (o, f, g))) d k j acc h = inl (sym (ap (λ r. has
 same_bit : (x y : Bool) → bit x ≡ bit y → x ≡ y
 same_bit true y h = sym (bit_one y 0 (sym h))
 same_bit false y h = sym (bit_zero y (sym h))
-
--- beside what is true
-and_yes : (x y : Bool) → y ≡ true → (x && y) ≡ x
-and_yes true y h = h
-and_yes false y h = refl
 
 -- after an accepted event no process waits for more than an ask may name, where none did
 pub stays_narrow : (t : Topology) (s : ℕ) (v : State) (ev : Event) (d : Option ℕ) → Accepts t s v ev → IsNarrow (target_limit t.edition) v.waits → IsNarrow (target_limit t.edition) (after t s v ev d).waits

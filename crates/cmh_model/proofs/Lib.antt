@@ -1,6 +1,7 @@
 pub mod Ascending
 pub mod Beginnings
 pub mod Bits
+pub mod Choices
 pub mod PathLemmas
 pub mod Pairs
 pub mod Members

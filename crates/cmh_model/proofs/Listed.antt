@@ -1,8 +1,9 @@
 -- Relations that are given by lists of pairs: what they have can be read off the list.
-use Rattle.std.proofs.Common.{◌≡◌, ℕ, Bool, true, false, ◌&&◌, ◌||◌, List, [], ◌∷◌, ◌==◌, refl, sym, ap, ◌∙◌, inl, inr, true≢false}
+use Rattle.std.proofs.Common.{◌≡◌, ℕ, Bool, true, ◌&&◌, ◌||◌, List, [], ◌∷◌, ◌==◌, refl, sym, ap, ◌∙◌, inl, inr, true≢false}
 use Rattle.std.specs.List.{list_any}
 use Rattle.std.specs.FinSet as set
 use Rattle.std.proofs.lemmas.Bool.{eqb-true, eq-eqb, and_parts, and_from, or_cases, or_left, or_right}
+use Rattle.cmh_model.proofs.Choices.{same_bool}
 use Rattle.cmh_model.specs.Relation.{Relation, has, has_some}
 use Rattle.cmh_model.proofs.Pairs.{has-empty, has-with, has_some-from, has_some-to}
 
@@ -22,12 +23,6 @@ first_listed xs a = list_any (λ (p : ℕ × ℕ). p.0 == a) xs
 pub has-pairs : (xs : List (ℕ × ℕ)) (a b : ℕ) → has (pairs xs) a b ≡ listed xs a b
 has-pairs [] a b = has-empty a b
 has-pairs (x ∷ xs) a b = has-with (pairs xs) x.0 x.1 a b ∙ ap (λ z. ((a == x.0) && (b == x.1)) || z) (has-pairs xs a b)
-
--- truth values that imply each other
-same_bool : (x y : Bool) → (x ≡ true → y ≡ true) → (y ≡ true → x ≡ true) → x ≡ y
-same_bool true y f g = sym (f refl)
-same_bool false true f g = g refl
-same_bool false false f g = refl
 
 -- what begins a pair has a second number
 some_listed : (xs : List (ℕ × ℕ)) (a : ℕ) → first_listed xs a ≡ true → (b : ℕ) × (listed xs a b ≡ true)

@@ -14,7 +14,7 @@ use Rattle.cmh_model.specs.Runs.{entries_of, state_of, sendings, receipts, under
 use Rattle.cmh_model.proofs.Journals.{sent_on, got_on, entries_here, entries_elsewhere, entries_of-append, sendings-more, receipts-more, whole}
 
 -- a lawful journal with one more entry that the rules give
-lawful_more : (t : Topology) (s : ℕ) (v : State) (xs : List Entry) (e : Entry) → LawfulFrom t s v xs → Accepts t s (state_after t s v xs) e.event → Sends t s (state_after t s v xs) e.event e.sent e.declared → LawfulFrom t s v (xs ++ e ∷ [])
+pub lawful_more : (t : Topology) (s : ℕ) (v : State) (xs : List Entry) (e : Entry) → LawfulFrom t s v xs → Accepts t s (state_after t s v xs) e.event → Sends t s (state_after t s v xs) e.event e.sent e.declared → LawfulFrom t s v (xs ++ e ∷ [])
 lawful_more t s v [] e h accepted sends = (accepted, sends, tt)
 lawful_more t s v (x ∷ xs) e h accepted sends = (h.0, h.1, lawful_more t s (after t s v x.event x.declared) xs e h.2 accepted sends)
 

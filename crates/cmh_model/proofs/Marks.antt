@@ -4,6 +4,7 @@ use Rattle.std.specs.List.{list_any}
 use Rattle.std.specs.Cmp.{nat_cmp_total, unsigned_tied}
 use Rattle.std.specs.FinSet as set
 use Rattle.std.proofs.lemmas.Bool.{eqb-true, eq-eqb, ne_eqb, and_parts, and_from, or_cases, cases_eq, cases_Bool, MatchBool-at_true}
+use Rattle.cmh_model.proofs.Choices.{if_same, not_ended}
 use Rattle.cmh_frames.specs.declared.frame.Frame.{Frame}
 use Rattle.cmh_frames.specs.declared.frame.Frame.TheVariants.{Request, Reply as Reply_frame, Probe}
 use Rattle.cmh_model.specs.declared.event.Event.{Event}
@@ -22,12 +23,7 @@ use Rattle.cmh_model.proofs.Sent.{answers_of}
 
 -- a dependent of a process that is blocked afterwards is not forgotten
 kept_mark : (r waits waits' : Relation) (k i : ℕ) → has r k i ≡ true → has_some waits' k ≡ true → has (only_firsts r (λ p. not (has_some waits p && not (has_some waits' p)))) k i ≡ true
-kept_mark r waits waits' k i h b = has-only r (λ p. not (has_some waits p && not (has_some waits' p))) k i ∙ and_from (has r k i) (not (has_some waits k && not (has_some waits' k))) h (blocked (has_some waits k) (has_some waits' k) b)
-  where
-    blocked : (x y : Bool) → y ≡ true → not (x && not y) ≡ true
-    blocked true true e = refl
-    blocked true false e = absurd (true≢false (sym e))
-    blocked false y e = refl
+kept_mark r waits waits' k i h b = has-only r (λ p. not (has_some waits p && not (has_some waits' p))) k i ∙ and_from (has r k i) (not (has_some waits k && not (has_some waits' k))) h (not_ended (has_some waits k) (has_some waits' k) b)
 
 -- a dependent stays where its process stays blocked
 pub dependents_stay : (t : Topology) (s : ℕ) (v : State) (ev : Event) (d : Option ℕ) (k i : ℕ) → has v.dependents k i ≡ true → is_blocked (after t s v ev d) k ≡ true → has (after t s v ev d).dependents k i ≡ true
@@ -69,19 +65,14 @@ in_declared known (Some x) i h = elim (or_cases (i == x) (set.contains known i) 
 ]
 
 -- the declared processes of either of two states
-if-declared : (c : Bool) (x y : State) → (if c then x else y).declared ≡ (if c then x.declared else y.declared)
+pub if-declared : (c : Bool) (x y : State) → (if c then x else y).declared ≡ (if c then x.declared else y.declared)
 if-declared true x y = refl
 if-declared false x y = refl
-
--- either of two that are the same
-same_if : {A : Type 0} (c : Bool) (x : A) → (if c then x else x) ≡ x
-same_if true x = refl
-same_if false x = refl
 
 -- who is declared was declared before or by this event
 pub declared_means : (t : Topology) (s : ℕ) (v : State) (ev : Event) (d : Option ℕ) (i : ℕ) → set.contains (after t s v ev d).declared i ≡ true → (set.contains v.declared i ≡ true) ⊎ (d ≡ Some i)
 declared_means t s v (Ask asker targets) d i h = in_declared v.declared d i h
-declared_means t s v (Reply holder asker) d i h = inl (sym (ap (λ r. set.contains r i) (if-declared (is_at t asker s) _ _ ∙ same_if (is_at t asker s) v.declared)) ∙ h)
+declared_means t s v (Reply holder asker) d i h = inl (sym (ap (λ r. set.contains r i) (if-declared (is_at t asker s) _ _ ∙ if_same (is_at t asker s) v.declared)) ∙ h)
 declared_means t s v (Start p) d i h = in_declared v.declared d i h
 declared_means t s v (Got a (Request (x, y))) d i h = inl h
 declared_means t s v (Got a (Reply_frame (x, y))) d i h = inl h

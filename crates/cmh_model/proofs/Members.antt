@@ -1,7 +1,10 @@
 -- Whether a process is among some: the test, and what it says.
-use Rattle.std.proofs.Common.{◌≡◌, ◌≢◌, ℕ, suc, zero, ◌<◌, true, false, ◌||◌, List, [], ◌∷◌, ◌==◌, length, get_or, refl, sym, ap, ◌∙◌, inl, inr, true≢false, arith, Contains}
+use Rattle.std.proofs.Common.{◌≡◌, ◌≢◌, ℕ, suc, zero, ◌+◌, ◌<◌, ◌≤◌, true, false, ◌||◌, List, [], ◌∷◌, ◌==◌, length, get_or, refl, sym, ap, subst, ◌∙◌, inl, inr, true≢false, arith, Contains}
+use Rattle.std.specs.Prelude.{slice_index}
 use Rattle.std.specs.List.{list_any, AllByRecursion}
-use Rattle.std.proofs.lemmas.Bool.{eqb-true, eq-eqb, ne_eqb, or_cases, or_left, or_right}
+use Rattle.std.specs.List.Sorted.{IsStrictlyIncreasing}
+use Rattle.std.proofs.lemmas.List.Kept.{AllPairs-from_increasing}
+use Rattle.std.proofs.lemmas.Bool.{cases_eq, eqb-true, eq-eqb, ne_eqb, or_cases, or_left, or_right}
 
 -- what the test finds has a place
 pub found_at : (xs : List ℕ) (k : ℕ) → list_any (λ q. q == k) xs ≡ true → Contains xs k
@@ -29,3 +32,16 @@ none_is_asker P asker (k ∷ targets) all = ap (λ b. b || list_any (λ q. q == 
 pub all_from : (P : ℕ → Type 0) (xs : List ℕ) → ((k : ℕ) → k < length xs → P (get_or xs k 0)) → AllByRecursion P xs
 all_from P [] each = tt
 all_from P (x ∷ xs) each = (each 0 (omega arith), all_from P xs (λ k h. each (suc k) (omega arith)))
+
+pub no_member : {X : Type 0} (x : X) → Contains [] x → ⊥
+no_member x c = let none : c.0 < 0 = c.1 in absurd (omega (arith, none))
+
+-- what comes behind the first ascends too
+pub increasing_tail : (x : ℕ) (xs : List ℕ) → IsStrictlyIncreasing (x ∷ xs) → IsStrictlyIncreasing xs
+increasing_tail x xs up = λ k h. let e : suc k + 1 ≡ suc (k + 1) = omega arith in subst (λ m. slice_index xs k < slice_index (x ∷ xs) m) e (up (suc k) (omega arith))
+
+pub not_decreasing : (xs : List ℕ) → IsStrictlyIncreasing xs → (i j : ℕ) → i ≤ j → j < length xs → get_or xs i 0 ≤ get_or xs j 0
+not_decreasing xs up i j le inside = elim (cases_eq i j) [
+  | inl e ↦ let same = ap (λ k. get_or xs k 0) e in omega arith
+  | inr n ↦ let less = AllPairs-from_increasing xs up i j 0 (omega arith) inside in omega arith
+]

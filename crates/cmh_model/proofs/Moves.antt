@@ -2,6 +2,7 @@
 use Rattle.std.proofs.Common.{◌≡◌, ◌≢◌, ◌⊎◌, ℕ, ◌+◌, Bool, true, false, ◌&&◌, ◌||◌, List, [], ◌∷◌, ◌==◌, if◌then◌else◌, refl, sym, ap, ◌∙◌, subst, inl, inr, true≢false, Option, arith}
 use Rattle.std.specs.List.{list_any}
 use Rattle.std.proofs.lemmas.Bool.{eqb-true, eq-eqb, ne_eqb, and_parts, and_from, cases_eq, cases_Bool}
+use Rattle.cmh_model.proofs.Choices.{if_same}
 use Rattle.cmh_frames.specs.declared.frame.Frame.TheVariants.{Request, Reply as Reply_frame, Probe}
 use Rattle.cmh_model.specs.declared.event.Event.{Event}
 use Rattle.cmh_model.specs.declared.event.Event.TheVariants.{Ask, Reply, Start, Got}
@@ -13,7 +14,7 @@ use Rattle.cmh_model.specs.Journals.{frame_from}
 use Rattle.cmh_model.specs.Waits.{asks_for, grants}
 use Rattle.cmh_model.specs.Laws.{bit, count_of, is_request, is_reply}
 use Rattle.cmh_model.proofs.Pairs.{has-with_each, has-with_each_other, has-none, has-without_same, has-without_other, has-with_same, has-with_other}
-use Rattle.cmh_model.proofs.Places.{is_at-yes, one_place, count_one_no, count_one_yes, if-waits, if-owed, if_same}
+use Rattle.cmh_model.proofs.Places.{is_at-yes, one_place, count_one_no, count_one_yes, if-waits, if-owed}
 
 -- two pairs are equal, or the test says not
 pub both_or_not : (a b x y : ℕ) → ((a ≡ x) × (b ≡ y)) ⊎ (((a == x) && (b == y)) ≡ false)

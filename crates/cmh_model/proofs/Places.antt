@@ -77,8 +77,3 @@ if-owed false x y = refl
 pub if-dependents : (c : Bool) (x y : State) → (if c then x else y).dependents ≡ (if c then x.dependents else y.dependents)
 if-dependents true x y = refl
 if-dependents false x y = refl
-
--- either of two that are the same
-pub if_same : {A : Type 0} (c : Bool) (x : A) → (if c then x else x) ≡ x
-if_same true x = refl
-if_same false x = refl

@@ -1,9 +1,10 @@
 -- The worked scripts.
-use Rattle.std.proofs.Common.{◌≡◌, ◌≢◌, ℕ, zero, suc, ◌<◌, Bool, true, false, not, ◌&&◌, List, [], ◌∷◌, ◌==◌, if◌then◌else◌, refl, sym, ap, ◌∙◌, subst, inl, inr, true≢false, None, Some, IsSome, MatchBool, arith, Contains, length, take, ◌≤◌}
+use Rattle.std.proofs.Common.{◌≡◌, ◌≢◌, ℕ, zero, suc, ◌<◌, Bool, true, false, not, ◌&&◌, List, [], ◌∷◌, ◌==◌, if◌then◌else◌, refl, sym, ap, ◌∙◌, subst, inl, inr, true≢false, None, Some, IsSome, arith, Contains, length, take, ◌≤◌}
 use Rattle.std.specs.List.Sorted.{IsStrictlySortedBy}
 use Rattle.std.specs.Ordering.{nat_cmp}
 use Rattle.std.specs.FinSet as set
 use Rattle.std.proofs.lemmas.Bool.{eqb-true, and_parts, or_cases, false_from_ne_true}
+use Rattle.cmh_model.proofs.Choices.{match_true, match_false}
 use Rattle.cmh_frames.specs.declared.edition.Edition.{Edition}
 use Rattle.cmh_frames.specs.declared.edition.Edition.TheVariants.{One, Two}
 use Rattle.cmh_frames.specs.declared.frame.Frame.TheVariants.{Request, Probe}
@@ -75,14 +76,6 @@ module _ (t : Topology) (s b j k : ℕ) (at_j : At t j s) (at_k : At t k b) (apa
 -- whether a probe acts, from its three tests
 acts_is : (v : State) (i f k : ℕ) (b d w : Bool) → is_blocked v k ≡ b → has v.dependents k i ≡ d → has v.owed k f ≡ w → probe_acts v i f k ≡ (b && (not d && w))
 acts_is v i f k b d w is_b is_d is_w = λ n. is_b n && (not (is_d n) && is_w n)
-
--- the first of two types
-at_true : (c : Bool) (A B : Type 0) → c ≡ true → A → MatchBool c A B
-at_true c A B h x = subst (λ z. MatchBool z A B) (sym h) x
-
--- the second
-at_false : (c : Bool) (A B : Type 0) → c ≡ false → B → MatchBool c A B
-at_false c A B h x = subst (λ z. MatchBool z A B) (sym h) x
 
 -- what one other process may be asked
 one_target : (t : Topology) (asker k : ℕ) → IsSome (home t k) → k ≢ asker → 0 < target_limit t.edition → AreTargets t asker (k ∷ [])
@@ -157,9 +150,9 @@ declared_at_ask_run =
 pub asked_run : (edition : Edition) → starts_at_ask edition ≡ false → 0 < target_limit edition → IsRun (two_sites edition) ask_each_other
 asked_run edition one limit =
     let first = run_more (two_sites edition) [] (at_site 1 (outcome (Ask 1 (2 ∷ [])) ((2, Request (1, 2)) ∷ []) None)) (run_first (two_sites edition))
-    (refl, has_some-pairs [] 1, one_target (two_sites edition) 1 2 refl two_not_one limit) (at_false _ _ _ one (refl, refl)) tt in
+    (refl, has_some-pairs [] 1, one_target (two_sites edition) 1 2 refl two_not_one limit) (match_false _ _ _ one (refl, refl)) tt in
     let second = run_more (two_sites edition) _ (at_site 2 (outcome (Ask 2 (1 ∷ [])) ((1, Request (2, 1)) ∷ []) None)) first
-    (refl, has_some-pairs [] 2, one_target (two_sites edition) 2 1 refl one_not_two limit) (at_false _ _ _ one (refl, refl)) tt in
+    (refl, has_some-pairs [] 2, one_target (two_sites edition) 2 1 refl one_not_two limit) (match_false _ _ _ one (refl, refl)) tt in
     let third = run_more (two_sites edition) _ (at_site 2 (silent (Got 1 (Request (1, 2))))) second (one_not_two, refl, refl, has-pairs [] 2 1) (refl, refl) ([], refl) in
     run_more (two_sites edition) _ (at_site 1 (silent (Got 2 (Request (2, 1))))) third (two_not_one, refl, refl, has-pairs [] 1 2) (refl, refl) ([], refl)
 
@@ -180,11 +173,11 @@ probe_run =
     tt in
     let forwarded = run_more (two_sites One) _ (at_site 2 (outcome (Got 1 (Probe (1, 1, 2))) ((1, Probe (1, 2, 1)) ∷ []) None)) started
     (one_not_two, refl, refl, refl)
-    (at_true _ _ _ acts_at_two (inr ((λ h. two_not_one (reaches_itself (two_sites One) 2 1 2 1 refl refl one_not_two 1 h)), one_probe (two_sites One) 2 1 2 1 refl refl one_not_two 1, refl)))
+    (match_true _ _ _ acts_at_two (inr ((λ h. two_not_one (reaches_itself (two_sites One) 2 1 2 1 refl refl one_not_two 1 h)), one_probe (two_sites One) 2 1 2 1 refl refl one_not_two 1, refl)))
     ([], refl) in
     run_more (two_sites One) _ (at_site 1 (outcome (Got 2 (Probe (1, 2, 1))) [] (Some 1))) forwarded
     (two_not_one, refl, refl, refl)
-    (at_true _ _ _ acts_at_one (inl ((refl, ([], refl)), refl, newly_first 1)))
+    (match_true _ _ _ acts_at_one (inl ((refl, ([], refl)), refl, newly_first 1)))
     ([], refl)
 
 -- site 2 at the end

@@ -212,7 +212,7 @@ none_above k [] h = refl
 none_above k (x ∷ xs) h = let z = ap bit (ne_eqb x k (λ e. omega (arith, h.0, e))) in let r = none_above k xs h.1 in omega arith
 
 -- a number is in an ascending list at most once
-count_ascending : (k : ℕ) (ks : List ℕ) → IsAscending ks → count_of (λ q. q == k) ks ≡ bit (list_any (λ q. q == k) ks)
+pub count_ascending : (k : ℕ) (ks : List ℕ) → IsAscending ks → count_of (λ q. q == k) ks ≡ bit (list_any (λ q. q == k) ks)
 count_ascending k [] h = refl
 count_ascending k (x ∷ xs) h = elim (cases_eq x k) [
   | inl e ↦

@@ -1,5 +1,5 @@
 -- The waits that leave a site, collected process by process.
-use Rattle.std.proofs.Common.{inl, inr, zero, suc, ◌≡◌, ◌↔◌, ℕ, ◌+◌, ◌<◌, false, true, true≢false, List, [], ◌∷◌, ◌++◌, length, get_or, map, refl, sym, ap, ◌∙◌, subst, arith, Contains, Less, nat_cmp, slice_index, take, not, ◌&&◌}
+use Rattle.std.proofs.Common.{inl, inr, zero, suc, ◌≡◌, ◌↔◌, ℕ, ◌+◌, ◌<◌, false, true, true≢false, List, [], ◌∷◌, ◌++◌, length, get_or, map, refl, sym, ap, ◌∙◌, subst, arith, Contains, Less, nat_cmp, take, not, ◌&&◌}
 use Rattle.std.specs.List.{AllByRecursion}
 use Rattle.std.specs.List.Sorted.{IsStrictlySortedBy, IsStrictlyIncreasing}
 use Rattle.std.specs.Ordering.{ordering_then}
@@ -7,6 +7,7 @@ use Rattle.std.specs.Cmp.{nat_cmp_is, nat_cmp_total, tied_itself}
 use Rattle.std.proofs.lemmas.Bool.{and_from}
 use Rattle.std.proofs.lemmas.List.{map-append, take_more}
 use Rattle.std.proofs.lemmas.List.Elements.{Contains-push, Contains-append_left, Contains-append_right, Contains-append_cases}
+use Rattle.cmh_model.proofs.Members.{no_member, increasing_tail}
 use Rattle.cmh_frames.specs.declared.frame.Frame.{Frame}
 use Rattle.cmh_frames.specs.declared.frame.Frame.TheVariants.{Probe}
 use Rattle.cmh_model.specs.Relation.{Relation, pair_cmp, has, has_some}
@@ -18,15 +19,12 @@ use Rattle.cmh_rules.specs.Verdicts.{AreProbesOf, AreProbesFrom, Reaches, acts}
 abbrev pub along : ℕ → ℕ × ℕ → Frame
 along origin edge = Probe (origin, edge.0, edge.1)
 
-no_item : {X : Type 0} (x : X) → Contains [] x → ⊥
-no_item x c = let h : c.0 < 0 = c.1 in omega arith
-
 pub none_yet : (v : Held) (origin : ℕ) → AreProbesOf v origin [] []
 unfolding IsStrictlySortedBy
 none_yet v origin = record {
   edges = [];
   ascending = tt;
-  all = λ edge. (λ c. absurd (no_item edge c), λ h. absurd (no_item edge.0 h.0));
+  all = λ edge. (λ c. absurd (no_member edge c), λ h. absurd (no_member edge.0 h.0));
   are = refl;
 }
 
@@ -49,9 +47,6 @@ lesser_first x y h = ap (λ r. ordering_then r (nat_cmp x.1 y.1)) (sym (nat_cmp_
 
 lesser_second : (p a b : ℕ) → a < b → pair_cmp (p, a) (p, b) ≡ Less
 lesser_second p a b h = ap (λ r. ordering_then r (nat_cmp a b)) (tied_itself nat_cmp_total p) ∙ sym (nat_cmp_is a b Less h)
-
-increasing_tail : (x : ℕ) (xs : List ℕ) → IsStrictlyIncreasing (x ∷ xs) → IsStrictlyIncreasing xs
-increasing_tail x xs up = λ k h. let e : suc k + 1 ≡ suc (k + 1) = omega arith in subst (λ m. slice_index xs k < slice_index (x ∷ xs) m) e (up (suc k) (omega arith))
 
 head_below : (x : ℕ) (xs : List ℕ) → IsStrictlyIncreasing (x ∷ xs) → AllByRecursion (λ y. x < y) xs
 head_below x [] up = tt
@@ -79,12 +74,12 @@ all_above q p b (x ∷ xs) h = (lesser_first (q, b) (p, x) h, all_above q p b xs
 -- ---- members of a list of pairs
 
 in_pairs : (p : ℕ) (xs : List ℕ) (k : ℕ) → Contains xs k → Contains {X = ℕ × ℕ} (map (λ to. (p, to)) xs) (p, k)
-in_pairs p [] k c = absurd (no_item k c)
+in_pairs p [] k c = absurd (no_member k c)
 in_pairs p (x ∷ xs) k (zero, h, e) = (0, omega arith, ap (λ y. (p, y)) e)
 in_pairs p (x ∷ xs) k (suc n, h, e) = let c = in_pairs p xs k (n, omega arith, e) in (suc c.0, (let h : c.0 < length (map (λ to. (p, to)) xs) = c.1 in omega arith), c.2)
 
 from_pairs : (p : ℕ) (xs : List ℕ) (e : ℕ × ℕ) → Contains (map (λ to. (p, to)) xs) e → (p ≡ e.0) × Contains xs e.1
-from_pairs p [] e c = absurd (no_item e c)
+from_pairs p [] e c = absurd (no_member e c)
 from_pairs p (x ∷ xs) e (zero, h, i) = (ap (λ (y : ℕ × ℕ). y.0) i, (0, omega arith, ap (λ (y : ℕ × ℕ). y.1) i))
 from_pairs p (x ∷ xs) e (suc n, h, i) = let c = from_pairs p xs e (n, omega arith, i) in (c.0, (suc c.1.0, (let h : c.1.0 < length xs = c.1.1 in omega arith), c.1.2))
 
@@ -148,7 +143,7 @@ apart v q to here away e = true≢false (sym (subst (λ p. IsMember v p) e here)
 -- those before a place are below the one there
 pub below_place : (xs : List ℕ) (i p : ℕ) → IsStrictlyIncreasing xs → i < length xs → p ≡ get_or xs i p → (q : ℕ) → Contains (take i xs) q → q < p
 below_place [] i p up h is q c = absurd (omega arith)
-below_place (x ∷ xs) zero p up h is q c = absurd (no_item q c)
+below_place (x ∷ xs) zero p up h is q c = absurd (no_member q c)
 below_place (x ∷ xs) (suc i) p up h is q (zero, l, e) = subst (λ y. y < p) e (all_at xs i (head_below x xs up) (omega arith) is)
   where
     all_at : (ys : List ℕ) (k : ℕ) → AllByRecursion (λ y. x < y) ys → k < length ys → p ≡ get_or ys k p → x < p

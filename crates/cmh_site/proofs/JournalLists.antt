@@ -2,11 +2,6 @@
 use Rattle.std.proofs.Common.{◌≡◌, ◌≢◌, ℕ, zero, suc, ◌+◌, ◌<◌, List, [], ◌∷◌, ◌++◌, length, take, get_or, refl, sym, ap, subst, ◌∙◌, if◌then◌else◌, arith}
 use Rattle.std.proofs.lemmas.Bool.{eq-eqb, ne_eqb}
 use Rattle.std.proofs.lemmas.List.{take_more}
-use Rattle.cmh_frames.specs.Topology.{Topology}
-use Rattle.cmh_model.specs.declared.journal.Entry.{Entry}
-use Rattle.cmh_model.specs.Journals.{state_after}
-use Rattle.cmh_model.specs.Rules.{after}
-use Rattle.cmh_model.specs.State.{State}
 use Rattle.cmh_journal.specs.Journal.{Journal}
 use Rattle.cmh_audit.specs.Journals.{journal_of, NoneAt, OneEach}
 
@@ -33,8 +28,3 @@ none_push site (x ∷ js) j none apart = (none.0, none_push site js j none.1 apa
 pub none_more : (site : ℕ) (js : List Journal) (i : ℕ) (j : Journal) → i < length js → j ≡ get_or js i j → j.site ≢ site → NoneAt site (take i js) → NoneAt site (take (i + 1) js)
 none_more site js i j l here apart none =
     subst (NoneAt site) (sym (take_more js i j l ∙ ap (λ x. take i js ++ x ∷ []) (sym here))) (none_push site (take i js) j none apart)
-
--- a journal leads on from where its beginning leads
-pub state_after-append : (t : Topology) (s : ℕ) (v : State) (xs ys : List Entry) → state_after t s v (xs ++ ys) ≡ state_after t s (state_after t s v xs) ys
-state_after-append t s v [] ys = refl
-state_after-append t s v (x ∷ xs) ys = state_after-append t s (after t s v x.event x.declared) xs ys

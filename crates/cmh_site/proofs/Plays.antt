@@ -6,6 +6,8 @@ use Rattle.std.specs.Io.KnownBytes.{Appends, Keeps}
 use Rattle.std.proofs.lemmas.Bool.{lt-ltb, le-ltb}
 use Rattle.std.proofs.lemmas.List.{append-nil, append_assoc}
 use Rattle.std.specs.Global.{Global}
+use Rattle.cmh_site.proofs.TextLemmas.{appends-kept}
+use Rattle.cmh_site.proofs.LinesSeen.{if_some}
 use Rattle.cmh_frames.specs.declared.edition.Edition.TheVariants.{One}
 use Rattle.cmh_site.specs.Device.{Tells}
 use Rattle.cmh_site.specs.Faults.{status_of, of_line}
@@ -66,12 +68,6 @@ appends-more (Some old) None new text more first next = absurd first
 appends-more (Some old) (Some out) None text more first next = absurd next
 appends-more (Some old) (Some out) (Some new) text more first next = next ∙ ap (λ bytes. bytes ++ more) first ∙ append_assoc old text more
 
-appends-kept : (old out new : Option (List ℕ)) (text : List ℕ) → Appends old out text → Keeps out new → Appends old new text
-appends-kept None out new text wrote kept = tt
-appends-kept (Some old) None new text wrote kept = absurd wrote
-appends-kept (Some old) (Some out) None text wrote kept = absurd kept
-appends-kept (Some old) (Some out) (Some new) text wrote kept = kept ∙ wrote
-
 pub fault_not_0 : (fault : Fault) → status_of fault ≢ 0
 fault_not_0 TopologyFile e = absurd (omega (arith, e))
 fault_not_0 (JournalFile place) e = absurd (omega (arith, e))
@@ -124,10 +120,6 @@ begun start out game new = λ bytes e. record {
   wrote = appends-none out;
   counted = omega arith;
 }
-
-pub if_some : (o : Option (List ℕ)) (P : List ℕ → Type 0) → ((bytes : List ℕ) → o ≡ Some bytes → P bytes) → IfSome o P
-if_some None P f = tt
-if_some (Some bytes) P f = f bytes refl
 
 at_some : (o : Option (List ℕ)) (P : List ℕ → Type 0) (bytes : List ℕ) → o ≡ Some bytes → IfSome o P → P bytes
 at_some o P bytes e h = subst (λ (x : Option (List ℕ)). IfSome x P) e h

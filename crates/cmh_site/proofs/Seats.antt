@@ -1,11 +1,12 @@
 -- The journals of a world, one for each site, and what becomes of them where one grows.
 use Rattle.std.proofs.Common.{◌≡◌, ◌≢◌, ℕ, zero, suc, ◌+◌, ◌<◌, ◌==◌, ◌||◌, true, false, true≢false, ⊎_elim, List, [], ◌∷◌, length, map, set, get_or, refl, sym, ap, subst, ◌∙◌, arith}
-use Rattle.std.specs.Prelude.{All, Contains, if◌then◌else◌, slice_index}
+use Rattle.std.specs.Prelude.{All, Contains, if◌then◌else◌}
 use Rattle.std.specs.List.{list_any}
 use Rattle.std.specs.List.Sorted.{IsStrictlyIncreasing}
 use Rattle.std.proofs.lemmas.Bool.{cases_eq, ne_eqb}
 use Rattle.std.proofs.lemmas.List.{map-set, set-get_or, get_or-set_same, length-set, length-map, get_or-map, get_or_default}
 use Rattle.std.proofs.lemmas.List.Elements.{All-set}
+use Rattle.cmh_model.proofs.Members.{increasing_tail}
 use Rattle.cmh_frames.specs.Topology.{Topology, sites_of, is_site}
 use Rattle.cmh_model.specs.declared.journal.Entry.{Entry}
 use Rattle.cmh_model.specs.Journals.{IsLawful}
@@ -31,20 +32,17 @@ has_journal t s js placed known none =
 suc_more : (k : ℕ) → suc k + 1 ≡ suc (k + 1)
 suc_more k = omega arith
 
-rest_rises : (s : ℕ) (xs : List ℕ) → IsStrictlyIncreasing (s ∷ xs) → IsStrictlyIncreasing xs
-rest_rises s xs up k l = subst (λ (n : ℕ). slice_index xs k < slice_index (s ∷ xs) n) (suc_more k) (up (suc k) (omega (arith, l)))
-
 none_after : (s : ℕ) (j : Journal) (js : List Journal) → s < j.site → IsStrictlyIncreasing (map site_in (j ∷ js)) → NoneAt s (j ∷ js)
 none_after s j [] lt up = ((λ e. let same = e in omega (arith, lt, same)), tt)
 none_after s j (x ∷ js) lt up =
     let next = up 0 (omega arith) in
-    ((λ e. let same = e in omega (arith, lt, same)), none_after s x js (omega (arith, lt, next)) (rest_rises j.site (map site_in (x ∷ js)) up))
+    ((λ e. let same = e in omega (arith, lt, same)), none_after s x js (omega (arith, lt, next)) (increasing_tail j.site (map site_in (x ∷ js)) up))
 
 pub one_each : (js : List Journal) → IsStrictlyIncreasing (map site_in js) → OneEach js
 one_each [] up = tt
 one_each (j ∷ []) up = (tt, tt)
 one_each (j ∷ x ∷ js) up =
-    let later : IsStrictlyIncreasing (map site_in (x ∷ js)) = rest_rises j.site (map site_in (x ∷ js)) up in
+    let later : IsStrictlyIncreasing (map site_in (x ∷ js)) = increasing_tail j.site (map site_in (x ∷ js)) up in
     (none_after j.site x js (up 0 (omega arith)) later, one_each (x ∷ js) later)
 
 -- the journals that a topology has are a set to audit

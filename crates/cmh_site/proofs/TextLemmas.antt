@@ -1,6 +1,5 @@
 -- Texts of lists, one after the other.
-use Rattle.std.proofs.Common.{◌≡◌, ℕ, ◌+◌, ◌<◌, false, true≢false, List, [], ◌∷◌, ◌++◌, length, take, get_or, Option, None, Some, sym, ap, ◌∙◌}
-use Rattle.std.specs.Prelude.{Result, Ok, Err, is_err, OnOk}
+use Rattle.std.proofs.Common.{◌≡◌, ℕ, ◌+◌, ◌<◌, List, [], ◌∷◌, ◌++◌, length, take, get_or, Option, None, Some, sym, ap, ◌∙◌}
 use Rattle.std.specs.Io.KnownBytes.{Appends, Keeps}
 use Rattle.std.proofs.lemmas.List.{take_more, append_assoc, append-nil}
 use Rattle.cmh_site.specs.AuditTexts.{texts_of}
@@ -26,8 +25,3 @@ appends-kept None new after text wrote kept = tt
 appends-kept (Some old) None after text wrote kept = absurd wrote
 appends-kept (Some old) (Some new) None text wrote kept = absurd kept
 appends-kept (Some old) (Some new) (Some after) text wrote kept = kept ∙ wrote
-
--- the fact of an `Ok` that is known to be one
-pub on_ok-known : {A E P : Type 0} → (r : Result A E) → is_err r ≡ false → OnOk r P → P
-on_ok-known (Ok a) known fact = fact
-on_ok-known (Err e) known fact = absurd (true≢false known)

@@ -1,6 +1,6 @@
 //! What an audit prints: the journals that were cut off, and then the auditor's verdict, a fact a line.
 
-ghost use Rattle.std.specs.Prelude.{◌≡◌, ◌++◌, Some, OnOk};
+ghost use Rattle.std.specs.Prelude.{Some};
 ghost use Rattle.std.specs.Fmt.{decimal};
 ghost use Rattle.std.specs.Io.KnownBytes.{Appends};
 ghost use Rattle.cmh_site.specs.AuditTexts as spec;
@@ -9,14 +9,6 @@ use cmh_audit::{Report, Verdict};
 use cmh_frames::{Edition, ProcId, SiteId};
 use std::io::Write;
 use std::{fmt, io};
-
-/// Writes the lines of a verdict on a world of this edition.
-pub fn write_verdict<W: Write>(out: &mut W, edition: Edition, verdict: &Verdict) -> io::Result<()>
-    ensures { OnOk result (Appends (W.contents out.old) (W.contents out.new) (spec.verdict_text edition verdict.now)) }
-{
-    let text = VerdictText { edition, verdict };
-    write!(out, "{text}")
-}
 
 /// The lines of a verdict on a world of this edition.
 #[derive(Drop)]

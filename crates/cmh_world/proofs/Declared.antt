@@ -1,8 +1,9 @@
 -- Whom a controller keeps as declared.
-use Rattle.std.proofs.Common.{◌≡◌, ◌⊎◌, ◌↔◌, ℕ, Bool, true, false, ◌||◌, List, [], ◌∷◌, if◌then◌else◌, Option, None, Some, is_some, inl, inr, sym, ap, ◌∙◌, ◌==◌, refl, true≢false, nat_cmp}
+use Rattle.std.proofs.Common.{◌≡◌, ◌⊎◌, ◌↔◌, ℕ, true, ◌||◌, List, [], ◌∷◌, if◌then◌else◌, Option, None, Some, is_some, inl, inr, sym, ap, ◌∙◌, ◌==◌, refl, true≢false, nat_cmp}
 use Rattle.std.specs.FinSet as set
 use Rattle.std.specs.Cmp.{nat_cmp_total, unsigned_tied}
 use Rattle.std.proofs.lemmas.Bool.{eq-eqb, or_left, or_right, cases_Bool, MatchBool-at_false}
+use Rattle.cmh_model.proofs.Choices.{if_same}
 use Rattle.cmh_frames.specs.declared.frame.Frame.{Frame}
 use Rattle.cmh_frames.specs.declared.frame.Frame.TheVariants.{Request, Reply as Reply_frame, Probe}
 use Rattle.cmh_frames.specs.Topology.{Topology, is_at}
@@ -14,7 +15,7 @@ use Rattle.cmh_model.specs.State.{State, empty_state}
 use Rattle.cmh_model.specs.Rules.{Sends, after, declared_after, probe_acts}
 use Rattle.cmh_model.specs.Journals.{LawfulFrom, state_after}
 use Rattle.cmh_model.specs.Declarations.{Declares, DeclaredByEntries}
-use Rattle.cmh_model.proofs.Marks.{declared_means}
+use Rattle.cmh_model.proofs.Marks.{declared_means, if-declared}
 
 -- who was declared stays so
 kept : (known : Numbers) (d : Option ℕ) (i : ℕ) → set.contains known i ≡ true → set.contains (declared_after known d) i ≡ true
@@ -25,16 +26,6 @@ kept known (Some x) i h = set.contains-insert nat_cmp_total known x i ∙ ap (λ
 now_declared : (known : Numbers) (d : Option ℕ) (i : ℕ) → d ≡ Some i → set.contains (declared_after known d) i ≡ true
 now_declared known d i e = ap (λ o. set.contains (declared_after known o) i) e ∙ set.contains-insert nat_cmp_total known i i ∙ ap (λ z. z || set.contains known i) (unsigned_tied i i) ∙ or_left (i == i) (set.contains known i) (eq-eqb i i refl)
 
--- the declared processes of either of two states
-if-declared : (c : Bool) (x y : State) → (if c then x else y).declared ≡ (if c then x.declared else y.declared)
-if-declared true x y = refl
-if-declared false x y = refl
-
--- either of two that are the same
-same_if : (c : Bool) (x : Numbers) → (if c then x else x) ≡ x
-same_if true x = refl
-same_if false x = refl
-
 -- nothing is not something
 none_some : (d : Option ℕ) (i : ℕ) → d ≡ None → d ≡ Some i → ⊥
 none_some d i none some = true≢false (sym (ap is_some some) ∙ ap is_some none)
@@ -43,7 +34,7 @@ module _ (t : Topology) (s : ℕ) (v : State) where
   -- a controller forgets nobody
   stays : (ev : Event) (d : Option ℕ) (i : ℕ) → set.contains v.declared i ≡ true → set.contains (after t s v ev d).declared i ≡ true
   stays (Ask asker targets) d i h = kept v.declared d i h
-  stays (Reply holder asker) d i h = ap (λ r. set.contains r i) (if-declared (is_at t asker s) _ _ ∙ same_if (is_at t asker s) v.declared) ∙ h
+  stays (Reply holder asker) d i h = ap (λ r. set.contains r i) (if-declared (is_at t asker s) _ _ ∙ if_same (is_at t asker s) v.declared) ∙ h
   stays (Start p) d i h = kept v.declared d i h
   stays (Got a (Request (x, y))) d i h = h
   stays (Got a (Reply_frame (x, y))) d i h = h

@@ -18,7 +18,7 @@ use Rattle.cmh_model.specs.Laws.{bit, count_of, is_request}
 use Rattle.cmh_model.proofs.Places.{one_place, count-append, site_of-at}
 use Rattle.cmh_model.proofs.Moves.{probe_waits}
 use Rattle.cmh_model.proofs.Sent.{answers_of, to_yes, to-append, count_probes, requests_sent}
-use Rattle.cmh_model.proofs.Edges.{reach_ends}
+use Rattle.cmh_model.proofs.Edges.{reach_ends, empty_has_none}
 use Rattle.cmh_model.proofs.Effects.{asks_means, dependents_after}
 use Rattle.cmh_model.proofs.Marks.{dependents_stay, probe_marks, newly_means, StartsOne, ask_starts, frame_from_is, contains_split, map-append_one}
 use Rattle.cmh_model.proofs.Bits.{bit_one, bit_at_most}
@@ -53,14 +53,10 @@ ends_where_drained t w i p (x ∷ xs) none ahead marked = elim ahead [
   | inr there ↦ elim there.5 [
     | inl live ↦
         let empty : [] ≡ live.0 ++ Probe (i, p, x) ∷ live.1 = sym (none there.0 there.1) ∙ live.2 in
-        absurd (not_empty live.0 (Probe (i, p, x)) live.1 empty)
+        absurd (empty_has_none live.0 (Probe (i, p, x)) live.1 empty)
     | inr mark ↦ ends_where_drained t w i x xs none (marked.0 there.1 there.3 mark) marked.1
   ]
 ]
-  where
-    not_empty : (us : List Frame) (f : Frame) (vs : List Frame) → [] ≡ us ++ f ∷ vs → ⊥
-    not_empty [] f vs h = (cc)
-    not_empty (u ∷ us) f vs h = (cc)
 
 module _ (t : Topology) (w : World) (e : WorldEvent) (n : World) (inv : Invariant t w) (st : Step t w e n) where
   -- what holds of the next world

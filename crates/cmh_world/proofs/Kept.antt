@@ -1,6 +1,7 @@
 -- An event keeps what holds of a world.
 use Rattle.std.proofs.Common.{◌≡◌, ◌≢◌, ◌⊎◌, ℕ, ◌+◌, Bool, true, false, not, ◌&&◌, ◌||◌, List, [], ◌∷◌, ◌++◌, if◌then◌else◌, refl, sym, ap, ◌∙◌, subst, inl, inr, true≢false, Some, arith, append_assoc, append-nil}
 use Rattle.std.proofs.lemmas.Bool.{eq-eqb, ne_eqb, and_parts, or_cases, cases_eq, cases_Bool, false_from_ne_true}
+use Rattle.cmh_model.proofs.Choices.{and_yes}
 use Rattle.cmh_frames.specs.declared.frame.Frame.{Frame}
 use Rattle.cmh_frames.specs.declared.frame.Frame.TheVariants.{Request, Reply as Reply_frame, Probe}
 use Rattle.cmh_model.specs.declared.event.Event.{Event}
@@ -171,13 +172,9 @@ module _ (t : Topology) (w : World) (e : WorldEvent) (n : World) (inv : Invarian
       (λ q. let none = ap bit (asks_means t e.site (w.value e.site) e.entry.event j k st.accepted q).1 in bit_zero _ (omega arith)) in
       let waits_now = waits_here j k in
       let owed_now = owed_here j k in
-      let here : bit (grants k j e.entry.event && is_at t k e.site) ≡ bit (grants k j e.entry.event) = ap bit (and_true (grants k j e.entry.event) (is_at t k e.site) (is_at-yes t k e.site at_k)) in
-      let there : bit (asks_for j k e.entry.event && is_at t j e.site) ≡ bit (asks_for j k e.entry.event) = ap bit (and_true (asks_for j k e.entry.event) (is_at t j e.site) (is_at-yes t j e.site at_j)) in
+      let here : bit (grants k j e.entry.event && is_at t k e.site) ≡ bit (grants k j e.entry.event) = ap bit (and_yes (grants k j e.entry.event) (is_at t k e.site) (is_at-yes t k e.site at_k)) in
+      let there : bit (asks_for j k e.entry.event && is_at t j e.site) ≡ bit (asks_for j k e.entry.event) = ap bit (and_yes (asks_for j k e.entry.event) (is_at t j e.site) (is_at-yes t j e.site at_j)) in
       (omega arith, omega arith)
-    where
-      and_true : (x y : Bool) → y ≡ true → (x && y) ≡ x
-      and_true true y h = h
-      and_true false y h = refl
 
   -- a wait is still at just one of its three places
   each_kept : (a b j k : ℕ) → At t j a → At t k b → EachWait n a b j k

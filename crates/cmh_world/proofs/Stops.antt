@@ -9,8 +9,8 @@ use Rattle.cmh_model.specs.Runs.{entries_of, sendings, receipts, IsBeginningOf, 
 use Rattle.cmh_model.specs.Journals.{sendings_of, receipts_of, IsLawful}
 use Rattle.cmh_model.specs.Stops.{IsConsistent}
 use Rattle.cmh_model.specs.Laws.{StopsAnywhere}
-use Rattle.cmh_model.proofs.Beginnings.{beginning_trans, length-beginning}
-use Rattle.cmh_model.proofs.Journals.{entries_here, entries_elsewhere, entries_of-append, sendings_of-append, receipts_of-append, lawful_front}
+use Rattle.cmh_model.proofs.Beginnings.{beginning_trans, length-beginning, sendings_of-beginning}
+use Rattle.cmh_model.proofs.Journals.{entries_here, entries_elsewhere, entries_of-append, receipts_of-append, lawful_front}
 
 -- ---- beginnings
 
@@ -35,10 +35,6 @@ take_of_front : {X : Type 0} (n : ℕ) (xs ys : List X) → IsBeginningOf (take 
 take_of_front zero xs ys = ([], refl)
 take_of_front (suc n) [] ys = (take (suc n) ys, refl)
 take_of_front (suc n) (x ∷ xs) ys = let r = take_of_front n xs ys in (r.0, ap (λ z. x ∷ z) r.1)
-
--- what a beginning of a journal sends begins what the journal sends
-sent_begins : (b : ℕ) (xs ys : List Entry) → IsBeginningOf xs ys → IsBeginningOf (sendings_of b xs) (sendings_of b ys)
-sent_begins b xs ys h = (sendings_of b h.0, sym (sendings_of-append b xs h.0) ∙ ap (sendings_of b) h.1)
 
 -- and so with what it gets
 got_begins : (a : ℕ) (xs ys : List Entry) → IsBeginningOf xs ys → IsBeginningOf (receipts_of a xs) (receipts_of a ys)
@@ -129,7 +125,7 @@ module _ (t : Topology) (events : List WorldEvent) (run : IsRun t events) (stop 
             let fewer = length-beginning _ _ (got_begins a _ _ later) in
             let bound = consistent a b in
             let long = ap (λ z. length (sendings_of b z)) same in
-            shorter_begins _ _ (sendings a b front) got (sent_begins b _ _ (take_begins (stop a) (entries_of a front))) (omega arith)
+            shorter_begins _ _ (sendings a b front) got (sendings_of-beginning b _ _ (take_begins (stop a) (entries_of a front))) (omega arith)
       ]
 
   -- what is left of a run is a run

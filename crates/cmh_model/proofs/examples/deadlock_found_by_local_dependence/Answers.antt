@@ -1,8 +1,9 @@
-use Rattle.std.proofs.Common.{◌≡◌, ◌≢◌, ℕ, zero, suc, Bool, true, false, not, ◌&&◌, ◌==◌, if◌then◌else◌, List, [], ◌∷◌, Contains, refl, sym, ap, ◌∙◌, subst, inl, inr, true≢false, None, Some, MatchBool, nat_cmp, arith, IsSome}
+use Rattle.std.proofs.Common.{◌≡◌, ◌≢◌, ℕ, zero, suc, true, false, not, ◌&&◌, ◌==◌, if◌then◌else◌, List, [], ◌∷◌, Contains, refl, sym, ap, ◌∙◌, subst, inl, inr, true≢false, None, Some, nat_cmp, arith, IsSome}
 use Rattle.std.specs.List.Sorted.{IsStrictlySortedBy}
 use Rattle.std.specs.FinSet as set
 use Rattle.std.specs.Cmp.{nat_cmp_total}
 use Rattle.std.proofs.lemmas.Bool.{and_parts, or_cases, eqb-true}
+use Rattle.cmh_model.proofs.Choices.{match_true}
 use Rattle.cmh_frames.specs.declared.frame.Frame.TheVariants.{Request, Probe}
 use Rattle.cmh_frames.specs.Topology.{At, home}
 use Rattle.cmh_model.specs.declared.event.Event.TheVariants.{Ask, Start, Got}
@@ -78,10 +79,6 @@ for_three q h = elim (or_cases ((2 == 2) && (q == 3)) false (sym (has-pairs ((2,
 target : (asker k : ℕ) → IsSome (home two_beside_one k) → k ≢ asker → AreTargets two_beside_one asker (k ∷ [])
 target asker k known other = record { some = omega arith; within = omega arith; ascending = (tt, tt); known = ((known, other), tt) }
 
--- the first of two types
-at_true : (c : Bool) (A B : Type 0) → c ≡ true → A → MatchBool c A B
-at_true c A B h x = subst (λ z. MatchBool z A B) (sym h) x
-
 -- the probe acts at 2
 acts_at_two : probe_acts (state_with ((2, 3) ∷ []) ((2, 1) ∷ []) [] []) 1 1 2 ≡ true
 acts_at_two n = has_some-pairs ((2, 3) ∷ []) 2 n && (not (has-pairs [] 2 1 n) && has-pairs ((2, 1) ∷ []) 2 1 n)
@@ -114,7 +111,7 @@ returns-clause-run c =
     tt in
     let forwarded = run_more two_beside_one _ (at_site 2 (outcome (Got 1 (Probe (1, 1, 2))) ((1, Probe (1, 2, 3)) ∷ []) None)) started
     (λ e. omega (arith, e), refl, refl, refl)
-    (at_true _ _ _ acts_at_two (inr (
+    (match_true _ _ _ acts_at_two (inr (
       (λ h. omega (arith, itself 2 1 2 3 waits_of_two for_three (has-pairs ((2, 3) ∷ []) 2 3) refl refl (λ e. omega (arith, e)) h.1.0 1 h.1.1)),
       one_probe 2 1 2 3 waits_of_two for_three (has-pairs ((2, 3) ∷ []) 2 3) refl refl (λ e. omega (arith, e)) 1,
       refl,
@@ -122,7 +119,7 @@ returns-clause-run c =
     ([], refl) in
     run_more two_beside_one _ (at_site 1 (outcome (Got 2 (Probe (1, 2, 3))) [] (Some 1))) forwarded
     (λ e. omega (arith, e), refl, refl, refl)
-    (at_true _ _ _ (acts_at_three []) (inl (three_reaches_one, refl, ap (λ z. if z then None else Some 1) (sym (set.contains-empty nat_cmp 1)))))
+    (match_true _ _ _ (acts_at_three []) (inl (three_reaches_one, refl, ap (λ z. if z then None else Some 1) (sym (set.contains-empty nat_cmp 1)))))
     ([], refl)
 
 pub returns-clause-state : goal.returns-clause-state
@@ -131,4 +128,4 @@ returns-clause-state c =
 
 pub returns-clause-declared_before : goal.returns-clause-declared_before
 returns-clause-declared_before c =
-    at_true _ _ _ (acts_at_three (1 ∷ [])) (inl (three_reaches_one, refl, ap (λ z. if z then None else Some 1) (sym (set.contains-insert nat_cmp_total set.empty 1 1))))
+    match_true _ _ _ (acts_at_three (1 ∷ [])) (inl (three_reaches_one, refl, ap (λ z. if z then None else Some 1) (sym (set.contains-insert nat_cmp_total set.empty 1 1))))
