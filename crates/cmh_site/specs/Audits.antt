@@ -1,12 +1,13 @@
 -- An audit: from the bytes of its files to the auditor's verdict.
 use Rattle.std.specs.Prelude.{◌≡◌, ℕ, ◌+◌, ◌*◌, ◌≤◌, ◌↔◌, Bool, true, ◌⊎◌, List, [], ◌∷◌, ◌++◌, length, ⊤, Option, Some}
-use Rattle.std.specs.List.Sorted.{IsPermutation}
+use Rattle.std.specs.List.Sorted.{IsPermutation, IsSorted}
 use Rattle.std.specs.Io.KnownBytes.{Appends}
 use Rattle.cmh_frames.specs.declared.edition.Edition.{Edition}
 use Rattle.cmh_frames.specs.Rows.{Row, IsFaultOf}
 use Rattle.cmh_frames.specs.declared.rows.TopologyFault.{TopologyFault}
 use Rattle.cmh_frames.specs.Topology.{Topology, IsTopologyOf}
 use Rattle.cmh_model.specs.declared.journal.WorldEvent.{WorldEvent}
+use Rattle.cmh_model.specs.Relation.{pair_cmp}
 use Rattle.cmh_model.specs.Runs.{IsRun, ComesFrom}
 use Rattle.cmh_journal.specs.declared.journal.JournalFault.{JournalFault}
 use Rattle.cmh_journal.specs.declared.tail.Tail.{Tail}
@@ -47,11 +48,12 @@ cuts_of [] tails = []
 cuts_of (j ∷ js) [] = []
 cuts_of (j ∷ js) (t ∷ ts) = cut_of j.site t ++ cuts_of js ts
 
--- the files are those of the journals, of which just these were cut off
+-- the files are those of the journals, of which just these were cut off, ascending by their sites
 pub record AreRead (files : List (List ℕ)) (journals : List Journal) (cuts : List (ℕ × ℕ)) : Type 0 where
   pub tails : List Tail
   pub are_files : AreFilesOf journals tails files
   pub cuts_are : IsPermutation (cuts_of journals tails) cuts
+  pub ascending : IsSorted pair_cmp cuts
 
 -- ---- the verdict
 
@@ -155,8 +157,8 @@ abbrev pub IsCause : List ℕ → List (List ℕ) → Option (List ℕ) → Opti
 IsCause topology files old new has_failed Output = has_failed ≡ true
 IsCause topology files old new has_failed fault = IsAuditFault topology files fault × (new ≡ old)
 
--- an audit wrote its lines and nothing else, or named why it couldn't
-abbrev pub AuditEnds : List ℕ → List (List ℕ) → Option (List ℕ) → Option (List ℕ) → Bool → Option (List ℕ) → Option (List ℕ) → Bool → ℕ → Type 0
-AuditEnds topology files old new has_failed err_old err_new err_failed status =
-    (WroteAudit topology files old new status × (err_new ≡ err_old))
+-- an audit wrote its lines, flushed, and nothing else, or named why it couldn't
+abbrev pub AuditEnds : List ℕ → List (List ℕ) → Option (List ℕ) → Option (List ℕ) → Bool → Bool → Option (List ℕ) → Option (List ℕ) → Bool → ℕ → Type 0
+AuditEnds topology files old new has_failed is_flushed err_old err_new err_failed status =
+    (WroteAudit topology files old new status × (is_flushed ≡ true) × (err_new ≡ err_old))
     ⊎ NamesFault (IsCause topology files old new has_failed) status err_old err_new err_failed

@@ -17,10 +17,13 @@ pub struct ReadFault;
 pub struct WriteFault;
 
 /// A reader or a writer, and whether a call of it has failed. Only a call that failed sets that.
+///
+/// Of a writer also whether nothing was written since it was flushed.
 #[derive(Debug, Drop)]
 pub struct Device<D> {
     inner: D,
     has_failed: bool,
+    is_flushed: bool,
 }
 
 impl<D> Device<D> {
@@ -31,6 +34,7 @@ impl<D> Device<D> {
         Device {
             inner,
             has_failed: false,
+            is_flushed: false,
         }
     }
 
@@ -66,7 +70,9 @@ impl<W: Write> Device<W> {
         ensures bytes { OnOk result (IfSome (T.output text) (Appends (W.contents self.old.inner) (W.contents self.new.inner))) }
         ensures ok { OnOk result (self.new.has_failed ≡ self.old.has_failed) }
         ensures err { OnErr result (self.new.has_failed ≡ true) }
+        ensures unflushed { self.new.is_flushed ≡ false }
     {
+        self.is_flushed = false;
         match self.inner.write_fmt(text) {
             Ok(()) => Ok(()),
             Err(_) => {
@@ -81,7 +87,9 @@ impl<W: Write> Device<W> {
         ensures bytes { OnOk result (IfSome (with_newline (T.output text)) (Appends (W.contents self.old.inner) (W.contents self.new.inner))) }
         ensures ok { OnOk result (self.new.has_failed ≡ self.old.has_failed) }
         ensures err { OnErr result (self.new.has_failed ≡ true) }
+        ensures unflushed { self.new.is_flushed ≡ false }
     {
+        self.is_flushed = false;
         match self.inner.writeln(text) {
             Ok(()) => Ok(()),
             Err(_) => {
@@ -94,10 +102,14 @@ impl<W: Write> Device<W> {
     pub(crate) fn flush(&mut self) -> Result<(), WriteFault>
         ensures bytes { Keeps (W.contents self.old.inner) (W.contents self.new.inner) }
         ensures ok { OnOk result (self.new.has_failed ≡ self.old.has_failed) }
+        ensures flushed { OnOk result (self.new.is_flushed ≡ true) }
         ensures err { OnErr result (self.new.has_failed ≡ true) }
     {
         match self.inner.flush() {
-            Ok(()) => Ok(()),
+            Ok(()) => {
+                self.is_flushed = true;
+                Ok(())
+            }
             Err(_) => {
                 self.has_failed = true;
                 Err(WriteFault)

@@ -1,6 +1,6 @@
 //! The command `play`: all sites of a world in memory, driven by a script.
 
-ghost use Rattle.std.specs.Prelude.{◌≡◌, ◌≢◌, IfOk, IfErr, IfSome, OnOk, OnErr, Some};
+ghost use Rattle.std.specs.Prelude.{◌≡◌, ◌≢◌, ◌⊎◌, true, false, IfOk, IfErr, IfSome, OnOk, OnErr, Some};
 ghost use Rattle.cmh_site.specs.Faults.{NamesFault};
 ghost use Rattle.cmh_site.specs.Play.{AddsSite, Answered, AnswersLine, CarriesOut, Commands, IsAnswerFault, IsNewGame, IsPlayFault, IsSaidBy, Replies, SetsEdition, delivery_answer, reply_text, severance_answer, status_after, step_answer};
 ghost use Rattle.cmh_site.specs.Status.{IsStatus};
@@ -34,6 +34,10 @@ pub fn run_play<R: Read, W: Write, E: Write>(
     // What is written answers the script line by line: all of it where the status is 0.
     ensures answers { IfSome (R.remaining input.old.inner) (λ bytes. Answered bytes (W.contents out.old.inner) (W.contents out.new.inner) out.new.has_failed result) }
     ensures silent { result ≡ 0 → err.new ≡ err.old }
+
+    // What was written is flushed, also before a fault.
+    ensures flushed { result ≡ 0 → out.new.is_flushed ≡ true }
+    ensures left { out.new.has_failed ≡ false → (out.new.is_flushed ≡ true) ⊎ (out.new ≡ out.old) }
     ensures fault { result ≢ 0 → NamesFault (IsPlayFault (R.remaining input.old.inner) input.new.has_failed out.new.has_failed) result (E.contents err.old.inner) (E.contents err.new.inner) err.new.has_failed }
 {
     match play(alloc, input, out) {
@@ -49,6 +53,8 @@ fn play<R: Read, W: Write>(
 ) -> Result<(), Fault>
     ensures answers { IfSome (R.remaining input.old.inner) (λ bytes. Answered bytes (W.contents out.old.inner) (W.contents out.new.inner) out.new.has_failed (status_after result)) }
     ensures fault { IfErr result (IsPlayFault (R.remaining input.old.inner) input.new.has_failed out.new.has_failed) }
+    ensures flushed { OnOk result (out.new.is_flushed ≡ true) }
+    ensures left { out.new.has_failed ≡ false → (out.new.is_flushed ≡ true) ⊎ (out.new ≡ out.old) }
 {
     let mut game = Game::new(alloc)?;
     let played = answer_all(alloc, &mut game, input, out);
