@@ -20,3 +20,6 @@ pub use crate::auditing::run_audit;
 pub use crate::device::Device;
 pub use crate::faults::Fault;
 pub use crate::play::run_play;
+pub use crate::topology_file::{
+    TopologyFile, TopologyFileFault, read_topology_file, read_topology_file_with_ports,
+};

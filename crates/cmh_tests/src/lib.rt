@@ -7,3 +7,5 @@ mod audit;
 mod flushing;
 #[cfg(test)]
 mod play;
+#[cfg(test)]
+mod topology_file;
