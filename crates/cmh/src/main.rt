@@ -1,6 +1,12 @@
 //! The program: it reads its command line and calls a command.
 #![tactic(auto)]
 
+ghost use Rattle.std.specs.Prelude.{◌≡◌, ◌⊎◌, IfErr, IfSome};
+ghost use Rattle.cmh.specs.CommandLine.{IsEnd, IsUnread, NamesAudit};
+ghost use Rattle.cmh_site.specs.Play.{Answered};
+ghost use Rattle.cmh_site.specs.Status.{IsStatus};
+ghost use Rattle.cmh_site.specs.declared.faults.Fault as faults;
+
 use clap::{Arg, ArgAction, ArgMatches, Command, Error, error};
 use cmh_site::{Device, Fault, run_audit, run_play};
 use std::alloc::Global;
@@ -65,7 +71,9 @@ fn run<R: AllocGlobal + Env + Files + Print + Eprint, I: Read, W: Write, E: Writ
     input: &mut Device<I>,
     out: &mut Device<W>,
     err: &mut Device<E>,
-) -> u8 {
+) -> u8
+    ensures { IsEnd result }
+{
     let alloc = rt.alloc();
     let Ok(words) = words(rt) else {
         return Fault::Memory.name_on(err);
@@ -90,7 +98,11 @@ fn carry_out<R: AllocGlobal + Files, I: Read, W: Write, E: Write>(
     input: &mut Device<I>,
     out: &mut Device<W>,
     err: &mut Device<E>,
-) -> u8 {
+) -> u8
+    ensures status { IsStatus result }
+    ensures plays { (NamesAudit matches.now → ⊥) → IfSome (I.remaining input.old.inner) (λ bytes. Answered bytes (W.contents out.old.inner) (W.contents out.new.inner) out.new.has_failed result) }
+    ensures audits { NamesAudit matches.now → input.new ≡ input.old }
+{
     let Some(audit) = matches.subcommand_matches(AUDIT) else {
         return run_play(rt.alloc(), input, out, err);
     };
@@ -108,7 +120,9 @@ struct AuditFiles {
 }
 
 /// Reads the files that the words name: the topology, and then the journals in their order.
-fn files_of<R: AllocGlobal + Files>(rt: &R, words: &ArgMatches<'_>) -> Result<AuditFiles, Fault> {
+fn files_of<R: AllocGlobal + Files>(rt: &R, words: &ArgMatches<'_>) -> Result<AuditFiles, Fault>
+    ensures { IfErr result IsUnread }
+{
     let path = words.get_str(TOPOLOGY).unwrap_or("");
     let topology = read_file(rt, path, Fault::TopologyFile)?;
     let mut journals = Vec::new(rt.alloc());
@@ -121,7 +135,9 @@ fn files_of<R: AllocGlobal + Files>(rt: &R, words: &ArgMatches<'_>) -> Result<Au
 }
 
 /// What a file holds; the fault is the one given, but where memory was refused.
-fn read_file<R: AllocGlobal + Files>(rt: &R, path: &str, fault: Fault) -> Result<Vec<u8>, Fault> {
+fn read_file<R: AllocGlobal + Files>(rt: &R, path: &str, fault: Fault) -> Result<Vec<u8>, Fault>
+    ensures { IfErr result (λ named. (named ≡ fault) ⊎ (named ≡ Fault.Memory)) }
+{
     match fs::read(rt, path) {
         Ok(bytes) => Ok(bytes),
         Err(error) if error.kind() == ErrorKind::OutOfMemory => Err(Fault::Memory),
