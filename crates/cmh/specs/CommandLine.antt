@@ -1,18 +1,31 @@
 -- What the words of a command line name, and how the program ends.
-use Rattle.std.specs.Prelude.{◌≡◌, ℕ, ◌≤◌, ◌⊎◌, ⊤, codes, Some}
+use Rattle.std.specs.Prelude.{◌≡◌, ℕ, ◌≤◌, ◌⊎◌, Bool, List, ⊤, codes, Option, Some}
 use Rattle.clap.specs.declared.parser.matches.ArgMatches.{ArgMatches}
 use Rattle.clap.specs.Matches.{subcommand_name_of}
-use Rattle.cmh_site.specs.Status.{IsStatus}
-use Rattle.cmh_site.specs.declared.faults.Fault.{Fault}
-use Rattle.cmh_site.specs.declared.faults.Fault.TheVariants.{TopologyFile, JournalFile, Memory}
+use Rattle.cmh_files.specs.Audits.{AuditEnds}
+use Rattle.cmh_files.specs.Faults.{NamesFault}
+use Rattle.cmh_files.specs.Status.{IsStatus}
+use Rattle.cmh_files.specs.declared.faults.Fault.{Fault}
+use Rattle.cmh_files.specs.declared.faults.Fault.TheVariants.{TopologyFile, ScriptFile, JournalFile, Memory}
 
 -- the command that is named is the audit
 abbrev pub NamesAudit : ArgMatches → Type 0
 NamesAudit matches = subcommand_name_of matches ≡ Some (codes "audit")
 
--- a file could not be read: the topology, or a journal by its place from 1; or memory ran out
+-- a command with this name is named
+abbrev pub Names : ArgMatches → List ℕ → Type 0
+Names matches name = subcommand_name_of matches ≡ Some name
+
+-- the command that is named is `play`, or none is
+pub record NamesNothing (matches : ArgMatches) : Type 0 where
+  pub no_audit : Names matches (codes "audit") → ⊥
+  pub no_site : Names matches (codes "site") → ⊥
+  pub no_cluster : Names matches (codes "cluster") → ⊥
+
+-- a file could not be read: the topology, a script, or a journal by its place from 1; or memory ran out
 abbrev pub IsUnread : Fault → Type 0
 IsUnread TopologyFile = ⊤
+IsUnread ScriptFile = ⊤
 IsUnread (JournalFile place) = 1 ≤ place
 IsUnread Memory = ⊤
 IsUnread fault = ⊥
@@ -20,3 +33,11 @@ IsUnread fault = ⊥
 -- the status of a command, or 2 for a command line that isn't understood
 abbrev pub IsEnd : ℕ → Type 0
 IsEnd n = IsStatus n ⊎ (n ≡ 2)
+
+-- some files were audited, or nothing is written and the fault of one that could not be read is named
+abbrev pub AuditsFiles : Option (List ℕ) → Option (List ℕ) → Bool → Bool
+    → Option (List ℕ) → Option (List ℕ) → Bool → ℕ → Type 0
+AuditsFiles old new has_failed is_flushed err_old err_new err_failed status =
+    ((topology : List ℕ) × (files : List (List ℕ))
+    × AuditEnds topology files old new has_failed is_flushed err_old err_new err_failed status)
+    ⊎ ((new ≡ old) × NamesFault IsUnread status err_old err_new err_failed)

@@ -1,61 +1,29 @@
 //! The program: it reads its command line and calls a command.
 #![tactic(auto)]
 
-ghost use Rattle.std.specs.Prelude.{◌≡◌, ◌⊎◌, IfErr, IfSome};
-ghost use Rattle.cmh.specs.CommandLine.{IsEnd, IsUnread, NamesAudit};
-ghost use Rattle.cmh_site.specs.Play.{Answered};
-ghost use Rattle.cmh_site.specs.Status.{IsStatus};
-ghost use Rattle.cmh_site.specs.declared.faults.Fault as faults;
+ghost use Rattle.std.specs.Prelude.{◌≡◌, ◌≢◌, ◌⊎◌, true, IfErr, IfSome};
+ghost use Rattle.cmh.specs.CommandLine.{AuditsFiles, IsEnd, IsUnread, NamesAudit, NamesNothing};
+ghost use Rattle.cmh_files.specs.Faults.{NamesFault};
+ghost use Rattle.cmh_site.specs.Play.{Answered, IsPlayFault};
+ghost use Rattle.cmh_files.specs.Status.{IsStatus};
+ghost use Rattle.cmh_files.specs.declared.faults.Fault as faults;
 
-use clap::{Arg, ArgAction, ArgMatches, Command, Error, error};
-use cmh_site::{Device, Fault, run_audit, run_play};
-use std::alloc::Global;
+mod commands;
+mod help;
+
+use crate::commands::{AUDIT, CLUSTER, JOURNAL, JOURNALS, OUT, SCRIPT, SITE, TOPOLOGY, command};
+use crate::help::Help;
+use clap::{ArgMatches, Error, error};
+use cmh_frames::SiteId;
+use cmh_site::{Device, Fault, run_audit, run_cluster, run_play, run_site};
+use std::fs::File;
 use std::io::{BufReader, BufWriter, ErrorKind, Read, Write};
+use std::net::{Net, TcpListener, TcpStream};
 use std::process::ExitCode;
 use std::rt::{Env, Files};
+use std::sync::Wait;
+use std::thread::Threads;
 use std::{env, fs, io};
-
-const AUDIT: &str = "audit";
-
-const TOPOLOGY: &str = "topology";
-
-const JOURNALS: &str = "journals";
-
-/// The command line.
-fn command<'a>(alloc: Global) -> Result<Command<'a>, Error> {
-    let play = Command::new(alloc, "play").about(
-        "Plays a script from standard input on a world of sites in memory, and answers each line",
-    );
-    let cmh = Command::new(alloc, "cmh")
-        .version("0.1.0")
-        .about(
-            "Grants resources between processes of several sites, and finds their deadlocks by probes. Without a command it plays a script.",
-        )
-        .subcommand(play)?
-        .subcommand(audit_command(alloc)?)?;
-    Ok(cmh)
-}
-
-fn audit_command<'a>(alloc: Global) -> Result<Command<'a>, Error> {
-    let topology = Arg::new(alloc, TOPOLOGY)
-        .long(TOPOLOGY)
-        .value_name("FILE")
-        .help("The JSON file that names the sites and their processes")
-        .required(true)
-        .action(ArgAction::Set);
-    let journals = Arg::new(alloc, JOURNALS)
-        .value_name("JOURNAL")
-        .help("The journal files of all sites, in any order")
-        .required(true)
-        .action(ArgAction::Append);
-    let audit = Command::new(alloc, AUDIT)
-        .about(
-            "Tells whether the journals of all sites come from one run, and who waits and is deadlocked at its end",
-        )
-        .arg(topology)?
-        .arg(journals)?;
-    Ok(audit)
-}
 
 fn words<R: Env + AllocGlobal>(rt: &R) -> io::Result<Vec<String>> {
     let mut words = Vec::new(rt.alloc());
@@ -66,50 +34,201 @@ fn words<R: Env + AllocGlobal>(rt: &R) -> io::Result<Vec<String>> {
 }
 
 /// Reads the command line and runs the command; answers the status.
-fn run<R: AllocGlobal + Env + Files + Print + Eprint, I: Read, W: Write, E: Write>(
+fn run<R, I: Read, W: Write, E: Write>(
     rt: &R,
     input: &mut Device<I>,
     out: &mut Device<W>,
     err: &mut Device<E>,
 ) -> u8
+where
+    R: Env
+        + Print
+        + Eprint
+        + AllocGlobal
+        + Files<File = File>
+        + Wait
+        + Threads
+        + Net<Listener = TcpListener, Stream = TcpStream>
+        + Copy
+        + Send
+        + Drop
+        + 'static,
     ensures { IsEnd result }
 {
     let alloc = rt.alloc();
-    let Ok(words) = words(rt) else {
+    let words = match words(rt) {
+        Ok(words) => words,
+        Err(error) if error.kind() == ErrorKind::OutOfMemory => return Fault::Memory.name_on(err),
+        Err(_) => {
+            let _ = eprintln!(rt; "error: a word of the command line is not UTF-8");
+            return 2;
+        }
+    };
+    let Ok(help) = Help::new(alloc) else {
         return Fault::Memory.name_on(err);
     };
-    let Ok(command) = command(alloc) else {
+    let Ok(command) = command(alloc, &help) else {
         return Fault::Memory.name_on(err);
     };
     match command.try_get_matches_from(words.as_slice()) {
         Ok(matches) => carry_out(rt, &matches, input, out, err),
         Err(error) if error.kind() == error::ErrorKind::OutOfMemory => Fault::Memory.name_on(err),
-        Err(error) => {
-            let _ = error.print(rt);
-            u8::try_from(error.exit_code()).unwrap_or(2)
-        }
+        Err(error) => show(rt, &error, err),
+    }
+}
+
+/// Prints the help or the version that was asked for, or why a command line isn't understood; answers the status.
+fn show<R: Print + Eprint, E: Write>(rt: &R, error: &Error, err: &mut Device<E>) -> u8
+    ensures { IsEnd result }
+{
+    let printed = error.print(rt);
+    if error.use_stderr() {
+        // A write to standard error that fails is ignored.
+        return 2;
+    }
+    match printed {
+        Ok(()) => 0,
+        Err(_) => Fault::Output.name_on(err),
     }
 }
 
 /// Runs the command that the words name; `play` where they name none.
-fn carry_out<R: AllocGlobal + Files, I: Read, W: Write, E: Write>(
+fn carry_out<R, I: Read, W: Write, E: Write>(
     rt: &R,
     matches: &ArgMatches<'_>,
     input: &mut Device<I>,
     out: &mut Device<W>,
     err: &mut Device<E>,
 ) -> u8
+where
+    R: AllocGlobal
+        + Files<File = File>
+        + Wait
+        + Threads
+        + Net<Listener = TcpListener, Stream = TcpStream>
+        + Copy
+        + Send
+        + Drop
+        + 'static,
     ensures status { IsStatus result }
-    ensures plays { (NamesAudit matches.now → ⊥) → IfSome (I.remaining input.old.inner) (λ bytes. Answered bytes (W.contents out.old.inner) (W.contents out.new.inner) out.new.has_failed result) }
-    ensures audits { NamesAudit matches.now → input.new ≡ input.old }
+
+    // Where no command but `play` is named, a script is played.
+    ensures plays { NamesNothing matches.now → IfSome (I.remaining input.old.inner) (λ bytes.
+        Answered bytes (W.contents out.old.inner) (W.contents out.new.inner) out.new.has_failed result) }
+    ensures silent { NamesNothing matches.now → result ≡ 0 → err.new ≡ err.old }
+    ensures flushed { NamesNothing matches.now → result ≡ 0 → out.new.is_flushed ≡ true }
+    ensures fault { NamesNothing matches.now → result ≢ 0
+        → NamesFault (IsPlayFault (I.remaining input.old.inner) input.new.has_failed out.new.has_failed) result
+        (E.contents err.old.inner) (E.contents err.new.inner) err.new.has_failed }
+
+    // Where an audit is named, files are audited, and no script is read.
+    ensures audits { NamesAudit matches.now
+        → AuditsFiles (W.contents out.old.inner) (W.contents out.new.inner) out.new.has_failed out.new.is_flushed
+        (E.contents err.old.inner) (E.contents err.new.inner) err.new.has_failed result }
+    ensures reads_nothing { NamesAudit matches.now → input.new ≡ input.old }
 {
-    let Some(audit) = matches.subcommand_matches(AUDIT) else {
-        return run_play(rt.alloc(), input, out, err);
+    if let Some(audit) = matches.subcommand_matches(AUDIT) {
+        return match files_of(rt, audit) {
+            Ok(files) => run_audit(rt.alloc(), &files.topology, &files.journals, out, err),
+            Err(fault) => fault.name_on(err),
+        };
+    }
+    if let Some(words) = matches.subcommand_matches(SITE) {
+        return serve_site(rt, words, input, out, err);
+    }
+    if let Some(words) = matches.subcommand_matches(CLUSTER) {
+        return serve_cluster(rt, words, out, err);
+    }
+    run_play(rt.alloc(), input, out, err)
+}
+
+/// Runs the site that the words name.
+fn serve_site<R, I: Read, W: Write, E: Write>(
+    rt: &R,
+    words: &ArgMatches<'_>,
+    input: &mut Device<I>,
+    out: &mut Device<W>,
+    err: &mut Device<E>,
+) -> u8
+where
+    R: AllocGlobal
+        + Files<File = File>
+        + Wait
+        + Threads
+        + Net<Listener = TcpListener, Stream = TcpStream>
+        + Copy
+        + Send
+        + Drop
+        + 'static,
+    ensures { IsStatus result }
+{
+    let path = words.get_str(TOPOLOGY).unwrap_or("");
+    let topology = match read_file(rt, path, Fault::TopologyFile) {
+        Ok(bytes) => bytes,
+        Err(fault) => return fault.name_on(err),
     };
-    match files_of(rt, audit) {
-        Ok(files) => run_audit(rt.alloc(), &files.topology, &files.journals, out, err),
+    let number = words.get_one::<u16>(SITE).unwrap_or(0);
+    let Some(site) = SiteId::new(number) else {
+        // Never so: the command line takes no other number.
+        return Fault::Site.name_on(err);
+    };
+    let journal = words.get_str(JOURNAL).unwrap_or("");
+    run_site(*rt, rt.alloc(), &topology, site, journal, input, out, err)
+}
+
+/// Runs all sites of the topology that the words name.
+fn serve_cluster<R, W: Write, E: Write>(
+    rt: &R,
+    words: &ArgMatches<'_>,
+    out: &mut Device<W>,
+    err: &mut Device<E>,
+) -> u8
+where
+    R: AllocGlobal
+        + Files<File = File>
+        + Wait
+        + Threads
+        + Net<Listener = TcpListener, Stream = TcpStream>
+        + Copy
+        + Send
+        + Drop
+        + 'static,
+    ensures { IsStatus result }
+{
+    let dir = words.get_str(OUT).unwrap_or("");
+    match cluster_files_of(rt, words) {
+        Ok(files) => run_cluster(
+            *rt,
+            rt.alloc(),
+            &files.topology,
+            &files.script,
+            dir,
+            out,
+            err,
+        ),
         Err(fault) => fault.name_on(err),
     }
+}
+
+/// What the files of a cluster hold.
+#[derive(Drop)]
+struct ClusterFiles {
+    topology: Vec<u8>,
+    script: Vec<u8>,
+}
+
+/// Reads the files that the words name: the topology, and then the script.
+fn cluster_files_of<R: AllocGlobal + Files>(
+    rt: &R,
+    words: &ArgMatches<'_>,
+) -> Result<ClusterFiles, Fault>
+    ensures { IfErr result IsUnread }
+{
+    let path = words.get_str(TOPOLOGY).unwrap_or("");
+    let topology = read_file(rt, path, Fault::TopologyFile)?;
+    let path = words.get_str(SCRIPT).unwrap_or("");
+    let script = read_file(rt, path, Fault::ScriptFile)?;
+    Ok(ClusterFiles { topology, script })
 }
 
 /// What the files of an audit hold.

@@ -1,315 +1,266 @@
 -- The search by levels.
-use Rattle.std.proofs.Common.{◌≡◌, ◌≢◌, ℕ, zero, suc, ◌+◌, ◌<◌, ◌≤◌, Bool, true, false, true≢false, cond, List, [], ◌∷◌, ◌++◌, length, take, get_or, Option, Some, None, is_some, inl, inr, ⊎_elim, sym, ap, subst, refl, ◌∙◌, if◌then◌else◌, arith}
-use Rattle.std.specs.Prelude.{Contains}
-use Rattle.std.specs.Ordering.{nat_cmp}
-use Rattle.std.specs.BTreeMap.{get, BTreeMap, is_at}
-use Rattle.std.specs.Map.{lookup}
-use Rattle.std.proofs.lemmas.Bool.{cases_eq, cases_lt, eq-eqb, ne_eqb}
-use Rattle.cmh_model.proofs.Choices.{some_eq}
-use Rattle.cmh_model.proofs.Members.{no_member}
-use Rattle.cmh_audit.specs.Cycles.{WaitsIn, Leads, distance_of, AreDistances}
-use Rattle.cmh_audit.specs.Levels.{unmarked, Marks, MarksLevel}
-use Rattle.cmh_audit.proofs.LeastLemmas.{none_is}
-use Rattle.cmh_audit.proofs.LinkLemmas.{is_eq-nat_cmp}
-use Rattle.cmh_audit.proofs.Members.{contains_left, contains_last, contains_push, looked_at, looked_before, looked_now, looked_all, looked_within}
+use Rattle.std.proofs.Common.{◌≡◌, ℕ, zero, suc, ◌+◌, ◌-◌, ◌^◌, ◌<◌, ◌≤◌, ◌↔◌, ◌==◌, ◌||◌, ◌/◌, Bool, true, false, true≢false, List, Option, Some, None, is_some, get_or, [], ◌∷◌, ◌++◌, length, inl, inr, ⊎_elim, sym, ap, subst, refl, ◌∙◌, if◌then◌else◌, arith, length-append}
+use Rattle.std.specs.Prelude.{IfSome, IfNone}
+use Rattle.std.proofs.Math.Seq.{get_or-append_seam}
+use Rattle.std.proofs.lemmas.Bool.{cases_eq, cases_lt, cases_Bool, eq-eqb, eqb-true, or_cases, or_left, or_right}
+use Rattle.std.proofs.lemmas.List.{get_or_append_left, get_or_past, get_or_default}
+use Rattle.cmh_model.specs.Paths.{IsPath}
+use Rattle.cmh_model.proofs.Beginnings.{empty_list}
+use Rattle.cmh_audit.specs.Cycles.{IsCycleOf}
+use Rattle.cmh_audit.specs.Levels.{IsIn, AreLevels, LeadBack}
+use Rattle.cmh_audit.specs.Rows.{has_place, row_at}
+use Rattle.cmh_audit.proofs.BitLemmas.{no_bit}
 
--- the new table has n at k, and at others what the old one has
-abbrev pub SetsAt : BTreeMap ℕ ℕ → BTreeMap ℕ ℕ → ℕ → ℕ → Type 0
-SetsAt old new k n = (q : ℕ) → get nat_cmp new q ≡ cond (is_at (nat_cmp k) q) (Some n) (get nat_cmp old q)
+-- ---- how many places are left
 
-set_same : (old new : BTreeMap ℕ ℕ) (k n : ℕ) → SetsAt old new k n → distance_of new k ≡ Some n
-set_same old new k n sets = sets k ∙ ap (λ t. cond t (Some n) (get nat_cmp old k)) (is_eq-nat_cmp k k ∙ eq-eqb k k refl)
+-- how many of the places below n the row lacks
+abbrev pub lacking : ℕ → List ℕ → ℕ
+lacking zero row = 0
+lacking (suc n) row = (if has_place row n then 0 else 1) + lacking n row
 
-set_other : (old new : BTreeMap ℕ ℕ) (k n q : ℕ) → SetsAt old new k n → k ≢ q → distance_of new q ≡ distance_of old q
-set_other old new k n q sets ne = sets q ∙ ap (λ t. cond t (Some n) (get nat_cmp old q)) (is_eq-nat_cmp k q ∙ ne_eqb k q ne)
+one_less : (s t : Bool) → (s ≡ true → t ≡ true) → (if t then 0 else 1) ≤ (if s then 0 else 1)
+one_less true true h = omega arith
+one_less true false h = absurd (true≢false (sym (h refl)))
+one_less false true h = omega arith
+one_less false false h = omega arith
 
-is_none : (o : Option ℕ) → is_some o ≡ false → o ≡ None
-is_none None h = refl
-is_none (Some x) h = absurd (true≢false h)
+lacking_le : (n : ℕ) (old new : List ℕ) → ((k : ℕ) → has_place old k ≡ true → has_place new k ≡ true) → lacking n new ≤ lacking n old
+lacking_le zero old new grows = omega arith
+lacking_le (suc n) old new grows =
+    let more = lacking_le n old new grows in
+    let one = one_less (has_place old n) (has_place new n) (grows n) in
+    omega (arith, more, one)
 
-some_of : (o : Option ℕ) → is_some o ≡ true → (d : ℕ) × (o ≡ Some d)
-some_of None h = absurd (true≢false (sym h))
-some_of (Some d) h = (d, refl)
+pub lacking_less : (n k : ℕ) (old new : List ℕ) → ((k : ℕ) → has_place old k ≡ true → has_place new k ≡ true) → k < n → has_place old k ≡ false → has_place new k ≡ true → lacking n new < lacking n old
+lacking_less zero k old new grows l before now = absurd (omega arith)
+lacking_less (suc n) k old new grows l before now = elim (cases_eq k n) [
+  | inl e ↦
+      let more = lacking_le n old new grows in
+      let one : Bool → ℕ = λ t. if t then 0 else 1 in
+      let first = ap one (ap (has_place old) (sym e) ∙ before) in
+      let second = ap one (ap (has_place new) (sym e) ∙ now) in
+      omega (arith, more, first, second)
+  | inr ne ↦
+      let more = lacking_less n k old new grows (omega arith) before now in
+      let one = one_less (has_place old n) (has_place new n) (grows n) in
+      omega (arith, more, one)
+]
 
--- each process that has a distance keeps one
-abbrev pub Grows : BTreeMap ℕ ℕ → BTreeMap ℕ ℕ → Type 0
-Grows old new = (v : ℕ) → is_some (distance_of old v) ≡ true → is_some (distance_of new v) ≡ true
+-- ---- the levels so far
 
-grows_from : (old new : BTreeMap ℕ ℕ) → ((v d : ℕ) → distance_of old v ≡ Some d → distance_of new v ≡ Some d) → Grows old new
-grows_from old new kept v h = let s = some_of (distance_of old v) h in ap is_some (kept v s.0 s.1)
+pub in_level : (levels : List (List ℕ)) (d v : ℕ) → IsIn levels d v → d < length levels
+in_level levels d v h = elim (cases_lt d (length levels)) [
+  | inl l ↦ l
+  | inr past ↦ absurd (true≢false (sym h ∙ ap (λ row. has_place row v) (get_or_past levels d [] past) ∙ no_bit _))
+]
 
-unmarked_one : (s t : Bool) → (s ≡ true → t ≡ true) → (if t then 0 else 1) ≤ (if s then 0 else 1)
-unmarked_one true true h = omega arith
-unmarked_one true false h = absurd (true≢false (sym (h refl)))
-unmarked_one false true h = omega arith
-unmarked_one false false h = omega arith
+-- the levels so far, of rows of so many words, with all their places in `seen`; none but the last has a place that `to` leads to
+pub record IsSearched (R : ℕ → ℕ → Type 0) (to n words : ℕ) (levels : List (List ℕ)) (seen : List ℕ) : Type 0 where
+  pub are : AreLevels R to levels
+  pub some : 0 < length levels
+  pub wide : (d : ℕ) → d < length levels → length (row_at levels d) ≡ words
+  pub as_wide : length seen ≡ words
+  pub seen_in : (v : ℕ) → has_place seen v ≡ true → (d : ℕ) × IsIn levels d v
+  pub in_seen : (d v : ℕ) → IsIn levels d v → has_place seen v ≡ true
+  pub inside : (d v : ℕ) → IsIn levels d v → v < n
+  pub first : (d v : ℕ) → IsIn levels d v → R to v → length levels ≤ d + 1
 
-unmarked_le : (old new : BTreeMap ℕ ℕ) (waits : List (ℕ × ℕ)) → Grows old new → unmarked new waits ≤ unmarked old waits
-unmarked_le old new [] grows = omega arith
-unmarked_le old new (w ∷ waits) grows =
-    let one = unmarked_one (is_some (distance_of old w.0)) (is_some (distance_of new w.0)) (grows w.0) in
-    let more = unmarked_le old new waits grows in
-    omega (arith, one, more)
+one_level : (row : List ℕ) (d v : ℕ) → IsIn (row ∷ []) d v → d ≡ 0
+one_level row d v h = let l = in_level (row ∷ []) d v h in omega (arith, l)
 
-unmarked_lt : (old new : BTreeMap ℕ ℕ) (waits : List (ℕ × ℕ)) (i : ℕ) (w : ℕ × ℕ) → Grows old new → i < length waits → w ≡ get_or waits i w → is_some (distance_of old w.0) ≡ false → is_some (distance_of new w.0) ≡ true → unmarked new waits < unmarked old waits
-unmarked_lt old new [] i w grows l here none some = absurd (omega arith)
-unmarked_lt old new (x ∷ waits) zero w grows l here none some =
-    let more = unmarked_le old new waits grows in
-    let P : ℕ × ℕ → Type 0 = λ y. unmarked new (y ∷ waits) < unmarked old (y ∷ waits) in
-    let before = ap (λ t. (if t then 0 else 1) + unmarked old waits) none in
-    let after = ap (λ t. (if t then 0 else 1) + unmarked new waits) some in
-    subst P here (omega (arith, more, before, after))
-unmarked_lt old new (x ∷ waits) (suc i) w grows l here none some =
-    let one = unmarked_one (is_some (distance_of old x.0)) (is_some (distance_of new x.0)) (grows x.0) in
-    let more = unmarked_lt old new waits i w grows (omega arith) here none some in
-    omega (arith, one, more)
+pub search_start : (R : ℕ → ℕ → Type 0) (to n words : ℕ) (levels : List (List ℕ)) (row seen : List ℕ) → levels ≡ row ∷ [] → length row ≡ words → length seen ≡ words → to < n
+    → ((k : ℕ) → has_place row k ≡ (k == to)) → ((k : ℕ) → has_place seen k ≡ (k == to)) → IsSearched R to n words levels seen
+search_start R to n words levels row seen is wide as_wide inside row_has seen_has = subst (λ ls. IsSearched R to n words ls seen) (sym is) (record {
+  are = record {
+    reached = λ d v h. ([], at d v h, sym (one_level row d v h));
+    short = λ d v members h path. let e = one_level row d v h in omega (arith, e);
+    least = λ v members path l. (0, row_has v ∙ eq-eqb v to (ends v members path (empty_list members (omega arith))), omega arith);
+  };
+  some = omega arith;
+  wide = λ d l. ap (λ q. length (row_at (row ∷ []) q)) (let e : d ≡ 0 = omega arith in e) ∙ wide;
+  as_wide = as_wide;
+  seen_in = λ v h. (0, row_has v ∙ sym (seen_has v) ∙ h);
+  in_seen = λ d v h. seen_has v ∙ eq-eqb v to (at d v h);
+  inside = λ d v h. subst (λ x. x < n) (sym (at d v h)) inside;
+  first = λ d v h r. omega arith;
+})
+  where
+    at : (d v : ℕ) → IsIn (row ∷ []) d v → v ≡ to
+    at d v h = eqb-true v to (sym (row_has v) ∙ ap (λ q. has_place (row_at (row ∷ []) q) v) (sym (one_level row d v h)) ∙ h)
 
--- ---- the askers of one holder
+    ends : (v : ℕ) (members : List ℕ) → IsPath R v members to → members ≡ [] → v ≡ to
+    ends v [] path e = path
+    ends v (x ∷ xs) path e = absurd (cc)
 
-pub marks_start : (table : BTreeMap ℕ ℕ) (found : List ℕ) (distance : ℕ) → Marks table table found found [] distance
-marks_start table found distance = record {
-  kept = λ v d h. h;
-  added = λ v d h. inl h;
-  marked = λ v c. absurd (no_member v c);
-  more = λ v c. c;
-  only = λ v c. inl c;
-}
+-- one more level: the places that lead to the last one and weren't seen
+module _ (R : ℕ → ℕ → Type 0) (to n words : ℕ) (levels : List (List ℕ)) (seen : List ℕ) (is : IsSearched R to n words levels seen)
+    (next : List ℕ) (next_has : (v : ℕ) → has_place next v ≡ true ↔ (((k : ℕ) × IsIn levels (length levels - 1) k × R v k) × (has_place seen v ≡ false))) where
+  -- a place that leads to a place seen, in a level before the last, was seen
+  nearer : (v k d : ℕ) → R v k → IsIn levels d k → d + 1 < length levels → (e : ℕ) × IsIn levels e v × (e ≤ d + 1)
+  nearer v k d step at less =
+      let path = is.are.reached d k at in
+      let long : length path.0 ≡ d = path.2 in
+      let found = is.are.least v (k ∷ path.0) (step, path.1) (omega (arith, long, less)) in
+      let bound = found.2 in
+      (found.0, found.1, omega (arith, bound, long))
 
-module _ (old new : BTreeMap ℕ ℕ) (before found askers : List ℕ) (i asker distance : ℕ) (m : Marks old new before found (take i askers) distance) (l : i < length askers) (here : asker ≡ get_or askers i asker) where
-  -- the asker has a distance
-  pub marks_passed : is_some (distance_of new asker) ≡ true → Marks old new before found (take (i + 1) askers) distance
-  marks_passed has = record {
-    kept = m.kept;
-    added = m.added;
-    marked = λ v c. ⊎_elim (λ b. m.marked v b) (λ e. ap (λ x. is_some (distance_of new x)) e ∙ has) (looked_at askers i asker l here v c);
-    more = m.more;
-    only = λ v c. ⊎_elim (λ b. inl b) (λ p. inr (p.0, p.1, looked_before askers i asker l here v p.2)) (m.only v c);
+  -- without a new place, all that lead to `to` were seen
+  all_near : ((v : ℕ) → has_place next v ≡ false) → (v : ℕ) (members : List ℕ) → IsPath R v members to → (d : ℕ) × IsIn levels d v
+  all_near none v [] path = let f = is.are.least v [] path is.some in (f.0, f.1)
+  all_near none v (k ∷ rest) path =
+      let at = all_near none k rest path.1 in
+      let inside = in_level levels at.0 k at.1 in
+      elim (cases_lt (at.0 + 1) (length levels)) [
+        | inl less ↦ let f = nearer v k at.0 path.0 at.1 less in (f.0, f.1)
+        | inr past ↦
+            let last : at.0 ≡ length levels - 1 = omega (arith, inside, past) in
+            elim (cases_Bool (has_place seen v)) [
+              | inl e ↦ is.seen_in v e
+              | inr e ↦ absurd (true≢false (sym ((next_has v).1 ((k, subst (λ d. IsIn levels d k) last at.1, path.0), e)) ∙ none v))
+            ]
+      ]
+
+  -- and where no level has a place that `to` leads to, it is on no cycle
+  pub no_cycle : ((v : ℕ) → has_place next v ≡ false) → ((v : ℕ) → IsIn levels (length levels - 1) v → R to v → ⊥) → (other : List ℕ) → IsCycleOf R to other → ⊥
+  no_cycle none unmet [] h = h
+  no_cycle none unmet (x ∷ []) h = h
+  no_cycle none unmet (x ∷ k ∷ rest) h =
+      let step : R to k = subst (λ j. R j k) h.0 h.1.0 in
+      let at = all_near none k rest h.1.1 in
+      let inside = in_level levels at.0 k at.1 in
+      let low = is.first at.0 k at.1 step in
+      unmet k (subst (λ d. IsIn levels d k) (let e : at.0 ≡ length levels - 1 = omega (arith, inside, low) in e) at.1) step
+
+  old_level : (d : ℕ) → d < length levels → row_at (levels ++ next ∷ []) d ≡ row_at levels d
+  old_level d l = get_or_append_left levels (next ∷ []) [] d l
+
+  new_level : row_at (levels ++ next ∷ []) (length levels) ≡ next
+  new_level = get_or-append_seam levels next [] []
+
+  still : (d v : ℕ) → IsIn levels d v → IsIn (levels ++ next ∷ []) d v
+  still d v h = ap (λ row. has_place row v) (old_level d (in_level levels d v h)) ∙ h
+
+  came : (v : ℕ) → has_place next v ≡ true → IsIn (levels ++ next ∷ []) (length levels) v
+  came v h = ap (λ row. has_place row v) new_level ∙ h
+
+  -- a place of the longer list is of an old level or of the new one
+  from : (P : ℕ → ℕ → Type 0) → ((d v : ℕ) → IsIn levels d v → P d v) → ((v : ℕ) → has_place next v ≡ true → P (length levels) v) → (d v : ℕ) → IsIn (levels ++ next ∷ []) d v → P d v
+  from P old new d v h = elim (cases_lt d (length levels)) [
+    | inl l ↦ old d v (sym (ap (λ row. has_place row v) (old_level d l)) ∙ h)
+    | inr past ↦
+        let inside = in_level (levels ++ next ∷ []) d v h in
+        let long = length-append levels (next ∷ []) in
+        let e : d ≡ length levels = omega (arith, inside, long, past) in
+        subst (λ q. P q v) (sym e) (new v (sym (ap (λ q. has_place (row_at (levels ++ next ∷ []) q) v) e ∙ ap (λ row. has_place row v) new_level) ∙ h))
+  ]
+
+  long : length (levels ++ next ∷ []) ≡ length levels + 1
+  long = length-append levels (next ∷ [])
+
+  more_reached : (v : ℕ) → has_place next v ≡ true → (members : List ℕ) × IsPath R v members to × (length members ≡ length levels)
+  more_reached v h =
+      let k = ((next_has v).0 h).0 in
+      let path = is.are.reached (length levels - 1) k.0 k.1 in
+      let some = is.some in
+      let l = path.2 in
+      (k.0 ∷ path.0, (k.2, path.1), omega (arith, some, l))
+
+  more_short : (v : ℕ) (members : List ℕ) → has_place next v ≡ true → IsPath R v members to → length levels ≤ length members
+  more_short v members h path = elim (cases_lt (length members) (length levels)) [
+    | inl l ↦ let d = is.are.least v members path l in absurd (true≢false (sym (is.in_seen d.0 v d.1) ∙ ((next_has v).0 h).1))
+    | inr le ↦ le
+  ]
+
+  more_least : (v : ℕ) (members : List ℕ) → IsPath R v members to → length members < length levels + 1 → (d : ℕ) × IsIn (levels ++ next ∷ []) d v × (d ≤ length members)
+  more_least v [] path l = let d = is.are.least v [] path is.some in (d.0, still d.0 v d.1, d.2)
+  more_least v (k ∷ rest) path l =
+      let at = is.are.least k rest path.1 (omega arith) in
+      let bound = at.2 in
+      let inside = in_level levels at.0 k at.1 in
+      elim (cases_lt (at.0 + 1) (length levels)) [
+        | inl less ↦ let f = nearer v k at.0 path.0 at.1 less in let b = f.2 in (f.0, still f.0 v f.1, omega (arith, b, bound))
+        | inr past ↦
+            let last : at.0 ≡ length levels - 1 = omega (arith, inside, past) in
+            elim (cases_Bool (has_place seen v)) [
+              | inl e ↦ let d = is.seen_in v e in let within = in_level levels d.0 v d.1 in (d.0, still d.0 v d.1, omega (arith, within, past, bound))
+              | inr e ↦ (length levels, came v ((next_has v).1 ((k, subst (λ d. IsIn levels d k) last at.1, path.0), e)), omega (arith, past, bound))
+            ]
+      ]
+
+  pub search_more : (seen' : List ℕ) → length next ≡ words → length seen' ≡ words → ((v : ℕ) → has_place seen' v ≡ (has_place seen v || has_place next v)) → ((v : ℕ) → has_place next v ≡ true → v < n)
+      → ((v : ℕ) → IsIn levels (length levels - 1) v → R to v → ⊥) → IsSearched R to n words (levels ++ next ∷ []) seen'
+  search_more seen' next_wide seen_wide places within unmet = record {
+    are = record {
+      reached = from (λ d v. (members : List ℕ) × IsPath R v members to × (length members ≡ d)) is.are.reached more_reached;
+      short = λ d v members h path. from (λ e w. (ms : List ℕ) → IsPath R w ms to → e ≤ length ms) (λ e w g ms p. is.are.short e w ms g p) (λ w g ms p. more_short w ms g p) d v h members path;
+      least = λ v members path l. more_least v members path (let e = long in omega (arith, e, l));
+    };
+    some = let e = long in omega (arith, e);
+    wide = λ d l. elim (cases_lt d (length levels)) [
+      | inl less ↦ ap length (old_level d less) ∙ is.wide d less
+      | inr past ↦ let n = long in let e : d ≡ length levels = omega (arith, l, n, past) in ap (λ q. length (row_at (levels ++ next ∷ []) q)) e ∙ ap length new_level ∙ next_wide
+    ];
+    as_wide = seen_wide;
+    seen_in = λ v h. ⊎_elim
+        (λ o. let d = is.seen_in v o in (d.0, still d.0 v d.1))
+        (λ g. (length levels, came v g))
+        (or_cases (has_place seen v) (has_place next v) (sym (places v) ∙ h));
+    in_seen = from (λ d v. has_place seen' v ≡ true) (λ d v h. places v ∙ or_left (has_place seen v) (has_place next v) (is.in_seen d v h)) (λ v h. places v ∙ or_right (has_place seen v) (has_place next v) h);
+    inside = from (λ d v. v < n) is.inside within;
+    first = from (λ d v. R to v → length (levels ++ next ∷ []) ≤ d + 1)
+        (λ d v h r. let low = is.first d v h r in let inside = in_level levels d v h in absurd (unmet v (subst (λ e. IsIn levels e v) (let same : d ≡ length levels - 1 = omega (arith, low, inside) in same) h) r))
+        (λ v h r. let e = long in omega (arith, e));
   }
 
-  -- the asker gets the distance
-  module _ (next : BTreeMap ℕ ℕ) (none : is_some (distance_of new asker) ≡ false) (sets : SetsAt new next asker distance) where
-    still : (v d : ℕ) → distance_of new v ≡ Some d → distance_of next v ≡ Some d
-    still v d h = ⊎_elim
-        (λ (e : asker ≡ v). absurd (none_is d (sym (is_none (distance_of new asker) none) ∙ ap (distance_of new) e ∙ h)))
-        (λ (ne : asker ≢ v). set_other new next asker distance v sets ne ∙ h)
-        (cases_eq asker v)
+-- the last level has a place that `to` leads to
+pub search_end : (R : ℕ → ℕ → Type 0) (to n words : ℕ) (levels : List (List ℕ)) (seen : List ℕ) → IsSearched R to n words levels seen → (v : ℕ) × R to v × IsIn levels (length levels - 1) v → LeadBack R to levels
+search_end R to n words levels seen is met = record { are = is.are; some = is.some; met = met; first = is.first }
 
-    not_old : distance_of old asker ≡ None
-    not_old = go (distance_of old asker) refl
-      where
-        go : (o : Option ℕ) → distance_of old asker ≡ o → o ≡ None
-        go None e = refl
-        go (Some d) e = absurd (none_is d (sym (is_none (distance_of new asker) none) ∙ m.kept asker d e))
+-- whether the last level has a place that `to` leads to
+abbrev pub IsMet : (ℕ → ℕ → Type 0) → ℕ → List (List ℕ) → Bool → Type 0
+IsMet R to levels true = (v : ℕ) × R to v × IsIn levels (length levels - 1) v
+IsMet R to levels false = (v : ℕ) → IsIn levels (length levels - 1) v → R to v → ⊥
 
-    pub marks_set : Marks old next before (found ++ asker ∷ []) (take (i + 1) askers) distance
-    marks_set = record {
-      kept = λ v d h. still v d (m.kept v d h);
-      added = λ v d h. ⊎_elim
-          (λ (e : asker ≡ v). inr (some_eq d distance (sym h ∙ ap (distance_of next) (sym e) ∙ set_same new next asker distance sets), subst (Contains (found ++ asker ∷ [])) e (contains_last found asker)))
-          (λ (ne : asker ≢ v). ⊎_elim (λ o. inl o) (λ p. inr (p.0, contains_left found (asker ∷ []) v p.1)) (m.added v d (sym (set_other new next asker distance v sets ne) ∙ h)))
-          (cases_eq asker v);
-      marked = λ v c. ⊎_elim
-          (λ b. grows_from new next still v (m.marked v b))
-          (λ e. ap (λ x. is_some (distance_of next x)) e ∙ ap is_some (set_same new next asker distance sets))
-          (looked_at askers i asker l here v c);
-      more = λ v c. contains_left found (asker ∷ []) v (m.more v c);
-      only = λ v c. ⊎_elim
-          (λ f. ⊎_elim (λ b. inl b) (λ p. inr (still v distance p.0, p.1, looked_before askers i asker l here v p.2)) (m.only v f))
-          (λ (e : v ≡ asker). inr (ap (distance_of next) e ∙ set_same new next asker distance sets, ap (distance_of old) e ∙ not_old, subst (Contains (take (i + 1) askers)) (sym e) (looked_now askers i asker l here)))
-          (contains_push found asker v c);
-    }
+-- what a search of a common place says
+pub met_from : (R : ℕ → ℕ → Type 0) (to : ℕ) (levels : List (List ℕ)) (last holders : List ℕ) (o : Option ℕ) (b : Bool) → b ≡ is_some o → row_at levels (length levels - 1) ≡ last → ((v : ℕ) → has_place holders v ≡ true ↔ R to v)
+    → IfSome o (λ p. (has_place last p ≡ true) × (has_place holders p ≡ true)) → IfNone o ((k : ℕ) → has_place last k ≡ true → has_place holders k ≡ true → ⊥) → IsMet R to levels b
+met_from R to levels last holders (Some p) b is here leads some none = subst (IsMet R to levels) (sym is) (p, (leads p).0 some.1, ap (λ row. has_place row p) here ∙ some.0)
+met_from R to levels last holders None b is here leads some none = subst (IsMet R to levels) (sym is) (λ v h r. none v (sym (ap (λ row. has_place row v) here) ∙ h) ((leads v).1 r))
 
--- ---- the askers of a level
+pub unmet : (R : ℕ → ℕ → Type 0) (to : ℕ) (levels : List (List ℕ)) (b : Bool) → b ≡ false → IsMet R to levels b → (v : ℕ) → IsIn levels (length levels - 1) v → R to v → ⊥
+unmet R to levels b is met = subst (IsMet R to levels) is met
 
-pub level_marks_start : (waits : List (ℕ × ℕ)) (table : BTreeMap ℕ ℕ) (found : List ℕ) (distance : ℕ) → found ≡ [] → MarksLevel waits table table [] found distance
-level_marks_start waits table found distance empty = record {
-  kept = λ v d h. h;
-  added = λ v d h. inl h;
-  marked = λ v k c. absurd (no_member k c);
-  only = λ v c. absurd (no_member v (subst (λ f. Contains f v) empty c));
-}
+pub met_end : (R : ℕ → ℕ → Type 0) (to : ℕ) (levels : List (List ℕ)) (b : Bool) → b ≡ true → IsMet R to levels b → (v : ℕ) × R to v × IsIn levels (length levels - 1) v
+met_end R to levels b is met = subst (IsMet R to levels) is met
 
-pub level_marks_more : (waits : List (ℕ × ℕ)) (old mid new : BTreeMap ℕ ℕ) (holders before found askers : List ℕ) (i holder distance : ℕ) → i < length holders → holder ≡ get_or holders i holder →
-    MarksLevel waits old mid (take i holders) before distance → Marks mid new before found askers distance → ((j : ℕ) → Contains askers j → WaitsIn waits j holder) → ((j : ℕ) → WaitsIn waits j holder → Contains askers j) →
-    MarksLevel waits old new (take (i + 1) holders) found distance
-level_marks_more waits old mid new holders before found askers i holder distance l here m s wait asked = record {
-  kept = λ v d h. s.kept v d (m.kept v d h);
-  added = λ v d h. ⊎_elim
-      (λ o. ⊎_elim (λ first. inl first) (λ p. inr (p.0, s.more v p.1)) (m.added v d o))
-      (λ p. inr p)
-      (s.added v d h);
-  marked = λ v k c w. ⊎_elim
-      (λ b. grows_from mid new s.kept v (m.marked v k b w))
-      (λ e. s.marked v (asked v (subst (WaitsIn waits v) e w)))
-      (looked_at holders i holder l here k c);
-  only = λ v c. ⊎_elim
-      (λ b. let p = m.only v b in (s.kept v distance p.0, p.1, (p.2.0, looked_before holders i holder l here p.2.0 p.2.1, p.2.2)))
-      (λ p. (p.0, before_that v p.1, (holder, looked_now holders i holder l here, wait v p.2)))
-      (s.only v c);
-}
+-- the new level, by the places of the last and by R
+pub next_from : (R : ℕ → ℕ → Type 0) (levels askers : List (List ℕ)) (last seen next : List ℕ) → row_at levels (length levels - 1) ≡ last → ((v k : ℕ) → has_place (row_at askers k) v ≡ true ↔ R v k)
+    → ((v : ℕ) → has_place next v ≡ true ↔ (((k : ℕ) × (has_place last k ≡ true) × (has_place (row_at askers k) v ≡ true)) × (has_place seen v ≡ false)))
+    → (v : ℕ) → has_place next v ≡ true ↔ (((k : ℕ) × IsIn levels (length levels - 1) k × R v k) × (has_place seen v ≡ false))
+next_from R levels askers last seen next here leads next_has v = (
+  λ h. let g = (next_has v).0 h in ((g.0.0, ap (λ row. has_place row g.0.0) here ∙ g.0.1, (leads v g.0.0).0 g.0.2), g.1),
+  λ g. (next_has v).1 ((g.0.0, sym (ap (λ row. has_place row g.0.0) here) ∙ g.0.1, (leads v g.0.0).1 g.0.2), g.1),
+)
+
+-- a row of one place
+pub only_place : (new old : List ℕ) (place : ℕ) → ((k : ℕ) → has_place new k ≡ ((k == place) || has_place old k)) → ((k : ℕ) → has_place old k ≡ false) → (k : ℕ) → has_place new k ≡ (k == place)
+only_place new old place places none k = places k ∙ ap (λ b. (k == place) || b) (none k) ∙ alone (k == place)
   where
-    before_that : (v : ℕ) → distance_of mid v ≡ None → distance_of old v ≡ None
-    before_that v h = go (distance_of old v) refl
-      where
-        go : (o : Option ℕ) → distance_of old v ≡ o → o ≡ None
-        go None e = refl
-        go (Some d) e = absurd (none_is d (sym h ∙ m.kept v d e))
+    alone : (b : Bool) → (b || false) ≡ b
+    alone true = refl
+    alone false = refl
 
-pub level_marks_end : (waits : List (ℕ × ℕ)) (old new : BTreeMap ℕ ℕ) (holders found : List ℕ) (i distance : ℕ) → length holders ≤ i → MarksLevel waits old new (take i holders) found distance → MarksLevel waits old new holders found distance
-level_marks_end waits old new holders found i distance past m = record {
-  kept = m.kept;
-  added = m.added;
-  marked = λ v k c w. m.marked v k (looked_all holders i k past c) w;
-  only = λ v c. let p = m.only v c in (p.0, p.1, (p.2.0, looked_within holders i p.2.0 past p.2.1, p.2.2));
-}
+pub words_small : (n : ℕ) → n < 2 ^ 63 → n / 64 + 1 ≤ 2 ^ 57
+words_small n l = omega arith
 
--- ---- all levels
+pub last_pushed : (levels : List (List ℕ)) (next : List ℕ) → row_at (levels ++ next ∷ []) (length (levels ++ next ∷ []) - 1) ≡ next
+last_pushed levels next =
+    let long = length-append levels (next ∷ []) in
+    let last : length (levels ++ next ∷ []) - 1 ≡ length levels = omega (arith, long) in
+    ap (row_at (levels ++ next ∷ [])) last ∙ get_or-append_seam levels next [] []
 
--- one for an empty level, and one for another
-abbrev pub spare : List ℕ → ℕ
-spare [] = 1
-spare (v ∷ level) = 0
+pub one_last : (levels : List (List ℕ)) (row d : List ℕ) → levels ≡ row ∷ [] → row_at levels (length levels - 1) ≡ get_or levels 0 d
+one_last levels row d is = subst (λ ls. row_at ls (length ls - 1) ≡ get_or ls 0 d) (sym is) (last_pushed [] row)
 
-abbrev pub busy : List ℕ → ℕ
-busy [] = 0
-busy (v ∷ level) = 1
-
--- no one is further than the level, whose members are listed, and each that is at most as far has its distance
-pub record IsLevel (waits : List (ℕ × ℕ)) (to : ℕ) (table : BTreeMap ℕ ℕ) (level : List ℕ) (distance : ℕ) : Type 0 where
-  pub low : (v d : ℕ) → distance_of table v ≡ Some d → (d ≤ distance) × ((members : List ℕ) × Leads waits v members to × (length members ≡ d))
-  pub all : (v : ℕ) (members : List ℕ) → Leads waits v members to → length members ≤ distance → (d : ℕ) × (distance_of table v ≡ Some d) × (d ≤ length members)
-  pub there : (v : ℕ) → distance_of table v ≡ Some distance → Contains level v
-  pub here : (v : ℕ) → Contains level v → distance_of table v ≡ Some distance
-  pub few : distance + unmarked table waits ≤ length waits + spare level
-
-at_most_one : (t : Bool) → (if t then 0 else 1) ≤ 1
-at_most_one true = omega arith
-at_most_one false = omega arith
-
-unmarked-length : (table : BTreeMap ℕ ℕ) (waits : List (ℕ × ℕ)) → unmarked table waits ≤ length waits
-unmarked-length table [] = omega arith
-unmarked-length table (w ∷ waits) =
-    let h = unmarked-length table waits in
-    let one = at_most_one (is_some (distance_of table w.0)) in
-    omega (arith, h, one)
-
-no_members : (members : List ℕ) → length members ≤ 0 → members ≡ []
-no_members [] h = refl
-no_members (x ∷ xs) h = absurd (omega arith)
-
--- the process itself is the first level
-pub level_start : (waits : List (ℕ × ℕ)) (to : ℕ) (old table : BTreeMap ℕ ℕ) → old.entries ≡ [] → SetsAt old table to 0 → IsLevel waits to table (to ∷ []) 0
-level_start waits to old table empty sets = record {
-  low = λ v d h. let e = only v d h in let z = zero_at v d h in (omega (arith, z), ([], sym e, sym z));
-  all = λ v members leads short. at_start v members (no_members members short) leads;
-  there = λ v h. subst (Contains (to ∷ [])) (only v 0 h) (contains_last [] to);
-  here = λ v c. ⊎_elim (λ b. absurd (no_member v b)) (λ e. ap (distance_of table) e ∙ set_same old table to 0 sets) (contains_push [] to v c);
-  few = let h = unmarked-length table waits in omega (arith, h);
-}
-  where
-    only : (v d : ℕ) → distance_of table v ≡ Some d → to ≡ v
-    only v d h = ⊎_elim (λ e. e)
-        (λ (ne : to ≢ v). absurd (none_is d (sym (ap (λ es. lookup (is_at (nat_cmp v)) es) empty) ∙ sym (set_other old table to 0 v sets ne) ∙ h)))
-        (cases_eq to v)
-
-    zero_at : (v d : ℕ) → distance_of table v ≡ Some d → d ≡ 0
-    zero_at v d h = some_eq d 0 (sym h ∙ ap (distance_of table) (sym (only v d h)) ∙ set_same old table to 0 sets)
-
-    at_start : (v : ℕ) (members : List ℕ) → members ≡ [] → Leads waits v members to → (d : ℕ) × (distance_of table v ≡ Some d) × (d ≤ length members)
-    at_start v [] e leads = (0, ap (distance_of table) leads ∙ set_same old table to 0 sets, omega arith)
-    at_start v (x ∷ xs) e leads = absurd (cc)
-
--- who waits for one that is nearer than the level has a distance already
-nearer : (waits : List (ℕ × ℕ)) (to : ℕ) (table : BTreeMap ℕ ℕ) (level : List ℕ) (distance v k e : ℕ) → IsLevel waits to table level distance → WaitsIn waits v k → distance_of table k ≡ Some e → e < distance → (d : ℕ) × (distance_of table v ≡ Some d) × (d ≤ e + 1)
-nearer waits to table level distance v k e is waited at less =
-    let path = (is.low k e at).1 in
-    let long : length path.0 ≡ e = path.2 in
-    let found = is.all v (k ∷ path.0) (waited, path.1) (omega (arith, long, less)) in
-    let bound = found.2 in
-    (found.0, found.1, omega (arith, bound, long))
-
--- the number of processes without a distance falls, or the next level is empty
-fewer : (waits : List (ℕ × ℕ)) (old new : BTreeMap ℕ ℕ) (level found : List ℕ) (distance : ℕ) → MarksLevel waits old new level found distance → unmarked new waits + busy found ≤ unmarked old waits
-fewer waits old new level [] distance m = let h = unmarked_le old new waits (grows_from old new m.kept) in omega (arith, h)
-fewer waits old new level (v ∷ found) distance m =
-    let p = m.only v (0, omega arith, refl) in
-    let w = p.2.2 in
-    let h = unmarked_lt old new waits w.0 (v, p.2.0) (grows_from old new m.kept) w.1 (sym w.2) (ap is_some p.1) (ap is_some p.0) in
-    omega (arith, h)
-
-some_busy : (level : List ℕ) → 0 < length level → busy level ≡ 1
-some_busy [] h = absurd (omega arith)
-some_busy (v ∷ level) h = refl
-
-spare_busy : (level : List ℕ) → spare level + busy level ≡ 1
-spare_busy [] = refl
-spare_busy (v ∷ level) = refl
-
-pub level_smaller : (waits : List (ℕ × ℕ)) (old new : BTreeMap ℕ ℕ) (level found : List ℕ) (distance : ℕ) → 0 < length level → MarksLevel waits old new level found distance → unmarked new waits + busy found < unmarked old waits + busy level
-level_smaller waits old new level found distance some m =
-    let h = fewer waits old new level found distance m in let b = some_busy level some in omega (arith, h, b)
-
-pub level_more : (waits : List (ℕ × ℕ)) (to : ℕ) (old new : BTreeMap ℕ ℕ) (level found : List ℕ) (distance : ℕ) → 0 < length level → IsLevel waits to old level distance → MarksLevel waits old new level found (distance + 1) → IsLevel waits to new found (distance + 1)
-level_more waits to old new level found distance some is m = record {
-  low = low_new;
-  all = λ v members leads short. ⊎_elim
-      (λ (l : distance < length members). far v members leads (omega arith))
-      (λ (l : length members ≤ distance). let a = is.all v members leads l in (a.0, m.kept v a.0 a.1, a.2))
-      (cases_lt distance (length members));
-  there = λ v h. ⊎_elim
-      (λ o. let b = (is.low v (distance + 1) o).0 in absurd (omega (arith, b)))
-      (λ p. p.1)
-      (m.added v (distance + 1) h);
-  here = λ v c. (m.only v c).0;
-  few = let f = fewer waits old new level found (distance + 1) m in let g = is.few in let b = some_busy level some in let s = spare_busy level in let t = spare_busy found in omega (arith, f, g, b, s, t);
-}
-  where
-    low_new : (v d : ℕ) → distance_of new v ≡ Some d → (d ≤ distance + 1) × ((members : List ℕ) × Leads waits v members to × (length members ≡ d))
-    low_new v d h = ⊎_elim
-        (λ old_at. let l = is.low v d old_at in let b = l.0 in (omega (arith, b), l.1))
-        (λ f. let o = (m.only v f.1).2 in let path = (is.low o.0 distance (is.here o.0 o.1)).1 in let long = path.2 in let e = f.0 in
-        (omega (arith, e), (o.0 ∷ path.0, (o.2, path.1), omega (arith, long, e))))
-        (m.added v d h)
-
-    far : (v : ℕ) (members : List ℕ) → Leads waits v members to → length members ≡ distance + 1 → (d : ℕ) × (distance_of new v ≡ Some d) × (d ≤ length members)
-    far v [] leads long = absurd (omega arith)
-    far v (k ∷ rest) leads long =
-        let at = is.all k rest leads.1 (omega arith) in
-        let bound = at.2 in
-        ⊎_elim
-        (λ (l : at.0 < distance).
-        let n = nearer waits to old level distance v k at.0 is leads.0 at.1 l in let b = n.2 in
-        (n.0, m.kept v n.0 n.1, omega (arith, b, bound, long)))
-        (λ (l : distance ≤ at.0).
-        let same : at.0 ≡ distance = omega (arith, l, bound, long) in
-        let s = some_of (distance_of new v) (m.marked v k (is.there k (at.1 ∙ ap (λ n. Some n) same)) leads.0) in
-        let b = (low_new v s.0 s.1).0 in
-        (s.0, s.1, omega (arith, b, long)))
-        (cases_lt at.0 distance)
-
-pub level_end : (waits : List (ℕ × ℕ)) (to : ℕ) (table : BTreeMap ℕ ℕ) (level : List ℕ) (distance : ℕ) → level ≡ [] → IsLevel waits to table level distance → AreDistances waits to table
-level_end waits to table level distance none is = record {
-  reached = λ v d h. (is.low v d h).1;
-  least = closed_all;
-}
-  where
-    closed : (v k e : ℕ) → WaitsIn waits v k → distance_of table k ≡ Some e → (d : ℕ) × (distance_of table v ≡ Some d) × (d ≤ e + 1)
-    closed v k e w at =
-        let bound = (is.low k e at).0 in
-        ⊎_elim
-        (λ (l : e < distance). nearer waits to table level distance v k e is w at l)
-        (λ (l : distance ≤ e).
-        let same : e ≡ distance = omega (arith, l, bound) in
-        absurd (no_member k (subst (λ ks. Contains ks k) none (is.there k (at ∙ ap (λ n. Some n) same)))))
-        (cases_lt e distance)
-
-    closed_all : (v : ℕ) (members : List ℕ) → Leads waits v members to → (d : ℕ) × (distance_of table v ≡ Some d) × (d ≤ length members)
-    closed_all v [] leads = is.all v [] leads (omega arith)
-    closed_all v (k ∷ rest) leads =
-        let at = closed_all k rest leads.1 in
-        let n = closed v k at.0 leads.0 at.1 in
-        let a = at.2 in let b = n.2 in
-        (n.0, n.1, omega (arith, a, b))
-
-pub level_bound : (waits : List (ℕ × ℕ)) (to : ℕ) (table : BTreeMap ℕ ℕ) (level : List ℕ) (distance : ℕ) → IsLevel waits to table level distance → distance ≤ length waits + 1
-level_bound waits to table level distance is = let f = is.few in let s = spare_busy level in omega (arith, f, s)
+pub last_read : (levels : List (List ℕ)) (n : ℕ) (row : List ℕ) → n ≡ length levels → 0 < length levels → row ≡ get_or levels (n - 1) row → row_at levels (length levels - 1) ≡ row
+last_read levels n row e some is = sym (is ∙ get_or_default levels (n - 1) row [] (omega (arith, e, some)) ∙ ap (λ m. row_at levels (m - 1)) e)

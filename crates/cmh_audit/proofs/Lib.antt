@@ -2,6 +2,8 @@ pub mod RunLemmas
 pub mod FrameLemmas
 pub mod LinkLemmas
 pub mod MoveLemmas
+pub mod BitLemmas
+pub mod RowLemmas
 pub mod CountLemmas
 pub mod MergeLemmas
 pub mod ReadyLemmas
@@ -12,7 +14,6 @@ pub mod DeclarationLemmas
 pub mod Members
 pub mod GraphLemmas
 pub mod LevelLemmas
-pub mod LeastLemmas
 pub mod CycleLemmas
 pub mod CountingLemmas
 pub mod ReportLemmas

@@ -9,21 +9,22 @@ use Rattle.cmh_frames.specs.Topology.{Topology}
 use Rattle.cmh_model.specs.declared.journal.Entry.{Entry}
 use Rattle.cmh_model.specs.declared.journal.WorldEvent.{WorldEvent}
 use Rattle.cmh_model.specs.Journals.{IsLawful, frames_to, frame_from, sendings_of, receipts_of}
-use Rattle.cmh_model.specs.Runs.{IsBeginningOf, IsRun, ComesFrom, entries_of}
+use Rattle.cmh_model.specs.Runs.{IsBeginningOf, ComeFromRun, entries_of}
 use Rattle.cmh_model.proofs.Journals.{sendings_of-append, receipts_of-append}
 use Rattle.cmh_journal.specs.Journal.{Journal}
 use Rattle.cmh_audit.specs.Journals.{journal_of, OneEach}
 use Rattle.cmh_audit.specs.Links.{Links, waiting, frames_in, link_cmp}
 use Rattle.cmh_audit.specs.Merging.{taken_of, CanGrow, IsNext, Moves, AreLawfulLengths, IsStuck, AreLeft}
 use Rattle.cmh_model.proofs.Beginnings.{length-beginning, push_eq}
-use Rattle.cmh_audit.proofs.RunLemmas.{entries_of_same, entries_of_other, lawful_beginning, nil_run, longer_run}
+use Rattle.cmh_model.proofs.LongerRuns.{run_first}
+use Rattle.cmh_audit.proofs.RunLemmas.{entries_of_same, entries_of_other, lawful_beginning, longer_run, receipts_of_push}
 use Rattle.cmh_audit.proofs.CountLemmas.{taken_here, journal_here, taken_set_other, found, taken_within, taken_none, limit_here}
 
 -- a merge under way: some run has the entries taken so far, and the links have what was sent and not got
 pub record Merging (t : Topology) (js : List Journal) (limits counts : List ℕ) (links : Links) : Type 0 where
   pub each : length counts ≡ length js
   pub below : (k : ℕ) → k < length js → get_or counts k 0 ≤ get_or limits k 0
-  pub comes : (events : List WorldEvent) × IsRun t events × ComesFrom (taken_of js counts) events
+  pub comes : ComeFromRun t (taken_of js counts)
   pub frames : AreLeft js counts links
 
 -- the site can't take its next entry
@@ -37,15 +38,12 @@ pub merging_start : (t : Topology) (js : List Journal) (limits : List ℕ) (link
 merging_start t js limits links empty = record {
   each = length-replicate (length js) 0;
   below = λ k l. subst (λ n. n ≤ get_or limits k 0) (sym (get_or-replicate (length js) k 0 0 l)) (omega arith);
-  comes = ([], nil_run t, λ site. sym (taken_none js (length js) site));
+  comes = ([], run_first t, λ site. sym (taken_none js (length js) site));
   frames = λ a b. ap (λ es. receipts_of a es ++ waiting links a b) (taken_none js (length js) b) ∙ nothing_waiting links empty a b ∙ sym (ap (sendings_of b) (taken_none js (length js) a));
 }
 
 take_beginning : (m n : ℕ) (xs : List Entry) → m ≤ n → IsBeginningOf (take m xs) (take n xs)
 take_beginning m n xs l = (drop m (take n xs), ap (λ es. es ++ drop m (take n xs)) (sym (take-take m n xs l)) ∙ take-append-drop m (take n xs))
-
-receipts_of_push : (a : ℕ) (es : List Entry) (e : Entry) → receipts_of a (es ++ e ∷ []) ≡ receipts_of a es ++ frame_from a e.event
-receipts_of_push a es e = receipts_of-append a es (e ∷ []) ∙ ap (λ fs. receipts_of a es ++ fs) (append-nil (frame_from a e.event))
 
 receipts_of_if : (a : ℕ) (es : List Entry) (e : Entry) (t : Bool) → receipts_of a (es ++ (if t then e ∷ [] else [])) ≡ receipts_of a es ++ (if t then frame_from a e.event else [])
 receipts_of_if a es e true = receipts_of_push a es e

@@ -2,13 +2,16 @@
 use Rattle.std.proofs.Common.{◌≡◌, ◌≢◌, ℕ, zero, suc, ◌+◌, ◌<◌, ◌≤◌, ◌↔◌, true, false, List, [], ◌∷◌, ◌++◌, length, take, drop, get_or, Option, None, Some, ⊎_elim, sym, ap, subst, refl, ◌∙◌, if◌then◌else◌, arith, length-append}
 use Rattle.std.specs.Prelude.{Contains, MatchOption}
 use Rattle.std.proofs.lemmas.Bool.{cases_eq, eq-eqb, ne_eqb}
+use Rattle.std.specs.List.Sorted.{IsStrictlyIncreasing}
 use Rattle.std.proofs.lemmas.List.{take_more}
+use Rattle.std.proofs.lemmas.List.Kept.{AllPairs-from_increasing}
 use Rattle.std.proofs.Math.Seq.{drop-append_seam}
 use Rattle.cmh_frames.specs.Topology.{Topology, sites_of}
 use Rattle.cmh_model.specs.declared.journal.WorldEvent.{WorldEvent}
 use Rattle.cmh_model.specs.Journals.{sendings_of, receipts_of}
 use Rattle.cmh_model.specs.Runs.{IsRun, ComesFrom, under_way, receipts}
 use Rattle.cmh_model.specs.Waits.{Waits, IsCycle, IsDeclared}
+use Rattle.cmh_model.proofs.Members.{increasing_tail}
 use Rattle.cmh_model.proofs.PathLemmas.{path_map}
 use Rattle.cmh_model.specs.Laws.{DarkPath, AsksAndReplies}
 use Rattle.cmh_journal.specs.Journal.{Journal}
@@ -18,42 +21,38 @@ use Rattle.cmh_audit.specs.Links.{Links, waiting}
 use Rattle.cmh_audit.specs.Sums.{in_journals}
 use Rattle.cmh_audit.specs.Transit.{sum_over, in_transit}
 use Rattle.cmh_audit.specs.Turns.{turned, turns}
-use Rattle.cmh_audit.specs.Cycles.{WaitsIn, IsCycleIn}
-use Rattle.cmh_audit.specs.Reports.{beside, IsFirstCycle, IsFirstCycleIn, AreFirstCycles, AreOnCycles}
+use Rattle.cmh_audit.specs.Cycles.{WaitsIn, IsCycleIn, IsFirstCycleOf}
+use Rattle.cmh_audit.specs.Reports.{beside, IsFirstCycle, AreFirstCycles, AreOnCycles}
 use Rattle.cmh_audit.proofs.Members.{contains_rest}
-use Rattle.cmh_audit.proofs.CountingLemmas.{Fresh, sum_same}
+use Rattle.cmh_audit.proofs.CountingLemmas.{sum_same}
 use Rattle.cmh_audit.proofs.DeclarationLemmas.{declared_at_end}
 use Rattle.cmh_audit.proofs.TurnLemmas.{waits_at_end}
 
-fresh_push : (x : ℕ) (ys : List ℕ) (y : ℕ) → Fresh x ys → x ≢ y → Fresh x (ys ++ y ∷ [])
-fresh_push x [] y fresh ne = (ne, tt)
-fresh_push x (z ∷ ys) y fresh ne = (fresh.0, fresh_push x ys y fresh.1 ne)
+later : (i d : ℕ) (is : List ℕ) → Contains is i → Contains (d ∷ is) i
+later i d is c = (suc c.0, let l = c.1 in omega (arith, l), c.2)
 
--- one more of the list isn't x
-pub fresh_more : (x : ℕ) (ys : List ℕ) (i y : ℕ) → i < length ys → y ≡ get_or ys i y → Fresh x (take i ys) → x ≢ y → Fresh x (take (i + 1) ys)
-fresh_more x ys i y l here fresh ne = subst (Fresh x) (sym (take_more ys i y l ∙ ap (λ z. take i ys ++ z ∷ []) (sym here))) (fresh_push x (take i ys) y fresh ne)
+pub beside_none : (ds : List ℕ) (cs : List (List ℕ)) (i : ℕ) → (Contains ds i → ⊥) → beside ds cs i ≡ None
+beside_none [] cs i none = refl
+beside_none (d ∷ ds) [] i none = refl
+beside_none (d ∷ ds) (c ∷ cs) i none = ap (λ t. if t then Some c else beside ds cs i) (ne_eqb d i (λ e. none (0, omega arith, e))) ∙ beside_none ds cs i (λ h. none (later i d ds h))
 
-pub beside_none : (ds : List ℕ) (cs : List (List ℕ)) (i : ℕ) → Fresh i ds → beside ds cs i ≡ None
-beside_none [] cs i fresh = refl
-beside_none (d ∷ ds) [] i fresh = refl
-beside_none (d ∷ ds) (c ∷ cs) i fresh = ap (λ t. if t then Some c else beside ds cs i) (ne_eqb d i (λ e. fresh.0 (sym e))) ∙ beside_none ds cs i fresh.1
-
-pub beside_here : (ds : List ℕ) (cs : List (List ℕ)) (i k d : ℕ) (c : List ℕ) → length cs ≡ length ds → k < length ds → d ≡ get_or ds k d → d ≡ i → c ≡ get_or cs k c → Fresh i (take k ds) → beside ds cs i ≡ Some c
-beside_here [] cs i k d c long l here is there fresh = absurd (omega arith)
-beside_here (x ∷ ds) [] i k d c long l here is there fresh = absurd (omega arith)
-beside_here (x ∷ ds) (y ∷ cs) i zero d c long l here is there fresh = ap (λ t. if t then Some y else beside ds cs i) (eq-eqb x i (sym here ∙ is)) ∙ ap (λ z. Some z) (sym there)
-beside_here (x ∷ ds) (y ∷ cs) i (suc k) d c long l here is there fresh =
-    ap (λ t. if t then Some y else beside ds cs i) (ne_eqb x i (λ e. fresh.0 (sym e))) ∙ beside_here ds cs i k d c (omega arith) (omega arith) here is there fresh.1
+pub beside_here : (ds : List ℕ) (cs : List (List ℕ)) (i k : ℕ) (c : List ℕ) → IsStrictlyIncreasing ds → length cs ≡ length ds → k < length ds → get_or ds k 0 ≡ i → c ≡ get_or cs k c → beside ds cs i ≡ Some c
+beside_here [] cs i k c up long l is there = absurd (omega arith)
+beside_here (x ∷ ds) [] i k c up long l is there = absurd (omega arith)
+beside_here (x ∷ ds) (y ∷ cs) i zero c up long l is there = ap (λ t. if t then Some y else beside ds cs i) (eq-eqb x i is) ∙ ap (λ z. Some z) (sym there)
+beside_here (x ∷ ds) (y ∷ cs) i (suc k) c up long l is there =
+    let less : x < get_or ds k 0 = AllPairs-from_increasing (x ∷ ds) up 0 (suc k) 0 (omega arith) l in
+    ap (λ t. if t then Some y else beside ds cs i) (ne_eqb x i (λ e. absurd (omega (arith, less, e, is)))) ∙ beside_here ds cs i k c (increasing_tail x ds up) (omega arith) (omega arith) is there
 
 -- ---- the cycles
 
-firsts_push : (waits : List (ℕ × ℕ)) (is : List ℕ) (cs : List (List ℕ)) (i : ℕ) (c : List ℕ) → AreFirstCycles waits is cs → IsFirstCycleIn waits i c → AreFirstCycles waits (is ++ i ∷ []) (cs ++ c ∷ [])
+firsts_push : (waits : List (ℕ × ℕ)) (is : List ℕ) (cs : List (List ℕ)) (i : ℕ) (c : List ℕ) → AreFirstCycles waits is cs → IsFirstCycleOf (λ j k. WaitsIn waits j k) i c → AreFirstCycles waits (is ++ i ∷ []) (cs ++ c ∷ [])
 firsts_push waits [] [] i c are first = (first, tt)
 firsts_push waits [] (d ∷ cs) i c are first = absurd are
 firsts_push waits (j ∷ is) [] i c are first = absurd are
 firsts_push waits (j ∷ is) (d ∷ cs) i c are first = (are.0, firsts_push waits is cs i c are.1 first)
 
-pub firsts_more : (waits : List (ℕ × ℕ)) (is : List ℕ) (cs : List (List ℕ)) (k i : ℕ) (c : List ℕ) → k < length is → i ≡ get_or is k i → AreFirstCycles waits (take k is) cs → IsFirstCycleIn waits i c → AreFirstCycles waits (take (k + 1) is) (cs ++ c ∷ [])
+pub firsts_more : (waits : List (ℕ × ℕ)) (is : List ℕ) (cs : List (List ℕ)) (k i : ℕ) (c : List ℕ) → k < length is → i ≡ get_or is k i → AreFirstCycles waits (take k is) cs → IsFirstCycleOf (λ j k. WaitsIn waits j k) i c → AreFirstCycles waits (take (k + 1) is) (cs ++ c ∷ [])
 firsts_more waits is cs k i c l here are first =
     subst (λ js. AreFirstCycles waits js (cs ++ c ∷ [])) (sym (take_more is k i l ∙ ap (λ z. take k is ++ z ∷ []) (sym here))) (firsts_push waits (take k is) cs i c are first)
 
@@ -63,21 +62,18 @@ firsts-length waits [] (c ∷ cs) are = absurd are
 firsts-length waits (i ∷ is) [] are = absurd are
 firsts-length waits (i ∷ is) (c ∷ cs) are = ap suc (firsts-length waits is cs are.1)
 
-later : (i d : ℕ) (is : List ℕ) → Contains is i → Contains (d ∷ is) i
-later i d is c = (suc c.0, let l = c.1 in omega (arith, l), c.2)
-
 -- what is beside a process is its first cycle, and a process without one isn't in the list
-pub beside_is : (waits : List (ℕ × ℕ)) (is : List ℕ) (cs : List (List ℕ)) (i : ℕ) → AreFirstCycles waits is cs → MatchOption (beside is cs i) (Contains is i → ⊥) (λ c. Contains is i × IsFirstCycleIn waits i c)
+pub beside_is : (waits : List (ℕ × ℕ)) (is : List ℕ) (cs : List (List ℕ)) (i : ℕ) → AreFirstCycles waits is cs → MatchOption (beside is cs i) (Contains is i → ⊥) (λ c. Contains is i × IsFirstCycleOf (λ j k. WaitsIn waits j k) i c)
 beside_is waits [] cs i are = λ c. let l = c.1 in absurd (omega (arith, l))
 beside_is waits (d ∷ is) [] i are = absurd are
 beside_is waits (d ∷ is) (m ∷ cs) i are =
-    let M : Option (List ℕ) → Type 0 = λ o. MatchOption o (Contains (d ∷ is) i → ⊥) (λ c. Contains (d ∷ is) i × IsFirstCycleIn waits i c) in
+    let M : Option (List ℕ) → Type 0 = λ o. MatchOption o (Contains (d ∷ is) i → ⊥) (λ c. Contains (d ∷ is) i × IsFirstCycleOf (λ j k. WaitsIn waits j k) i c) in
     ⊎_elim
-    (λ (e : d ≡ i). subst M (sym (ap (λ t. if t then Some m else beside is cs i) (eq-eqb d i e))) ((0, omega arith, e), subst (λ x. IsFirstCycleIn waits x m) e are.0))
+    (λ (e : d ≡ i). subst M (sym (ap (λ t. if t then Some m else beside is cs i) (eq-eqb d i e))) ((0, omega arith, e), subst (λ x. IsFirstCycleOf (λ j k. WaitsIn waits j k) x m) e are.0))
     (λ (ne : d ≢ i). subst M (sym (ap (λ t. if t then Some m else beside is cs i) (ne_eqb d i ne))) (wider (beside is cs i) ne (beside_is waits is cs i are.1)))
     (cases_eq d i)
   where
-    wider : (o : Option (List ℕ)) → d ≢ i → MatchOption o (Contains is i → ⊥) (λ c. Contains is i × IsFirstCycleIn waits i c) → MatchOption o (Contains (d ∷ is) i → ⊥) (λ c. Contains (d ∷ is) i × IsFirstCycleIn waits i c)
+    wider : (o : Option (List ℕ)) → d ≢ i → MatchOption o (Contains is i → ⊥) (λ c. Contains is i × IsFirstCycleOf (λ j k. WaitsIn waits j k) i c) → MatchOption o (Contains (d ∷ is) i → ⊥) (λ c. Contains (d ∷ is) i × IsFirstCycleOf (λ j k. WaitsIn waits j k) i c)
     wider None ne h = λ c. h (contains_rest i d is ne c)
     wider (Some c) ne h = (later i d is h.0, h.1)
 
@@ -94,13 +90,13 @@ module _ (waits : List (ℕ × ℕ)) (run : List WorldEvent) (same : (j k : ℕ)
   cycle_from i (x ∷ []) h = h
   cycle_from i (x ∷ y ∷ others) h = (h.0, path_map (Waits run) (WaitsIn waits) (λ p q w. (same p q).1 w) x (y ∷ others) i h.1)
 
-  pub first_to : (i : ℕ) (members : List ℕ) → IsFirstCycleIn waits i members → IsFirstCycle run i members
+  pub first_to : (i : ℕ) (members : List ℕ) → IsFirstCycleOf (λ j k. WaitsIn waits j k) i members → IsFirstCycle run i members
   first_to i members h = record {
     cycle = cycle_to i members h.cycle;
     first = λ other c. h.first other (cycle_from i other c);
   }
 
-  pub cycles_to : (o : Option (List ℕ)) (i : ℕ) (In : Type 0) → In ↔ IsDeclared run i → MatchOption o (In → ⊥) (λ c. In × IsFirstCycleIn waits i c) → MatchOption o (IsDeclared run i → ⊥) (λ c. IsDeclared run i × IsFirstCycle run i c)
+  pub cycles_to : (o : Option (List ℕ)) (i : ℕ) (In : Type 0) → In ↔ IsDeclared run i → MatchOption o (In → ⊥) (λ c. In × IsFirstCycleOf (λ j k. WaitsIn waits j k) i c) → MatchOption o (IsDeclared run i → ⊥) (λ c. IsDeclared run i × IsFirstCycle run i c)
   cycles_to None i In is h = λ d. h (is.1 d)
   cycles_to (Some c) i In is h = (is.0 h.0, first_to i c h.1)
 

@@ -1,5 +1,5 @@
 -- Runs grow by one entry at a time, and what cannot grow holds every run.
-use Rattle.std.proofs.Common.{◌≡◌, ◌≢◌, ℕ, List, [], ◌∷◌, ◌++◌, ⊎_elim, sym, ap, subst, refl, ◌∙◌, append-nil}
+use Rattle.std.proofs.Common.{◌≡◌, ◌≢◌, ℕ, List, [], ◌∷◌, ◌++◌, ⊎_elim, sym, ap, subst, refl, ◌∙◌, append-nil, append_assoc, length, drop}
 use Rattle.std.proofs.lemmas.Bool.{cases_eq}
 use Rattle.cmh_frames.specs.declared.frame.Frame.{Frame}
 use Rattle.cmh_frames.specs.Topology.{Topology}
@@ -7,12 +7,14 @@ use Rattle.cmh_model.specs.declared.journal.Entry.{Entry}
 use Rattle.cmh_model.specs.declared.journal.WorldEvent.{WorldEvent}
 use Rattle.cmh_model.specs.State.{State, empty_state}
 use Rattle.cmh_model.specs.Rules.{after}
-use Rattle.cmh_model.specs.Journals.{LawfulFrom, IsLawful, sendings_of, receipts_of}
+use Rattle.cmh_model.specs.Journals.{LawfulFrom, IsLawful, frame_from, sendings_of, receipts_of}
 use Rattle.cmh_model.specs.Runs.{IsBeginningOf, entries_of, sendings, receipts, IsRun}
 use Rattle.cmh_model.proofs.Effects.{none_from_own}
-use Rattle.cmh_model.proofs.Journals.{entries_here, entries_elsewhere, entries_of-append, lawful_front}
+use Rattle.cmh_model.proofs.Journals.{entries_here, entries_elsewhere, entries_of-append, lawful_front, lawful_rest, receipts_of-append}
+use Rattle.cmh_model.proofs.LongerRuns.{run_longer}
+use Rattle.std.proofs.Math.Seq.{drop-append_seam}
 use Rattle.cmh_audit.specs.Merging.{CanGrow}
-use Rattle.cmh_model.proofs.Beginnings.{beginning_refl, beginning_nil, beginning_trans, beginning_push, beginning_more, grow, sendings_of-beginning}
+use Rattle.cmh_model.proofs.Beginnings.{beginning_nil, beginning_trans, beginning_more, grow, sendings_of-beginning}
 
 pub entries_of-beginning : (site : ℕ) (xs ys : List WorldEvent) → IsBeginningOf xs ys → IsBeginningOf (entries_of site xs) (entries_of site ys)
 entries_of-beginning site xs ys p = (entries_of site p.0, sym (entries_of-append site xs p.0) ∙ ap (entries_of site) p.1)
@@ -41,48 +43,19 @@ receipts_of_self t site xs lawful = none_from_self t site empty_state xs lawful
 
 -- ---- the merge takes one more entry
 
-nil_in_order : (before : List WorldEvent) → IsBeginningOf before [] → (a b : ℕ) → IsBeginningOf (receipts a b before) (sendings a b before)
-nil_in_order [] p a b = ([], refl)
-nil_in_order (w ∷ before) p a b = let e : w ∷ (before ++ p.0) ≡ [] = p.1 in absurd (cc)
+-- what lies behind a beginning of a list
+behind : (xs ys zs : List Frame) → IsBeginningOf (xs ++ ys) zs → IsBeginningOf ys (drop (length xs) zs)
+behind xs ys zs p = (p.0, sym (drop-append_seam xs (ys ++ p.0)) ∙ ap (drop (length xs)) (sym (append_assoc xs ys p.0) ∙ p.1))
 
-pub nil_run : (t : Topology) → IsRun t []
-nil_run t = record {
-  lawful = λ site. tt;
-  in_order = nil_in_order;
-}
-
-longer_in_order : (t : Topology) (run : List WorldEvent) (w : WorldEvent) → IsRun t run → CanGrow t w.site (λ site. entries_of site run) w.entry → (a b : ℕ) → IsBeginningOf (receipts a b (run ++ w ∷ [])) (sendings a b (run ++ w ∷ []))
-longer_in_order t run w is_run can a b =
-    ⊎_elim
-    (λ h. let P : ℕ → Type 0 = λ s. IsBeginningOf (receipts a s (run ++ w ∷ [])) (sendings a s (run ++ w ∷ [])) in subst P h here)
-    (λ h. there h)
-    (cases_eq w.site b)
-  where
-    grown : (s : ℕ) → IsBeginningOf (sendings a s run) (sendings a s (run ++ w ∷ []))
-    grown s = sendings_of-beginning s (entries_of a run) (entries_of a (run ++ w ∷ [])) (entries_of-beginning a run (run ++ w ∷ []) (w ∷ [], refl))
-
-    here : IsBeginningOf (receipts a w.site (run ++ w ∷ [])) (sendings a w.site (run ++ w ∷ []))
-    here =
-        let P : List Entry → Type 0 = λ es. IsBeginningOf (receipts_of a es) (sendings_of w.site (entries_of a run)) in
-        beginning_trans _ _ _ (subst P (sym (entries_of_same w.site run w refl)) (can.got a)) (grown w.site)
-
-    there : w.site ≢ b → IsBeginningOf (receipts a b (run ++ w ∷ [])) (sendings a b (run ++ w ∷ []))
-    there h =
-        let P : List Entry → Type 0 = λ es. IsBeginningOf (receipts_of a es) (sendings a b run) in
-        beginning_trans _ _ _ (subst P (sym (entries_of_other b run w h)) (is_run.in_order run (beginning_refl run) a b)) (grown b)
+pub receipts_of_push : (a : ℕ) (es : List Entry) (e : Entry) → receipts_of a (es ++ e ∷ []) ≡ receipts_of a es ++ frame_from a e.event
+receipts_of_push a es e = receipts_of-append a es (e ∷ []) ∙ ap (λ fs. receipts_of a es ++ fs) (append-nil (frame_from a e.event))
 
 pub longer_run : (t : Topology) (run : List WorldEvent) (w : WorldEvent) → IsRun t run → CanGrow t w.site (λ site. entries_of site run) w.entry → IsRun t (run ++ w ∷ [])
-longer_run t run w is_run can = record {
-  lawful = λ site. ⊎_elim
-      (λ h. let P : ℕ → Type 0 = λ s. IsLawful t s (entries_of s (run ++ w ∷ [])) in
-      subst P h (subst (IsLawful t w.site) (sym (entries_of_same w.site run w refl)) can.lawful))
-      (λ h. subst (IsLawful t site) (sym (entries_of_other site run w h)) (is_run.lawful site))
-      (cases_eq w.site site);
-  in_order = λ before p a b. ⊎_elim
-      (λ q. is_run.in_order before q a b)
-      (λ q. let P : List WorldEvent → Type 0 = λ l. IsBeginningOf (receipts a b l) (sendings a b l) in subst P (sym q) (longer_in_order t run w is_run can a b))
-      (beginning_push before run w p);
-}
+longer_run t run w is_run can =
+    let step = lawful_rest t w.site empty_state (entries_of w.site run) (w.entry ∷ []) can.lawful in
+    run_longer t run w is_run step.0 step.1 (λ a.
+    behind (receipts a w.site run) (frame_from a w.entry.event) (sendings a w.site run)
+    (subst (λ fs. IsBeginningOf fs (sendings a w.site run)) (receipts_of_push a (entries_of w.site run) w.entry) (can.got a)))
 
 -- ---- what cannot grow holds every run of beginnings
 

@@ -9,8 +9,7 @@ use Rattle.std.proofs.lemmas.List.Kept.{IsStrictlyIncreasing-filter}
 use Rattle.std.proofs.lemmas.List.Elements.{All-from_recursion}
 use Rattle.cmh_frames.specs.Topology.{Topology, sites_of}
 use Rattle.cmh_model.specs.declared.journal.Entry.{Entry}
-use Rattle.cmh_model.specs.declared.journal.WorldEvent.{WorldEvent}
-use Rattle.cmh_model.specs.Runs.{IsBeginningOf, IsRun, ComesFrom, entries_of}
+use Rattle.cmh_model.specs.Runs.{IsBeginningOf, ComeFromRun, entries_of}
 use Rattle.cmh_journal.specs.Journal.{Journal}
 use Rattle.cmh_audit.specs.Journals.{journal_of, NoneAt, OneEach}
 use Rattle.cmh_audit.specs.Merging.{taken_of, IsStuck}
@@ -175,12 +174,12 @@ are_stops t js counts rising set stuck some = record {
 }
 
 -- no stop: the journals come from a run
-pub come_from : (t : Topology) (js : List Journal) (counts : List ℕ) → IsSet t js → IsStuck t js counts → stops_at (sites_of t) js counts ≡ [] → (run : List WorldEvent) × IsRun t run × ComesFrom (journal_of js) run
+pub come_from : (t : Topology) (js : List Journal) (counts : List ℕ) → IsSet t js → IsStuck t js counts → stops_at (sites_of t) js counts ≡ [] → ComeFromRun t (journal_of js)
 come_from t js counts set stuck none =
     (stuck.comes.0, stuck.comes.1, λ site. stuck.comes.2 site ∙ sym (before_is t js counts set stuck site) ∙ ap (λ rows. before_stop rows site (journal_of js site)) none)
 
 -- journals that stop come from no run
-pub stops_refuse : (t : Topology) (js : List Journal) (stops : List (ℕ × ℕ)) → AreStops t js stops → (run : List WorldEvent) × IsRun t run × ComesFrom (journal_of js) run → ⊥
+pub stops_refuse : (t : Topology) (js : List Journal) (stops : List (ℕ × ℕ)) → AreStops t js stops → ComeFromRun t (journal_of js) → ⊥
 stops_refuse t js [] are come = lt_irrefl 0 are.some
 stops_refuse t js (stop ∷ stops) are come =
     let u : IsUnfinished js stop = are.unfinished 0 stop (omega arith) in

@@ -22,40 +22,17 @@ use Rattle.cmh_model.proofs.Sent.{shape, answers_of, to_no, to-append}
 use Rattle.cmh_audit.specs.Transit.{sum_over, in_transit}
 use Rattle.cmh_model.proofs.Beginnings.{beginning_refl, empty_list}
 use Rattle.cmh_model.proofs.Members.{found_at, found_from}
+use Rattle.cmh_model.proofs.Strangers.{at_site, stranger_silent}
 
 -- ---- frames go to sites of the topology alone
 
-is_home : (rows : List (ℕ × List ℕ)) (p s : ℕ) → home_in rows p ≡ Some s → Contains (map (λ (row : ℕ × List ℕ). row.0) rows) s
-is_home [] p s h = absurd (cc)
-is_home (row ∷ rows) p s h = go (list_any (λ q. q == p) row.1) h (λ g. is_home rows p s g)
-  where
-    go : (t : Bool) → (if t then Some row.0 else home_in rows p) ≡ Some s → (home_in rows p ≡ Some s → Contains (map (λ (row : ℕ × List ℕ). row.0) rows) s) → Contains (row.0 ∷ map (λ (row : ℕ × List ℕ). row.0) rows) s
-    go true g more = (0, omega arith, some_eq row.0 s g)
-    go false g more = let c = more g in (suc c.0, let l = c.1 in omega (arith, l), c.2)
-
 module _ (t : Topology) where
-  at_site : (p s : ℕ) → At t p s → Contains (sites_of t) s
-  at_site p s h = is_home t.rows p s h
-
-  -- whoever accepts is a site of the topology
-  accepting : (s : ℕ) (v : State) (ev : Event) → Accepts t s v ev → Contains (sites_of t) s
-  accepting s v (Ask asker targets) h = at_site asker s h.0
-  accepting s v (Reply holder asker) h = at_site holder s h.0
-  accepting s v (Start i) h = at_site i s h.0
-  accepting s v (Got a (Request (asker, holder))) h = at_site holder s h.2
-  accepting s v (Got a (Reply_frame (holder, asker))) h = at_site asker s h.2
-  accepting s v (Got a (Probe (origin, from, to))) h = at_site to s h.2
-
-  stranger_silent : (s : ℕ) (es : List Entry) → (Contains (sites_of t) s → ⊥) → LawfulFrom t s empty_state es → es ≡ []
-  stranger_silent s [] no_site lawful = refl
-  stranger_silent s (e ∷ es) no_site lawful = absurd (no_site (accepting s empty_state e.event lawful.0))
-
   some_home : (p : ℕ) → IsSome (home t p) → Contains (sites_of t) (site_of t p)
   some_home p h = go (home t p) refl h
     where
       go : (o : Option ℕ) → home t p ≡ o → IsSome o → Contains (sites_of t) (site_of t p)
       go None e g = absurd (cc)
-      go (Some s) e g = subst (Contains (sites_of t)) (sym (site_of-at t p s e)) (at_site p s e)
+      go (Some s) e g = subst (Contains (sites_of t)) (sym (site_of-at t p s e)) (at_site t p s e)
 
   module _ (b : ℕ) (no_site : Contains (sites_of t) b → ⊥) where
     not_there : (s : ℕ) → Contains (sites_of t) s → s ≢ b
@@ -87,7 +64,7 @@ module _ (t : Topology) where
     no_probes origin (x ∷ xs) known =
         let at = known 0 (omega arith) x in
         to_no b (site_of t x.1) (Probe (origin, x.0, x.1)) (map (λ (edge : ℕ × ℕ). (site_of t edge.1, Probe (origin, edge.0, edge.1))) xs)
-        (not_there (site_of t x.1) (subst (Contains (sites_of t)) (sym (site_of-at t x.1 at.0 at.1)) (at_site x.1 at.0 at.1)))
+        (not_there (site_of t x.1) (subst (Contains (sites_of t)) (sym (site_of-at t x.1 at.0 at.1)) (at_site t x.1 at.0 at.1)))
         ∙ no_probes origin xs (λ k l d. known (suc k) (omega arith) d)
 
     none_sent : (s : ℕ) (v : State) (e : Entry) → Accepts t s v e.event → Sends t s v e.event e.sent e.declared → frames_to b e.sent ≡ []
@@ -151,7 +128,7 @@ module _ (t : Topology) where
         sym (append-nil (receipts a b events)) ∙ ap (λ fs. receipts a b events ++ fs) (sym none) ∙ whole (receipts a b events) (sendings a b events) (beginning a b))
         (λ not_b. nothing_sent a b (none_to b not_b a empty_state (entries_of a events) (run.lawful a)))
         (site_or_not b))
-        (λ not_a. nothing_sent a b (ap (sendings_of b) (stranger_silent a (entries_of a events) not_a (run.lawful a))))
+        (λ not_a. nothing_sent a b (ap (sendings_of b) (stranger_silent t a (entries_of a events) not_a (run.lawful a))))
         (site_or_not a)
 
     pub drained_iff : (in_transit t events ≡ 0) ↔ IsDrained events

@@ -1,29 +1,21 @@
--- Waits listed by asker, and by holder.
-use Rattle.std.specs.Prelude.{◌≡◌, ℕ, List, [], ◌↔◌, Contains, Option, None, Some, Vec}
-use Rattle.std.specs.Ordering.{nat_cmp}
-use Rattle.std.specs.BTreeMap.{get, BTreeMap}
-use Rattle.std.specs.Global.{Global}
+-- Waits as tables of rows, over the places of the processes that wait.
+use Rattle.std.specs.Prelude.{◌≡◌, ℕ, ◌+◌, ◌/◌, ◌<◌, List, length, slice_index, Contains}
+use Rattle.std.specs.List.Sorted.{IsStrictlyIncreasing}
+use Rattle.cmh_audit.specs.Rows.{IsTable}
 use Rattle.cmh_audit.specs.declared.graph.Graph.{Graph}
 
-abbrev pub Index : Type 0
-Index = BTreeMap ℕ (Vec ℕ Global)
+-- the process at one place waits for that at another
+abbrev pub WaitsAt : List ℕ → List (ℕ × ℕ) → ℕ → ℕ → Type 0
+WaitsAt processes waits a b = (a < length processes) × (b < length processes) × Contains waits (slice_index processes a, slice_index processes b)
 
-abbrev pub items_in : Option (Vec ℕ Global) → List ℕ
-items_in None = []
-items_in (Some list) = list.items
+-- all askers are among the processes, which ascend
+pub record AreAskers (waits : List (ℕ × ℕ)) (processes : List ℕ) : Type 0 where
+  pub ascending : IsStrictlyIncreasing processes
+  pub all : (j k : ℕ) → Contains waits (j, k) → Contains processes j
 
--- what is listed at a key
-abbrev pub listed_at : Index → ℕ → List ℕ
-listed_at index k = items_in (get nat_cmp index k)
-
--- at each asker its holders are listed, and at each holder its askers
-abbrev pub ListsHolders : Index → List (ℕ × ℕ) → Type 0
-ListsHolders index waits = (j k : ℕ) → Contains (listed_at index j) k ↔ Contains waits (j, k)
-
-abbrev pub ListsAskers : Index → List (ℕ × ℕ) → Type 0
-ListsAskers index waits = (k j : ℕ) → Contains (listed_at index k) j ↔ Contains waits (j, k)
-
+-- at each place the rows have the places of its holders, and of its askers
 pub record IsGraph (graph : Graph) (waits : List (ℕ × ℕ)) : Type 0 where
   pub waits_are : graph.waits.items ≡ waits
-  pub holders : ListsHolders graph.holders waits
-  pub askers : ListsAskers graph.askers waits
+  pub processes : AreAskers waits graph.processes.items
+  pub holders : IsTable graph.holders.items (length graph.processes.items) (length graph.processes.items / 64 + 1) (λ a b. WaitsAt graph.processes.items waits a b)
+  pub askers : IsTable graph.askers.items (length graph.processes.items) (length graph.processes.items / 64 + 1) (λ b a. WaitsAt graph.processes.items waits a b)

@@ -11,5 +11,6 @@ pub mod Cycles
 pub mod Graphs
 pub mod Levels
 pub mod Transit
+pub mod Rows
 pub mod Reports
 pub mod Verdicts

@@ -4,12 +4,13 @@ use Rattle.cmh_frames.specs.declared.frame.Frame.{Frame}
 use Rattle.cmh_frames.specs.Topology.{Topology}
 use Rattle.cmh_model.specs.declared.event.Event.{Event}
 use Rattle.cmh_model.specs.declared.journal.Entry.{Entry}
-use Rattle.cmh_model.specs.declared.journal.WorldEvent.{WorldEvent}
 use Rattle.cmh_model.specs.Journals.{IsLawful, frames_to, frame_from, sendings_of, receipts_of}
-use Rattle.cmh_model.specs.Runs.{IsBeginningOf, IsRun, ComesFrom}
+use Rattle.cmh_model.specs.Runs.{IsBeginningOf, ComeFromRun}
 use Rattle.cmh_journal.specs.Journal.{Journal}
 use Rattle.cmh_audit.specs.Journals.{journal_of}
 use Rattle.cmh_audit.specs.Links.{Links, waiting}
+use Rattle.cmh_audit.specs.Sums.{in_entries}
+use Rattle.cmh_audit.specs.Transit.{sent_count}
 
 -- the entries of a site that were taken, given how many of each journal were
 abbrev pub taken_of : List Journal → List ℕ → ℕ → List Entry
@@ -52,7 +53,7 @@ AreLawfulLengths t (j ∷ journals) (n ∷ limits) = IsLawfulLength t j.site j.e
 -- a merge that can't go on: what was taken comes from a run, and no site can take its next entry
 pub record IsStuck (t : Topology) (journals : List Journal) (counts : List ℕ) : Type 0 where
   pub each : length counts ≡ length journals
-  pub comes : (events : List WorldEvent) × IsRun t events × ComesFrom (taken_of journals counts) events
+  pub comes : ComeFromRun t (taken_of journals counts)
   pub within : (site : ℕ) → IsBeginningOf (taken_of journals counts site) (journal_of journals site)
   pub stuck : (site : ℕ) (e : Entry) → IsBeginningOf (taken_of journals counts site ++ e ∷ []) (journal_of journals site)
       → CanGrow t site (taken_of journals counts) e → ⊥
@@ -62,12 +63,22 @@ abbrev pub total : List ℕ → ℕ
 total [] = 0
 total (n ∷ counts) = n + total counts
 
+-- how many frames the entries that were taken sent
+abbrev pub sent_by : List Journal → List ℕ → ℕ
+sent_by [] counts = 0
+sent_by (j ∷ journals) [] = 0
+sent_by (j ∷ journals) (n ∷ counts) = in_entries sent_count (take n j.entries) + sent_by journals counts
+
 -- The looks that were made: one at each entry that was taken, and one at least, which failed, of each journal that is neither whole nor on the list.
+-- A site comes to the list at the start, behind each of its entries, and for a frame that was sent to it; it goes from it for a look, or because its journal is whole.
 pub record AreTried (journals : List Journal) (counts ready : List ℕ) (tries : ℕ) : Type 0 where
   pub failed : List ℕ  -- the sites of the looks that failed
+  pub passed : List ℕ  -- the sites that went from the list without a look
+  pub within : (k : ℕ) (j : Journal) → k < length journals → j ≡ slice_index_or journals k j → slice_index_or counts k 0 ≤ length j.entries
   pub all : total counts + length failed ≤ tries
+  pub caused : tries + (length passed + length ready) ≤ total counts + (sent_by journals counts + length journals)
   pub each : (k : ℕ) (j : Journal) → k < length journals → j ≡ slice_index_or journals k j
-      → Contains ready k ⊎ ((length j.entries ≤ slice_index_or counts k 0) ⊎ Contains failed j.site)
+      → Contains ready k ⊎ ((Contains passed j.site × (length j.entries ≤ slice_index_or counts k 0)) ⊎ (Contains failed j.site × (slice_index_or counts k 0 < length j.entries)))
 
 -- the links have just what was sent and not got by the entries that were taken
 abbrev pub AreLeft : List Journal → List ℕ → Links → Type 0

@@ -6,7 +6,7 @@ use Rattle.cmh_model.specs.declared.journal.WorldEvent.{WorldEvent}
 use Rattle.cmh_model.specs.Relation.{pair_cmp}
 use Rattle.cmh_model.specs.Runs.{IsDrained}
 use Rattle.cmh_model.specs.Waits.{Waits, IsCycle, IsDeclared}
-use Rattle.cmh_audit.specs.Cycles.{IsCycleIn, ComesFirst}
+use Rattle.cmh_audit.specs.Cycles.{WaitsIn, IsCycleIn, ComesFirst, IsFirstCycleOf}
 use Rattle.cmh_audit.specs.Transit.{in_transit}
 
 pub record Report : Type 0 where
@@ -47,16 +47,12 @@ pub record IsInOrder (report : Report) : Type 0 where
 
 -- ---- cycles in a list of waits
 
-pub record IsFirstCycleIn (waits : List (ℕ × ℕ)) (i : ℕ) (members : List ℕ) : Type 0 where
-  pub cycle : IsCycleIn waits i members
-  pub first : (other : List ℕ) → IsCycleIn waits i other → ComesFirst members other
-
 -- one for each of these processes
 abbrev pub AreFirstCycles : List (ℕ × ℕ) → List ℕ → List (List ℕ) → Type 0
 AreFirstCycles waits [] [] = Unit {0}
 AreFirstCycles waits [] (members ∷ cycles) = ⊥
 AreFirstCycles waits (i ∷ processes) [] = ⊥
-AreFirstCycles waits (i ∷ processes) (members ∷ cycles) = IsFirstCycleIn waits i members × AreFirstCycles waits processes cycles
+AreFirstCycles waits (i ∷ processes) (members ∷ cycles) = IsFirstCycleOf (λ j k. WaitsIn waits j k) i members × AreFirstCycles waits processes cycles
 
 -- each of them is on a cycle
 abbrev pub AreOnCycles : List (ℕ × ℕ) → List ℕ → Type 0

@@ -4,7 +4,7 @@ use Rattle.std.specs.List.Sorted.{IsStrictlyIncreasing}
 use Rattle.cmh_frames.specs.Topology.{Topology}
 use Rattle.cmh_model.specs.declared.journal.Entry.{Entry}
 use Rattle.cmh_model.specs.declared.journal.WorldEvent.{WorldEvent}
-use Rattle.cmh_model.specs.Runs.{IsBeginningOf, IsRun, ComesFrom, entries_of}
+use Rattle.cmh_model.specs.Runs.{IsBeginningOf, IsRun, ComeFromRun, entries_of}
 use Rattle.cmh_journal.specs.Journal.{Journal}
 use Rattle.cmh_audit.specs.Journals.{journal_of}
 use Rattle.cmh_audit.specs.Merging.{taken_of}
@@ -24,7 +24,7 @@ pub record AreStops (t : Topology) (journals : List Journal) (stops : List (ℕ 
   pub some : 0 < length stops
   pub ascending : IsStrictlyIncreasing (map (λ stop. stop.0) stops)
   pub unfinished : All (λ stop. (1 ≤ stop.1) × (stop.1 ≤ length (journal_of journals stop.0))) stops
-  pub comes : (events : List WorldEvent) × IsRun t events × ComesFrom (λ site. before_stop stops site (journal_of journals site)) events
+  pub comes : ComeFromRun t (λ site. before_stop stops site (journal_of journals site))
   pub most : (events : List WorldEvent) → IsRun t events → ((site : ℕ) → IsBeginningOf (entries_of site events) (journal_of journals site))
       → (site : ℕ) → length (entries_of site events) ≤ length (before_stop stops site (journal_of journals site))
 

@@ -1,11 +1,16 @@
 -- What the auditor answers.
-use Rattle.std.specs.Prelude.{ℕ, ◌+◌, List, [], ◌∷◌, length}
+use Rattle.std.specs.Prelude.{◌≡◌, ℕ, ◌+◌, ◌*◌, ◌≤◌, ◌↔◌, List, [], ◌∷◌, length}
+use Rattle.cmh_frames.specs.Topology.{Topology}
+use Rattle.cmh_model.specs.declared.journal.WorldEvent.{WorldEvent}
+use Rattle.cmh_model.specs.Runs.{ComeFromRun, ComesFrom, IsRun}
 use Rattle.cmh_audit.specs.declared.verdict.Verdict.{Verdict}
 use Rattle.cmh_audit.specs.declared.verdict.Verdict.TheVariants.{Accepted, Refused}
-use Rattle.cmh_audit.specs.Reports.{Report}
+use Rattle.cmh_audit.specs.Reports.{Report, Reports, IsInOrder}
 use Rattle.cmh_journal.specs.Journal.{Journal}
-use Rattle.cmh_audit.specs.Journals.{entry_count}
-use Rattle.cmh_audit.specs.Stops.{Stops, before_stop}
+use Rattle.cmh_audit.specs.Journals.{journal_of, entry_count}
+use Rattle.cmh_audit.specs.Stops.{Stops, before_stop, AreStops}
+use Rattle.cmh_audit.specs.Sums.{in_entries}
+use Rattle.cmh_audit.specs.Transit.{sent_count}
 
 abbrev pub IsAccepted : Verdict → Type 0
 IsAccepted (Accepted report) = Unit {0}
@@ -34,3 +39,25 @@ entries_before stops (j ∷ journals) = length (before_stop stops j.site j.entri
 abbrev pub looks_due : List Journal → Verdict → ℕ
 looks_due journals (Accepted report) = entry_count journals
 looks_due journals (Refused stops) = entries_before stops.rows journals + length stops.rows
+
+-- how many frames the entries before the stops sent
+abbrev pub sent_before : List (ℕ × ℕ) → List Journal → ℕ
+sent_before stops [] = 0
+sent_before stops (j ∷ journals) = in_entries sent_count (before_stop stops j.site j.entries) + sent_before stops journals
+
+-- a look more for each frame that an entry sent that was taken: it may be that for which a site is looked at again
+abbrev pub looks_caused : List Journal → Verdict → ℕ
+looks_caused journals (Accepted report) = looks_due journals (Accepted report) + sent_before [] journals
+looks_caused journals (Refused stops) = looks_due journals (Refused stops) + sent_before stops.rows journals
+
+-- ---- the whole verdict
+
+-- the verdict is the auditor's: accepted exactly where the journals come from one run; the report holds of every such run
+pub record IsVerdictOn (t : Topology) (journals : List Journal) (verdict : Verdict) : Type 0 where
+  pub accepted : IsAccepted verdict ↔ ComeFromRun t (journal_of journals)
+  pub report : IfAccepted verdict (λ report. (events : List WorldEvent) → IsRun t events
+      → ComesFrom (journal_of journals) events → Reports t events report)
+  pub order : IfAccepted verdict IsInOrder
+  pub counted : IfAccepted verdict (λ report. report.events ≡ entry_count journals)
+  pub stops : IfRefused verdict (λ stops. AreStops t journals stops.rows)
+  pub tries : tries_of verdict ≤ (entry_count journals + 1) * length journals

@@ -1,120 +1,18 @@
 //! The shortest cycle of waits through a process, and of those the least.
 //!
-//! First the distances to the process are found, level by level; then the cycle goes, from the process on, each time to
-//! the least of those at the distance that is left.
+//! First come the levels of the places that lead to the process's, by how many waits it takes, up to the first level with
+//! one of its holders; then the cycle goes, from the process on, each time to the least holder in the level that is left.
 
-ghost use Rattle.std.specs.Prelude.{◌≡◌, ℕ, ◌+◌, ◌<◌, ◌^◌, List, length, OnOk, IfOk, IfSome, IfNone};
-ghost use Rattle.cmh_audit.specs.Cycles.{IsCycleIn, ComesFirst, AreDistances, distance_of};
-ghost use Rattle.cmh_audit.specs.Graphs.{IsGraph, ListsAskers};
-ghost use Rattle.cmh_audit.specs.Levels.{Marks, MarksLevel, IsLeast, lesser, at_distance};
+ghost use Rattle.std.specs.Prelude.{◌≡◌, ◌↔◌, ℕ, ◌+◌, ◌<◌, ◌≤◌, ◌/◌, ◌^◌, true, false, List, length, map, slice_index, IfOk, IfSome, IfNone};
+ghost use Rattle.cmh_audit.specs.Cycles.{IsCycleIn, IsCycleOf, ComesFirst, IsFirstCycleOf};
+ghost use Rattle.cmh_audit.specs.Graphs.{IsGraph, WaitsAt};
+ghost use Rattle.cmh_audit.specs.Levels.{LeadBack};
+ghost use Rattle.cmh_audit.specs.Rows.{has_place, row_at};
 
-use crate::graph::{Graph, listed};
+use crate::graph::{Graph, place_of};
+use crate::row::Row;
 use cmh_frames::ProcId;
 use std::alloc::{AllocError, Global};
-use std::collections::BTreeMap;
-
-/// How many waits lead from a process to a fixed one.
-type Distances = BTreeMap<ProcId, usize>;
-
-/// Gives the distance to each of these that has none yet, and adds it to those that were found.
-fn mark(
-    table: &mut Distances,
-    found: &mut Vec<ProcId>,
-    askers: &[ProcId],
-    distance: usize,
-) -> Result<(), AllocError>
-    ensures { OnOk result (Marks table.old table.new found.old.items found.new.items askers.now distance) }
-{
-    for asker in askers {
-        if !table.contains_key(asker) {
-            table.insert(*asker, distance)?;
-            found.push(*asker)?;
-        }
-    }
-    Ok(())
-}
-
-/// Gives the distance to each that waits for one of the level and has none yet: the next level.
-fn next_level(
-    alloc: Global,
-    table: &mut Distances,
-    graph: &Graph,
-    level: &[ProcId],
-    distance: usize,
-) -> Result<Vec<ProcId>, AllocError>
-    requires { ListsAskers graph.now.askers graph.now.waits.items }
-    ensures { IfOk result (λ found. MarksLevel graph.now.waits.items table.old table.new level.now found.items distance) }
-{
-    let mut found = Vec::new(alloc);
-    for holder in level {
-        mark(table, &mut found, listed(&graph.askers, *holder), distance)?;
-    }
-    Ok(found)
-}
-
-/// The distances to a process.
-fn distances(alloc: Global, graph: &Graph, to: ProcId) -> Result<Distances, AllocError>
-    requires askers { ListsAskers graph.now.askers graph.now.waits.items }
-    requires small { length graph.now.waits.items < 2 ^ 63 }
-    ensures { IfOk result (λ table. AreDistances graph.now.waits.items to table) }
-{
-    let mut table = BTreeMap::new(alloc);
-    table.insert(to, 0)?;
-    let mut level = Vec::new(alloc);
-    level.push(to)?;
-    let mut distance: usize = 0;
-    while !level.is_empty() {
-        distance += 1;
-        level = next_level(alloc, &mut table, graph, &level, distance)?;
-    }
-    Ok(table)
-}
-
-/// The lesser distance.
-fn lesser_distance(best: Option<usize>, distance: usize) -> usize
-    ensures { result ≡ lesser best distance }
-{
-    match best {
-        Some(least) => least.min(distance),
-        None => distance,
-    }
-}
-
-/// The lesser process.
-fn lesser_process(best: Option<ProcId>, process: ProcId) -> ProcId
-    ensures { result ≡ lesser best process }
-{
-    match best {
-        Some(least) => least.min(process),
-        None => process,
-    }
-}
-
-/// The least distance of these.
-fn nearest(table: &Distances, holders: &[ProcId]) -> Option<usize>
-    ensures { IsLeast (distance_of table.now) holders.now (length holders.now) result }
-{
-    let mut best: Option<usize> = None;
-    for holder in holders {
-        if let Some(distance) = table.get(holder).copied() {
-            best = Some(lesser_distance(best, distance));
-        }
-    }
-    best
-}
-
-/// The least of these that are at this distance.
-fn next_at(table: &Distances, holders: &[ProcId], left: usize) -> Option<ProcId>
-    ensures { IsLeast (at_distance table.now left) holders.now (length holders.now) result }
-{
-    let mut best: Option<ProcId> = None;
-    for holder in holders {
-        if table.get(holder).copied() == Some(left) {
-            best = Some(lesser_process(best, *holder));
-        }
-    }
-    best
-}
 
 /// The shortest cycle of waits through a process, and of those the least by comparing them number by number, if there is one.
 pub fn shortest_cycle(
@@ -122,32 +20,95 @@ pub fn shortest_cycle(
     graph: &Graph,
     of: ProcId,
 ) -> Result<Option<Vec<ProcId>>, AllocError>
-    requires graph { IsGraph graph.now graph.now.waits.items }
-    requires small { length graph.now.waits.items < 2 ^ 63 }
+    requires { IsGraph graph.now graph.now.waits.items }
     ensures cycle { IfOk result (λ found. IfSome found (λ members. IsCycleIn graph.now.waits.items of members.items)) }
     ensures first { IfOk result (λ found. IfSome found (λ members.
         (other : List ℕ) → IsCycleIn graph.now.waits.items of other → ComesFirst members.items other)) }
     ensures none { IfOk result (λ found. IfNone found ((other : List ℕ) → IsCycleIn graph.now.waits.items of other → ⊥)) }
 {
-    let table = distances(alloc, graph, of)?;
-    let Some(first) = nearest(&table, listed(&graph.holders, of)) else {
+    let Some(place) = place_of(&graph.processes, of) else {
         return Ok(None);
     };
+    let Some(levels) = levels_to(alloc, graph, place)? else {
+        return Ok(None);
+    };
+    let members = walk(alloc, graph, place, &levels)?;
+    Ok(Some(members))
+}
+
+/// The levels of the places that lead to this one, up to the first with a holder of it. Where no level has one, there are
+/// none.
+fn levels_to(alloc: Global, graph: &Graph, to: usize) -> Result<Option<Vec<Row>>, AllocError>
+    requires graph { IsGraph graph.now graph.now.waits.items }
+    requires place { to < length graph.now.processes.items }
+    ensures some { IfOk result (λ found. IfSome found (λ levels.
+        LeadBack (λ a b. WaitsAt graph.now.processes.items graph.now.waits.items a b) to levels.items)) }
+    ensures words { IfOk result (λ found. IfSome found (λ levels. (d : ℕ) → d < length levels.items
+        → length (row_at levels.items d) ≡ length graph.now.processes.items / 64 + 1)) }
+    ensures none { IfOk result (λ found. IfNone found ((other : List ℕ)
+        → IsCycleOf (λ a b. WaitsAt graph.now.processes.items graph.now.waits.items a b) to other → ⊥)) }
+{
+    let words = graph.processes.len() / 64 + 1;
+    let mut first = Row::new(alloc, words)?;
+    first.insert(to);
+    let mut seen = Row::new(alloc, words)?;
+    seen.insert(to);
+    let mut levels = Vec::new(alloc);
+    levels.push(first)?;
+    let mut met = levels[0].first_common(&graph.holders[to]).is_some();
+    while !met {
+        let next = next_level(alloc, &graph.askers, &levels[levels.len() - 1], &seen)?;
+        if next.is_empty() {
+            return Ok(None);
+        }
+        seen.add_all(&next);
+        met = next.first_common(&graph.holders[to]).is_some();
+        levels.push(next)?;
+    }
+    Ok(Some(levels))
+}
+
+/// The askers of the level that were not seen yet.
+fn next_level(alloc: Global, askers: &[Row], level: &Row, seen: &Row) -> Result<Row, AllocError>
+    requires inside { (k : ℕ) → has_place level.now k ≡ true → (k < length askers.now) × (length (row_at askers.now k) ≡ length level.now) }
+    requires words { length seen.now ≡ length level.now }
+    requires small { length level.now ≤ 2 ^ 57 }
+    ensures words { IfOk result (λ row. length row ≡ length level.now) }
+    ensures places { IfOk result (λ row. (v : ℕ) → has_place row v ≡ true
+        ↔ (((k : ℕ) × (has_place level.now k ≡ true) × (has_place (row_at askers.now k) v ≡ true)) × (has_place seen.now v ≡ false))) }
+{
+    let mut next = level.union_of(alloc, askers)?;
+    next.remove_all(seen);
+    Ok(next)
+}
+
+/// From the place on, each time the least holder in the level that is left; the processes at these places.
+fn walk(
+    alloc: Global,
+    graph: &Graph,
+    from: usize,
+    levels: &[Row],
+) -> Result<Vec<ProcId>, AllocError>
+    requires graph { IsGraph graph.now graph.now.waits.items }
+    requires place { from < length graph.now.processes.items }
+    requires back { LeadBack (λ a b. WaitsAt graph.now.processes.items graph.now.waits.items a b) from levels.now }
+    requires words { (d : ℕ) → d < length levels.now → length (row_at levels.now d) ≡ length graph.now.processes.items / 64 + 1 }
+    ensures { IfOk result (λ members. (places : List ℕ) × (members.items ≡ map (λ a. slice_index graph.now.processes.items a) places)
+        × IsFirstCycleOf (λ a b. WaitsAt graph.now.processes.items graph.now.waits.items a b) from places) }
+{
     let mut members = Vec::new(alloc);
-    members.push(of)?;
-    let mut at = of;
-    let mut left = first;
-    loop {
-        match next_at(&table, listed(&graph.holders, at), left) {
+    members.push(graph.processes[from])?;
+    let mut at = from;
+    let mut left = levels.len();
+    while left > 0 {
+        left -= 1;
+        match levels[left].first_common(&graph.holders[at]) {
             Some(next) => {
-                members.push(next)?;
+                members.push(graph.processes[next])?;
                 at = next;
             }
             None => unreachable!(),
         }
-        if left == 0 {
-            return Ok(Some(members));
-        }
-        left -= 1;
     }
+    Ok(members)
 }

@@ -13,6 +13,19 @@ use cmh_model::Entry;
 use std::alloc::{AllocError, Global};
 use std::collections::BTreeSet;
 
+/// The processes that the journals declare, ascending.
+pub fn declared_of(alloc: Global, journals: &[Journal]) -> Result<Vec<ProcId>, AllocError>
+    ensures declared { IfOk result (λ list. (i : ℕ) → Contains list.items i ↔ (0 < in_journals (declares i) journals.now)) }
+    ensures ascending { IfOk result (λ list. IsStrictlyIncreasing list.items) }
+{
+    let mut declared: BTreeSet<ProcId> = BTreeSet::new(alloc);
+    for journal in journals {
+        add_entries(&mut declared, journal.entries())?;
+    }
+    let processes = processes_of(alloc, &declared)?;
+    Ok(processes)
+}
+
 /// Adds the process, if there is one.
 fn add(declared: &mut BTreeSet<ProcId>, entry: &Entry) -> Result<(), AllocError>
     ensures { OnOk result (Adds declared.old declared.new (λ i. declares i entry.now)) }
@@ -39,17 +52,4 @@ fn processes_of(alloc: Global, declared: &BTreeSet<ProcId>) -> Result<Vec<ProcId
     ensures ordered { IsOrdered nat_cmp declared.now }
 {
     declared.iter().copied().collect(alloc)
-}
-
-/// The processes that the journals declare, ascending.
-pub fn declared_of(alloc: Global, journals: &[Journal]) -> Result<Vec<ProcId>, AllocError>
-    ensures declared { IfOk result (λ list. (i : ℕ) → Contains list.items i ↔ (0 < in_journals (declares i) journals.now)) }
-    ensures ascending { IfOk result (λ list. IsStrictlyIncreasing list.items) }
-{
-    let mut declared: BTreeSet<ProcId> = BTreeSet::new(alloc);
-    for journal in journals {
-        add_entries(&mut declared, journal.entries())?;
-    }
-    let processes = processes_of(alloc, &declared)?;
-    Ok(processes)
 }

@@ -1,81 +1,99 @@
-//! Waits, listed by asker and by holder, so that a search looks at each wait a few times.
+//! Waits as tables of rows: at the place of each process that waits, the places of its holders and of its askers.
 
-ghost use Rattle.std.specs.Prelude.{◌≡◌, ℕ, List, [], ◌∷◌, ◌++◌, OnOk, IfOk, if◌then◌else◌, ◌==◌};
-ghost use Rattle.cmh_audit.specs.Graphs.{listed_at, ListsHolders, ListsAskers, IsGraph};
+ghost use Rattle.std.specs.Prelude.{◌≡◌, ◌⊎◌, ℕ, ◌+◌, ◌<◌, ◌/◌, ◌==◌, ◌||◌, ◌&&◌, length, slice_index, Contains, IfOk, MatchOption};
+ghost use Rattle.std.specs.List.Sorted.{IsStrictlyIncreasing, IsStrictlySortedBy};
+ghost use Rattle.cmh_model.specs.Relation.{pair_cmp};
+ghost use Rattle.cmh_audit.specs.Graphs.{AreAskers, IsGraph};
+ghost use Rattle.cmh_audit.specs.Rows.{IsTable, has_place, row_at};
 
+use crate::row::Row;
 use cmh_frames::ProcId;
 use std::alloc::{AllocError, Global};
-use std::collections::BTreeMap;
 
-/// Processes, listed at each process.
-pub type Index = BTreeMap<ProcId, Vec<ProcId>>;
-
-/// Who waits for whom.
+/// Who waits for whom. A process that waits for none is on no cycle, so it has no place.
 #[derive(Drop)]
 pub struct Graph {
-    /// Askers with their holders.
+    /// Askers with their holders, ascending.
     pub waits: Vec<(ProcId, ProcId)>,
-    /// At each asker, its holders.
-    pub holders: Index,
-    /// At each holder, its askers.
-    pub askers: Index,
+    /// The processes that wait, ascending.
+    pub processes: Vec<ProcId>,
+    /// At the place of each of them, the places of its holders.
+    pub holders: Vec<Row>,
+    /// At the place of each of them, the places of its askers.
+    pub askers: Vec<Row>,
 }
 
 impl Graph {
     pub fn new(alloc: Global, waits: Vec<(ProcId, ProcId)>) -> Result<Graph, AllocError>
+        requires { IsStrictlySortedBy pair_cmp waits.items }
         ensures { IfOk result (λ graph. IsGraph graph waits.items) }
     {
-        let holders = holders_of(alloc, &waits)?;
-        let askers = askers_of(alloc, &waits)?;
+        let processes = askers_of(alloc, &waits)?;
+        let mut holders = empty_table(alloc, processes.len())?;
+        let mut askers = empty_table(alloc, processes.len())?;
+        for (asker, holder) in &waits {
+            if let Some(a) = place_of(&processes, *asker) {
+                if let Some(b) = place_of(&processes, *holder) {
+                    relate(&mut holders, a, b);
+                    relate(&mut askers, b, a);
+                }
+            }
+        }
         Ok(Graph {
             waits,
+            processes,
             holders,
             askers,
         })
     }
 }
 
-/// Lists one more process at the key.
-fn list_at(alloc: Global, index: &mut Index, key: ProcId, process: ProcId) -> Result<(), AllocError>
-    ensures { OnOk result ((k : ℕ) → listed_at index.new k ≡ listed_at index.old k ++ (if key == k then process ∷ [] else [])) }
+/// The place of a process.
+pub fn place_of(processes: &[ProcId], process: ProcId) -> Option<usize>
+    requires { IsStrictlyIncreasing processes.now }
+    ensures { MatchOption result (Contains processes.now process → ⊥)
+        (λ place. (place < length processes.now) × (slice_index processes.now place ≡ process)) }
 {
-    match index.get_mut(&key) {
-        Some(list) => list.push(process)?,
-        None => {
-            let mut list = Vec::new(alloc);
-            list.push(process)?;
-            index.insert(key, list)?;
+    match processes.binary_search(&process) {
+        Ok(place) => Some(place),
+        Err(_) => None,
+    }
+}
+
+/// The processes that wait, ascending.
+fn askers_of(alloc: Global, waits: &[(ProcId, ProcId)]) -> Result<Vec<ProcId>, AllocError>
+    requires { IsStrictlySortedBy pair_cmp waits.now }
+    ensures { IfOk result (λ processes. AreAskers waits.now processes.items) }
+{
+    let mut processes = Vec::new(alloc);
+    let mut last: Option<ProcId> = None;
+    for (asker, _) in waits {
+        if last != Some(*asker) {
+            processes.push(*asker)?;
+            last = Some(*asker);
         }
     }
-    Ok(())
+    Ok(processes)
 }
 
-/// The processes that are listed at the key.
-pub fn listed(index: &Index, key: ProcId) -> &[ProcId]
-    ensures { result.now ≡ listed_at index.now key }
+/// For n places, rows without any.
+fn empty_table(alloc: Global, n: usize) -> Result<Vec<Row>, AllocError>
+    ensures { IfOk result (λ table. IsTable table.items n (n / 64 + 1) (λ a b. ⊥)) }
 {
-    match index.get(&key) {
-        Some(list) => list,
-        None => &[],
+    let mut table = Vec::new(alloc);
+    for place in 0..n {
+        table.push(Row::new(alloc, n / 64 + 1)?)?;
     }
+    Ok(table)
 }
 
-fn holders_of(alloc: Global, waits: &[(ProcId, ProcId)]) -> Result<Index, AllocError>
-    ensures { IfOk result (λ index. ListsHolders index waits.now) }
+/// Adds the place b to the row of the place a.
+fn relate(table: &mut Vec<Row>, a: usize, b: usize)
+    requires within { a < length table.old.items }
+    requires words { b / 64 < length (row_at table.old.items a) }
+    ensures long { length table.new.items ≡ length table.old.items }
+    ensures wide { (k : ℕ) → length (row_at table.new.items k) ≡ length (row_at table.old.items k) }
+    ensures places { (k v : ℕ) → has_place (row_at table.new.items k) v ≡ (((k == a) && (v == b)) || has_place (row_at table.old.items k) v) }
 {
-    let mut index = BTreeMap::new(alloc);
-    for (asker, holder) in waits {
-        list_at(alloc, &mut index, *asker, *holder)?;
-    }
-    Ok(index)
-}
-
-fn askers_of(alloc: Global, waits: &[(ProcId, ProcId)]) -> Result<Index, AllocError>
-    ensures { IfOk result (λ index. ListsAskers index waits.now) }
-{
-    let mut index = BTreeMap::new(alloc);
-    for (asker, holder) in waits {
-        list_at(alloc, &mut index, *holder, *asker)?;
-    }
-    Ok(index)
+    table[a].insert(b);
 }

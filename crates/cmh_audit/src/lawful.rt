@@ -9,21 +9,6 @@ use cmh_journal::Journal;
 use cmh_model::Entry;
 use std::alloc::{AllocError, Global};
 
-/// How many of the entries, from the first, the site's controller makes.
-fn lawful_length(
-    alloc: Global,
-    topology: &Topology,
-    site: SiteId,
-    entries: &[Entry],
-) -> Result<usize, AllocError>
-    ensures { IfOk result (IsLawfulLength topology.now site entries.now) }
-{
-    match replay(alloc, topology, site, entries)? {
-        Replayed::Whole(_) => Ok(entries.len()),
-        Replayed::StopsAt(number) => Ok(number - 1),
-    }
-}
-
 /// How many entries of each journal are lawful.
 pub fn lawful_lengths(
     alloc: Global,
@@ -37,4 +22,19 @@ pub fn lawful_lengths(
         limits.push(lawful_length(alloc, topology, journal.site(), journal.entries())?)?;
     }
     Ok(limits)
+}
+
+/// How many of the entries, from the first, the site's controller makes.
+fn lawful_length(
+    alloc: Global,
+    topology: &Topology,
+    site: SiteId,
+    entries: &[Entry],
+) -> Result<usize, AllocError>
+    ensures { IfOk result (IsLawfulLength topology.now site entries.now) }
+{
+    match replay(alloc, topology, site, entries)? {
+        Replayed::Whole(_) => Ok(entries.len()),
+        Replayed::StopsAt(number) => Ok(number - 1),
+    }
 }

@@ -9,6 +9,7 @@ mod lawful;
 mod links;
 mod merge;
 mod report;
+mod row;
 mod set;
 mod stops;
 #[cfg(test)]
@@ -17,6 +18,6 @@ mod verdict;
 mod waits;
 
 pub use crate::report::Report;
-pub use crate::set::{SetFault, check_set};
+pub use crate::set::{SetFault, check_set, place_of};
 pub use crate::stops::Stops;
 pub use crate::verdict::{AuditMemory, Verdict, audit};

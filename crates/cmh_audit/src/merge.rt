@@ -7,11 +7,72 @@ ghost use Rattle.cmh_audit.specs.Ready.{Wakes, ArePlaces};
 
 use crate::lawful::lawful_lengths;
 use crate::links::{Links, next_frame, receive, send};
+use crate::set::place_of;
 use cmh_frames::{Frame, SiteId, Topology};
 use cmh_journal::Journal;
 use cmh_model::{Entry, Event};
 use std::alloc::{AllocError, Global};
 use std::collections::BTreeMap;
+
+/// How far the journals were taken, and what is under way then.
+#[derive(Drop)]
+pub struct Merged {
+    /// How many entries of each journal were taken.
+    pub taken: Vec<usize>,
+    pub links: Links,
+    /// How often it was looked whether a site's next entry can be taken.
+    pub tries: u64,
+}
+
+/// Takes entries while any can be taken. A site that lacks a frame is tried again only after the frame's sender sent it one.
+pub fn merge(alloc: Global, topology: &Topology, journals: &[Journal]) -> Result<Merged, AllocError>
+    requires once { OneEach journals.now }
+    requires few { length journals.now ≤ 65536 }
+    requires small { (entry_count journals.now + 1) * length journals.now < 2 ^ 64 }
+    ensures stuck { IfOk result (λ m. IsStuck topology.now journals.now m.taken.items) }
+    ensures left { IfOk result (λ m. AreLeft journals.now m.taken.items m.links) }
+    ensures tries { IfOk result (λ m. m.tries ≤ (entry_count journals.now + 1) * length journals.now) }
+    ensures looked { IfOk result (λ m. AreTried journals.now m.taken.items [] m.tries) }
+{
+    let limits = lawful_lengths(alloc, topology, journals)?;
+    let mut links: Links = BTreeMap::new(alloc);
+    let mut taken = vec![in alloc; 0; journals.len()]?;
+    let mut lacks: Vec<Option<SiteId>> = vec![in alloc; None; journals.len()]?;
+    let mut ready = places(alloc, journals.len())?;
+    let mut tries: u64 = 0;
+    while let Some(i) = ready.pop() {
+        let journal = &journals[i];
+        let site = journal.site();
+        let entries = journal.entries();
+        let at = taken[i];
+        if at < entries.len() {
+            tries += 1;
+            let limit = limits[i];
+            if at < limit {
+                let entry = &entries[at];
+                if is_next(&links, site, &entry.event) {
+                    move_frames(alloc, &mut links, site, entry)?;
+                    taken[i] = at + 1;
+                    wake(
+                        &mut ready,
+                        &mut lacks,
+                        journals,
+                        site,
+                        entry.sent.as_slice(),
+                    )?;
+                    ready.push(i)?;
+                } else if let Event::Got { from, .. } = &entry.event {
+                    lacks[i] = Some(*from);
+                }
+            }
+        }
+    }
+    Ok(Merged {
+        taken,
+        links,
+        tries,
+    })
+}
 
 /// Whether the frame that the event got, if it got one, is the next of its link.
 fn is_next(links: &Links, site: SiteId, event: &Event) -> bool
@@ -54,19 +115,24 @@ fn move_frames(
     send_all(alloc, links, site, entry.sent.as_slice())
 }
 
-/// Puts the site itself, and each that lacks a frame of it, on the list.
+/// Puts on the list each site that lacks a frame of `from` and to which one of these frames was sent.
 fn wake(
     ready: &mut Vec<usize>,
     lacks: &mut [Option<SiteId>],
+    journals: &[Journal],
     from: SiteId,
-    own: usize,
+    sent: &[(SiteId, Frame)],
 ) -> Result<(), AllocError>
-    ensures { OnOk result (Wakes ready.old.items ready.new.items lacks.old lacks.new from own (length lacks.old)) }
+    requires once { OneEach journals.now }
+    requires long { length lacks.old ≡ length journals.now }
+    ensures { OnOk result (Wakes journals.now sent.now ready.old.items ready.new.items lacks.old lacks.new from (length sent.now)) }
 {
-    for k in 0..lacks.len() {
-        if k == own || lacks[k] == Some(from) {
-            lacks[k] = None;
-            ready.push(k)?;
+    for (to, _) in sent {
+        if let Some(k) = place_of(journals, *to) {
+            if lacks[k] == Some(from) {
+                lacks[k] = None;
+                ready.push(k)?;
+            }
         }
     }
     Ok(())
@@ -81,57 +147,4 @@ fn places(alloc: Global, n: usize) -> Result<Vec<usize>, AllocError>
         all.push(k)?;
     }
     Ok(all)
-}
-
-/// How far the journals were taken, and what is under way then.
-#[derive(Drop)]
-pub struct Merged {
-    /// How many entries of each journal were taken.
-    pub taken: Vec<usize>,
-    pub links: Links,
-    /// How often it was looked whether a site's next entry can be taken.
-    pub tries: u64,
-}
-
-/// Takes entries while any can be taken. A site that lacks a frame is tried again only after the frame's sender took an entry.
-pub fn merge(alloc: Global, topology: &Topology, journals: &[Journal]) -> Result<Merged, AllocError>
-    requires once { OneEach journals.now }
-    requires few { length journals.now ≤ 65536 }
-    requires small { (entry_count journals.now + 1) * length journals.now < 2 ^ 64 }
-    ensures stuck { IfOk result (λ m. IsStuck topology.now journals.now m.taken.items) }
-    ensures left { IfOk result (λ m. AreLeft journals.now m.taken.items m.links) }
-    ensures tries { IfOk result (λ m. m.tries ≤ (entry_count journals.now + 1) * length journals.now) }
-    ensures looked { IfOk result (λ m. AreTried journals.now m.taken.items [] m.tries) }
-{
-    let limits = lawful_lengths(alloc, topology, journals)?;
-    let mut links: Links = BTreeMap::new(alloc);
-    let mut taken = vec![in alloc; 0; journals.len()]?;
-    let mut lacks: Vec<Option<SiteId>> = vec![in alloc; None; journals.len()]?;
-    let mut ready = places(alloc, journals.len())?;
-    let mut tries: u64 = 0;
-    while let Some(i) = ready.pop() {
-        let journal = &journals[i];
-        let site = journal.site();
-        let entries = journal.entries();
-        let at = taken[i];
-        if at < entries.len() {
-            tries += 1;
-            let limit = limits[i];
-            if at < limit {
-                let entry = &entries[at];
-                if is_next(&links, site, &entry.event) {
-                    move_frames(alloc, &mut links, site, entry)?;
-                    taken[i] = at + 1;
-                    wake(&mut ready, &mut lacks, site, i)?;
-                } else if let Event::Got { from, .. } = &entry.event {
-                    lacks[i] = Some(*from);
-                }
-            }
-        }
-    }
-    Ok(Merged {
-        taken,
-        links,
-        tries,
-    })
 }

@@ -3,7 +3,7 @@
 ghost use Rattle.std.specs.Prelude.{◌≡◌, ℕ, ◌<◌, ◌^◌, List, length, IfOk, IfSome, IfNone, Some, None, Contains};
 ghost use Rattle.std.specs.List.Sorted.{IsStrictlyIncreasing, IsStrictlySortedBy};
 ghost use Rattle.cmh_model.specs.declared.journal.WorldEvent.{WorldEvent};
-ghost use Rattle.cmh_model.specs.Runs.{IsRun, ComesFrom};
+ghost use Rattle.cmh_model.specs.Runs.{ComeFromRun, ComesFrom, IsRun};
 ghost use Rattle.cmh_audit.specs.Graphs.{IsGraph};
 ghost use Rattle.cmh_audit.specs.Journals.{journal_of, OneEach};
 ghost use Rattle.cmh_audit.specs.Merging.{AreAllLeft};
@@ -14,7 +14,7 @@ ghost use Rattle.cmh_audit.specs.Reports.{beside, cycle_of, AreFirstCycles, AreO
 use crate::count::count_frames;
 use crate::cycle::shortest_cycle;
 use crate::declared::declared_of;
-use crate::graph::Graph;
+use crate::graph::{Graph, place_of};
 use crate::merge::Merged;
 use crate::waits::waits_of;
 use cmh_frames::{ProcId, Topology};
@@ -66,6 +66,7 @@ pub struct Report {
 
 impl Model for Report {
     ghost use Rattle.std.specs.Prelude.{◌≡◌, length};
+    ghost use Rattle.std.specs.List.Sorted.{IsStrictlyIncreasing};
     ghost use Rattle.cmh_audit.specs.Reports as spec;
 
     ghost Value = { spec.Report };
@@ -79,7 +80,7 @@ impl Model for Report {
       tries = r.tries;
     } };
 
-    ghost invariant = { λ r. length r.cycles.items ≡ length r.declared.items };
+    ghost invariant = { λ r. (length r.cycles.items ≡ length r.declared.items) × IsStrictlyIncreasing r.declared.items };
 }
 
 impl Report {
@@ -128,40 +129,6 @@ impl Report {
     }
 }
 
-fn cycle_beside<'a>(
-    declared: &[ProcId],
-    cycles: &'a [Cycle],
-    process: ProcId,
-) -> Option<&'a [ProcId]>
-    requires { length cycles.now ≡ length declared.now }
-    ensures some { IfSome result (λ members. beside declared.now cycles.now process ≡ Some members.now) }
-    ensures none { IfNone result (beside declared.now cycles.now process ≡ None) }
-{
-    for (place, found) in declared.iter().enumerate() {
-        if *found == process {
-            return Some(cycles[place].as_slice());
-        }
-    }
-    None
-}
-
-/// The first of the shortest cycles through each of these processes.
-fn cycles_of(alloc: Global, graph: &Graph, processes: &[ProcId]) -> Result<Vec<Cycle>, AllocError>
-    requires graph { IsGraph graph.now graph.now.waits.items }
-    requires small { length graph.now.waits.items < 2 ^ 63 }
-    requires on_cycles { AreOnCycles graph.now.waits.items processes.now }
-    ensures { IfOk result (λ cycles. AreFirstCycles graph.now.waits.items processes.now cycles.items) }
-{
-    let mut cycles = Vec::new(alloc);
-    for process in processes {
-        match shortest_cycle(alloc, graph, *process)? {
-            Some(members) => cycles.push(Cycle::new(members))?,
-            None => unreachable!(),
-        }
-    }
-    Ok(cycles)
-}
-
 /// The report of journals that come from a run and were all taken.
 pub fn report_of(
     alloc: Global,
@@ -171,7 +138,7 @@ pub fn report_of(
     merged: &Merged,
 ) -> Result<Report, AllocError>
     requires once { OneEach journals.now }
-    requires comes { (events : List WorldEvent) × IsRun topology.now events × ComesFrom (journal_of journals.now) events }
+    requires comes { ComeFromRun topology.now (journal_of journals.now) }
     requires left { AreAllLeft journals.now merged.now.links }
     requires small { in_journals sent_count journals.now < 2 ^ 64 }
     ensures reports { IfOk result (λ report. (events : List WorldEvent) → IsRun topology.now events
@@ -195,4 +162,36 @@ pub fn report_of(
         in_transit,
         tries: merged.tries,
     })
+}
+
+fn cycle_beside<'a>(
+    declared: &[ProcId],
+    cycles: &'a [Cycle],
+    process: ProcId,
+) -> Option<&'a [ProcId]>
+    requires long { length cycles.now ≡ length declared.now }
+    requires ascending { IsStrictlyIncreasing declared.now }
+    ensures some { IfSome result (λ members. beside declared.now cycles.now process ≡ Some members.now) }
+    ensures none { IfNone result (beside declared.now cycles.now process ≡ None) }
+{
+    match place_of(declared, process) {
+        Some(place) => Some(cycles[place].as_slice()),
+        None => None,
+    }
+}
+
+/// The first of the shortest cycles through each of these processes.
+fn cycles_of(alloc: Global, graph: &Graph, processes: &[ProcId]) -> Result<Vec<Cycle>, AllocError>
+    requires graph { IsGraph graph.now graph.now.waits.items }
+    requires on_cycles { AreOnCycles graph.now.waits.items processes.now }
+    ensures { IfOk result (λ cycles. AreFirstCycles graph.now.waits.items processes.now cycles.items) }
+{
+    let mut cycles = Vec::new(alloc);
+    for process in processes {
+        match shortest_cycle(alloc, graph, *process)? {
+            Some(members) => cycles.push(Cycle::new(members))?,
+            None => unreachable!(),
+        }
+    }
+    Ok(cycles)
 }

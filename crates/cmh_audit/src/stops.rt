@@ -1,11 +1,10 @@
 //! Where a merge stopped.
 
-ghost use Rattle.std.specs.Prelude.{◌≡◌, ◌<◌, length, IfOk, MatchOption};
-ghost use Rattle.std.specs.List.{HoldsAt};
-ghost use Rattle.cmh_journal.specs.Journal as journal;
-ghost use Rattle.cmh_audit.specs.Journals.{NoneAt, OneEach};
+ghost use Rattle.std.specs.Prelude.{◌≡◌, length, IfOk};
+ghost use Rattle.cmh_audit.specs.Journals.{OneEach};
 ghost use Rattle.cmh_audit.specs.Stops.{stops_at};
 
+use crate::set::place_of;
 use cmh_frames::SiteId;
 use cmh_journal::Journal;
 use std::alloc::{AllocError, Global};
@@ -47,19 +46,6 @@ impl Stops {
     {
         self.tries
     }
-}
-
-/// The place of a site's journal.
-fn place_of(journals: &[Journal], site: SiteId) -> Option<usize>
-    ensures { MatchOption result (NoneAt site journals.now)
-        (λ i. (i < length journals.now) × HoldsAt (λ (j : journal.Journal). j.site ≡ site) journals.now i) }
-{
-    for (i, journal) in journals.iter().enumerate() {
-        if journal.site() == site {
-            return Some(i);
-        }
-    }
-    None
 }
 
 /// The stop of each of these sites that has one, in their order.

@@ -2,12 +2,12 @@
 
 ghost use Rattle.std.specs.Prelude.{◌≡◌, ◌↔◌, ◌+◌, ◌*◌, ◌≤◌, List, length, IfOk};
 ghost use Rattle.cmh_model.specs.declared.journal.WorldEvent.{WorldEvent};
-ghost use Rattle.cmh_model.specs.Runs.{IsRun, ComesFrom};
+ghost use Rattle.cmh_model.specs.Runs.{ComeFromRun, ComesFrom, IsRun};
 ghost use Rattle.cmh_audit.specs.Journals.{journal_of, entry_count};
 ghost use Rattle.cmh_audit.specs.Reports.{Reports, IsInOrder};
 ghost use Rattle.cmh_audit.specs.Set.{IsSet};
 ghost use Rattle.cmh_audit.specs.Stops.{AreStops};
-ghost use Rattle.cmh_audit.specs.Verdicts.{IsAccepted, IfAccepted, IfRefused, tries_of, looks_due};
+ghost use Rattle.cmh_audit.specs.Verdicts.{IsAccepted, IfAccepted, IfRefused, tries_of, looks_due, looks_caused};
 
 use crate::count::count_entries;
 use crate::merge::merge;
@@ -50,8 +50,7 @@ pub fn audit(
     requires { IsSet topology.now journals.now }
 
     // Accepted exactly where the journals come from a run.
-    ensures accepted { IfOk result (λ v. IsAccepted v
-        ↔ ((events : List WorldEvent) × IsRun topology.now events × ComesFrom (journal_of journals.now) events)) }
+    ensures accepted { IfOk result (λ v. IsAccepted v ↔ ComeFromRun topology.now (journal_of journals.now)) }
 
     // The report holds of every run from which they come.
     ensures report { IfOk result (λ v. IfAccepted v (λ report. (events : List WorldEvent) → IsRun topology.now events
@@ -65,6 +64,9 @@ pub fn audit(
 
     // Each entry that was taken was looked at, and each at which a site stops.
     ensures looked { IfOk result (λ v. looks_due journals.now v ≤ tries_of v) }
+
+    // And a site is looked at again only for a frame that an entry sent that was taken.
+    ensures caused { IfOk result (λ v. tries_of v ≤ looks_caused journals.now v) }
 {
     let sites = topology.sites();
     let events = count_entries(journals);

@@ -19,6 +19,19 @@ use std::collections::BTreeSet;
 /// The pairs of an asker and a holder with an odd number of asks and replies so far.
 type OpenWaits = BTreeSet<(ProcId, ProcId)>;
 
+/// The pairs of an asker and a holder that the journals leave open, ascending.
+pub fn waits_of(alloc: Global, journals: &[Journal]) -> Result<Vec<(ProcId, ProcId)>, AllocError>
+    ensures waits { IfOk result (λ waits. (j k : ℕ) → Contains waits.items (j, k) ↔ (turned (in_journals (turns j k) journals.now) false ≡ true)) }
+    ensures ascending { IfOk result (λ waits. IsStrictlySortedBy pair_cmp waits.items) }
+{
+    let mut pairs: OpenWaits = BTreeSet::new(alloc);
+    for journal in journals {
+        turn_entries(&mut pairs, journal.entries())?;
+    }
+    let waits = pairs_of(alloc, &pairs)?;
+    Ok(waits)
+}
+
 /// Adds the pair, or takes it away where it is there.
 fn turn(pairs: &mut OpenWaits, asker: ProcId, holder: ProcId) -> Result<(), AllocError>
     ensures { OnOk result (Turns pairs.old pairs.new (one_at asker holder)) }
@@ -67,17 +80,4 @@ fn pairs_of(alloc: Global, pairs: &OpenWaits) -> Result<Vec<(ProcId, ProcId)>, A
     ensures ordered { IsOrdered pair_cmp pairs.now }
 {
     pairs.iter().copied().collect(alloc)
-}
-
-/// The pairs of an asker and a holder that the journals leave open, ascending.
-pub fn waits_of(alloc: Global, journals: &[Journal]) -> Result<Vec<(ProcId, ProcId)>, AllocError>
-    ensures waits { IfOk result (λ waits. (j k : ℕ) → Contains waits.items (j, k) ↔ (turned (in_journals (turns j k) journals.now) false ≡ true)) }
-    ensures ascending { IfOk result (λ waits. IsStrictlySortedBy pair_cmp waits.items) }
-{
-    let mut pairs: OpenWaits = BTreeSet::new(alloc);
-    for journal in journals {
-        turn_entries(&mut pairs, journal.entries())?;
-    }
-    let waits = pairs_of(alloc, &pairs)?;
-    Ok(waits)
 }

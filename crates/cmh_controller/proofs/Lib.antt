@@ -5,3 +5,4 @@ pub mod Fewer
 pub mod OfSite
 pub mod Probing
 pub mod Replaying
+pub mod TakingBack

@@ -1,15 +1,15 @@
 -- What a site holds is of its topology, at first and after each call.
-use Rattle.std.proofs.Common.{inl, inr, ◌≡◌, ◌≢◌, ◌↔◌, ℕ, true, false, true≢false, ◌==◌, cond, List, [], ◌∷◌, IsSome, sym, ◌∙◌, subst}
+use Rattle.std.proofs.Common.{inl, inr, ◌≡◌, ◌≢◌, ◌↔◌, ℕ, true, false, true≢false, not, ◌==◌, cond, List, [], ◌∷◌, IsSome, sym, ◌∙◌, subst}
 use Rattle.std.specs.List.{AllByRecursion, list_any}
-use Rattle.std.proofs.lemmas.Bool.{cases_Bool, cases_eq, or_cases, eqb-true}
+use Rattle.std.proofs.lemmas.Bool.{and_parts, cases_Bool, cases_eq, or_cases, eqb-true}
 use Rattle.cmh_model.proofs.Lawful.{without_old}
 use Rattle.cmh_model.proofs.Choices.{same_bool, some_eq}
 use Rattle.cmh_frames.specs.Topology.{Topology, At, home, is_at}
 use Rattle.cmh_model.specs.Relation.{has, with_each, without_pair}
 use Rattle.cmh_model.specs.Rules.{AreTargets}
-use Rattle.cmh_model.proofs.Pairs.{has-empty, has-with_each, has-with_each_other}
+use Rattle.cmh_model.proofs.Pairs.{has-empty, has-only, has-with_each, has-with_each_other}
 use Rattle.cmh_model.proofs.Places.{is_at-yes, at_from-is_at}
-use Rattle.cmh_waits.specs.Held.{Held, IsMember, is_member, nothing_held, asked, replied, got_reply}
+use Rattle.cmh_waits.specs.Held.{Held, IsMember, is_member, nothing_held, asked, before_ask, replied, got_reply}
 use Rattle.cmh_controller.specs.Controller.{IsOfSite}
 
 -- ---- members
@@ -68,4 +68,10 @@ replied_site t s held holder asker site = record {
     | inl e ↦ site.known j k (without_old held.waits asker holder j k (subst (λ b. has (cond b (without_pair held.waits asker holder) held.waits) j k ≡ true) e h))
     | inr e ↦ site.known j k (subst (λ b. has (cond b (without_pair held.waits asker holder) held.waits) j k ≡ true) e h)
   ];
+}
+
+pub before_ask_site : (t : Topology) (s : ℕ) (held : Held) (asker : ℕ) (targets : List ℕ) → IsOfSite t s held → IsOfSite t s (before_ask held asker targets)
+before_ask_site t s held asker targets site = record {
+  members = site.members;
+  known = λ j k h. site.known j k (and_parts (has held.waits j k) (not (j == asker)) (sym (has-only held.waits (λ p. not (p == asker)) j k) ∙ h)).0;
 }

@@ -3,3 +3,4 @@ pub mod Controller
 pub mod Destinations
 pub mod Refusals
 pub mod Replays
+pub mod Steps

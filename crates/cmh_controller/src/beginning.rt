@@ -7,6 +7,7 @@ ghost use Rattle.cmh_model.specs.Rules.{declared_after};
 ghost use Rattle.cmh_waits.specs.Held.{IsMember};
 ghost use Rattle.cmh_controller.specs.Controller.{IsOfSite};
 ghost use Rattle.cmh_controller.specs.Beginnings.{Begins};
+ghost use Rattle.cmh_controller.specs.Steps.{undeclared};
 
 use crate::proc_set::ProcSet;
 use crate::sending::send_each;
@@ -29,8 +30,10 @@ pub fn begin(
 ) -> Result<Option<ProcId>, AllocError>
     requires of_site { IsOfSite topology.now site waits.now }
     requires member { IsMember waits.now process }
-    ensures begins { IfOk result (λ found. Begins topology.now site waits.now.waits declared.old process sent.old.items sent.new.items found) }
+    ensures begins { IfOk result (λ found.
+        Begins topology.now site waits.now.waits declared.old process sent.old.items sent.new.items found) }
     ensures declared { IfOk result (λ found. declared.new ≡ declared_after declared.old found) }
+    ensures back { IfOk result (λ found. undeclared (declared_after declared.old found) found ≡ declared.old) }
     ensures err { OnErr result (declared.new ≡ declared.old) }
 {
     match start(alloc, waits, process)? {
@@ -46,6 +49,7 @@ pub fn begin(
 pub fn declare(declared: &mut ProcSet, process: ProcId) -> Result<Option<ProcId>, AllocError>
     ensures new { IfOk result (λ found. found ≡ if set.contains declared.old process then None else Some process) }
     ensures declared { IfOk result (λ found. declared.new ≡ declared_after declared.old found) }
+    ensures back { IfOk result (λ found. undeclared (declared_after declared.old found) found ≡ declared.old) }
     ensures err { OnErr result (declared.new ≡ declared.old) }
 {
     if declared.contains(process) {
@@ -66,6 +70,7 @@ pub fn declare_origin(
     requires { has dependents.old receiver origin ≡ false }
     ensures new { IfOk result (λ found. found ≡ if set.contains declared.old origin then None else Some origin) }
     ensures declared { IfOk result (λ found. declared.new ≡ declared_after declared.old found) }
+    ensures back { IfOk result (λ found. undeclared (declared_after declared.old found) found ≡ declared.old) }
     ensures dependents { OnOk result (dependents.new ≡ with_pair dependents.old receiver origin) }
     ensures none_declared { OnErr result (declared.new ≡ declared.old) }
     ensures none_added { OnErr result (dependents.new ≡ dependents.old) }

@@ -3,12 +3,14 @@
 
 mod beginning;
 mod controller;
+mod prepared;
 mod proc_set;
 mod refusal;
 mod replayed;
 mod sending;
 
 pub use crate::controller::Controller;
+pub use crate::prepared::Prepared;
 pub use crate::refusal::Refusal;
 pub use crate::replayed::{Replayed, replay};
 pub use cmh_model::{Entry, Event, Outcome, Sendings, Targets};

@@ -49,10 +49,17 @@ impl ProcSet {
         Ok(())
     }
 
+    pub fn remove(&mut self, process: ProcId)
+        ensures { self.new ≡ set.remove self.old process }
+    {
+        self.processes.retain(|other| *other != process);
+    }
+
     /// The processes, ascending.
     pub fn in_order(&self, alloc: Global) -> Result<Vec<ProcId>, AllocError>
         ensures ascending { IfOk result (λ processes. IsStrictlyIncreasing processes.items) }
-        ensures all { IfOk result (λ processes. (p : ℕ) → Contains processes.items p ↔ (set.contains self.now p ≡ true)) }
+        ensures all { IfOk result (λ processes. (p : ℕ) →
+            Contains processes.items p ↔ (set.contains self.now p ≡ true)) }
     {
         let mut processes = self.processes.to_vec(alloc)?;
         processes.sort_unstable();

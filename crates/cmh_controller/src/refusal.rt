@@ -40,8 +40,8 @@ impl Refusal {
     ghost use Rattle.cmh_controller.specs.Refusals.{number_of};
 
     /// The number that stands for the refusal in answers.
-    pub const fn number(self) -> u8
-        ensures { result ≡ number_of self }
+    pub const fn number(&self) -> u8
+        ensures { result ≡ number_of self.now }
     {
         match self {
             Refusal::UnknownProcess => 1,

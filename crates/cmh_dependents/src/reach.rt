@@ -1,11 +1,13 @@
 //! Which processes of a site are reached from one of them by waits inside the site.
 
-ghost use Rattle.std.specs.Prelude.{◌≡◌, ℕ, ◌<◌, ◌↔◌, true, length, slice_index, IsTrue, IfOk, Contains};
+ghost use Rattle.std.specs.Prelude.{◌≡◌, ℕ, ◌<◌, ◌≤◌, ◌↔◌, ◌==◌, ◌&&◌, ◌||◌, not, true, length, slice_index};
+ghost use Rattle.std.specs.Prelude.{Contains, IfOk, IsTrue};
 ghost use Rattle.std.specs.List.Sorted.{IsStrictlyIncreasing};
 ghost use Rattle.cmh_model.specs.Paths.{DependsOnItselfAmong, ReachesAmong};
 ghost use Rattle.cmh_model.specs.Relation.{has};
 ghost use Rattle.cmh_waits.specs.Held.{IsMember};
-ghost use Rattle.cmh_dependents.specs.Marks.{AreMarked, MarksReached};
+ghost use Rattle.cmh_waits.specs.Rows.{is_set};
+ghost use Rattle.cmh_dependents.specs.Marks.{AreReached, AreThose};
 
 use cmh_frames::ProcId;
 use cmh_waits::LocalWaits;
@@ -19,14 +21,14 @@ pub fn local_reach(
 ) -> Result<Vec<ProcId>, AllocError>
     requires { IsMember waits.now from }
     ensures ascending { IfOk result (λ reached. IsStrictlyIncreasing reached.items) }
-    ensures all { IfOk result (λ reached. (q : ℕ) → Contains reached.items q ↔ ReachesAmong (λ p. IsMember waits.now p) waits.now.waits from q) }
+    ensures all { IfOk result (λ reached. (q : ℕ) →
+        Contains reached.items q ↔ ReachesAmong (λ p. IsMember waits.now p) waits.now.waits from q) }
 {
-    let marks = mark_reached(alloc, waits, from)?;
-    marked_members(alloc, waits.members(), &marks)
+    members_of(alloc, waits.members(), reached_row(waits, from))
 }
 
-/// Whether a path of one or more waits between members leads from the process back to it: whether it is locally dependent
-/// upon itself (Chandy, Misra and Haas 1983).
+/// Whether a path of one or more waits between members leads from the process back to it: whether it is locally
+/// dependent upon itself (Chandy, Misra and Haas 1983).
 pub fn on_local_cycle(
     alloc: Global,
     waits: &LocalWaits,
@@ -49,7 +51,8 @@ pub fn leads_back(waits: &LocalWaits, process: ProcId, reached: &[ProcId]) -> bo
 
 /// Whether any of the processes waits for this one.
 fn any_waits(waits: &LocalWaits, processes: &[ProcId], holder: ProcId) -> bool
-    ensures { IsTrue result ↔ ((k : ℕ) × (k < length processes.now) × (has waits.now.waits (slice_index processes.now k) holder ≡ true)) }
+    ensures { IsTrue result
+        ↔ ((k : ℕ) × (k < length processes.now) × (has waits.now.waits (slice_index processes.now k) holder ≡ true)) }
 {
     for process in processes {
         if waits.waits(*process, holder) {
@@ -59,55 +62,69 @@ fn any_waits(waits: &LocalWaits, processes: &[ProcId], holder: ProcId) -> bool
     false
 }
 
-/// The place of a member.
-fn place_of(members: &[ProcId], member: ProcId) -> usize
-    requires ascending { IsStrictlyIncreasing members.now }
-    requires member { Contains members.now member }
-    ensures in_range { result < length members.now }
-    ensures is { slice_index members.now result ≡ member }
-{
-    match members.binary_search(&member) {
-        Ok(place) => place,
-        Err(_) => unreachable!(),
-    }
-}
-
-/// Marks the places of the members that one of them reaches.
-fn mark_reached(alloc: Global, waits: &LocalWaits, from: ProcId) -> Result<Vec<bool>, AllocError>
+/// The numbers of the members that one of them reaches, as bits.
+fn reached_row(waits: &LocalWaits, from: ProcId) -> u64
     requires { IsMember waits.now from }
-    ensures { IfOk result (λ marks. MarksReached waits.now from marks.items) }
+    ensures { AreReached waits.now from result }
 {
     let members = waits.members();
-    let mut marks = vec![in alloc; false; members.len()]?;
-    let mut work = Vec::new(alloc);
-    marks[place_of(members, from)] = true;
-    work.push(from)?;
-    while let Some(process) = work.pop() {
-        let holders = waits.local_waits(alloc, process)?;
-        for holder in &holders {
-            let place = place_of(members, *holder);
-            if !marks[place] {
-                marks[place] = true;
-                work.push(*holder)?;
-            }
-        }
+    let mut reached = 0;
+    if let Some(place) = waits.place(from) {
+        reached = 1 << place;
     }
-    Ok(marks)
+    let mut work = reached;
+    while work != 0 {
+        let place = lowest(work);
+        let fresh = beyond(waits.row(place), reached);
+        work = either(without(work, place), fresh);
+        reached = either(reached, fresh);
+    }
+    reached
 }
 
-/// The members with a mark, in their order.
-fn marked_members(
-    alloc: Global,
-    members: &[ProcId],
-    marks: &[bool],
-) -> Result<Vec<ProcId>, AllocError>
+/// The place of the lowest 1.
+fn lowest(row: u64) -> usize
+    requires { 0 < row }
+    ensures within { result < 64 }
+    ensures set { is_set row result ≡ true }
+{
+    row.trailing_zeros() as usize
+}
+
+/// The row with a 0 at the place, where it has a 1.
+fn without(row: u64, place: usize) -> u64
+    requires within { place < 64 }
+    requires set { is_set row place ≡ true }
+    ensures bits { (k : ℕ) → is_set result k ≡ (not (k == place) && is_set row k) }
+    ensures less { result < row }
+{
+    row & !(1 << place)
+}
+
+/// The bits of the row that the other one lacks.
+fn beyond(row: u64, other: u64) -> u64
+    ensures { (k : ℕ) → is_set result k ≡ (is_set row k && not (is_set other k)) }
+{
+    row & !other
+}
+
+/// The bits of either.
+fn either(row: u64, other: u64) -> u64
+    ensures bits { (k : ℕ) → is_set result k ≡ (is_set row k || is_set other k) }
+    ensures no_less { row ≤ result }
+{
+    row | other
+}
+
+/// The members with a 1 at their place, in their order.
+fn members_of(alloc: Global, members: &[ProcId], row: u64) -> Result<Vec<ProcId>, AllocError>
     requires ascending { IsStrictlyIncreasing members.now }
-    requires len { length marks.now ≡ length members.now }
-    ensures { IfOk result (λ marked. AreMarked members.now marks.now marked.items) }
+    requires few { length members.now ≤ 64 }
+    ensures { IfOk result (λ marked. AreThose members.now row marked.items) }
 {
     let mut marked = Vec::new(alloc);
     for (place, member) in members.iter().enumerate() {
-        if marks[place] {
+        if row >> place & 1 == 1 {
             marked.push(*member)?;
         }
     }

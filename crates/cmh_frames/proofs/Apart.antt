@@ -6,7 +6,7 @@ use Rattle.std.proofs.lemmas.Bool.{cases_eq, cases_Bool, eqb-true, eq-eqb, ne_eq
 use Rattle.std.proofs.lemmas.List.Folds.{list_any-append}
 use Rattle.std.proofs.lemmas.Map.Keys.{IsDistinct-cons}
 use Rattle.cmh_frames.specs.Rows.{Row, has_site, has_process, repeats_site, repeats_among, repeats_process}
-use Rattle.cmh_frames.specs.Topology.{home_in, members_in, AreApart, is_named, all_members}
+use Rattle.cmh_frames.specs.Topology.{home_in, members_in, AreApart, is_named}
 
 pub none_some : {n : ℕ} → None ≡ Some n → ⊥
 none_some e = cc
@@ -129,14 +129,4 @@ named_at (row ∷ rows) p s apart =
           | inr n ↦ home_later row rows p e ∙ later.1 n
         ]),
       )
-    ]
-
--- the processes with a home are those of the rows
-pub home_of_member : (rows : List Row) (p : ℕ) → list_any (λ q. q == p) (all_members rows) ≡ is_some (home_in rows p)
-home_of_member [] p = refl
-home_of_member (row ∷ rows) p =
-    list_any-append (λ q. q == p) row.1 (all_members rows)
-    ∙ elim (cases_Bool (list_any (λ q. q == p) row.1)) [
-      | inl e ↦ or_left (list_any (λ q. q == p) row.1) _ e ∙ sym (ap is_some (home_first row rows p e))
-      | inr e ↦ ap (λ b. b || list_any (λ q. q == p) (all_members rows)) e ∙ home_of_member rows p ∙ sym (ap is_some (home_later row rows p e))
     ]

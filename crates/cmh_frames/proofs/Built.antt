@@ -21,8 +21,8 @@ use Rattle.cmh_frames.specs.declared.rows.TopologyFault.TheVariants.{Limit, Repe
 use Rattle.cmh_frames.specs.Edition.{site_limit, member_limit}
 use Rattle.cmh_frames.specs.Number.{IsNumber, is_number}
 use Rattle.cmh_frames.specs.Rows.{Row, is_bad, is_over_limit, has_site, repeats_site, repeats_process, has_bad_number, fault_of}
-use Rattle.cmh_frames.specs.Topology.{Topology, home_in, members_in, AreApart, all_members, IsTopologyOf, HasNumbers, AreTidy, AreHomes, site_in, AreInOrder, HasMembersOf}
-use Rattle.cmh_frames.proofs.Apart.{none_some, some_same, not_both, eqb_comm, home_first, home_later, members_first, members_later, home_has_row, apart, distinct_members, distinct_sites, any_site, named_at, home_of_member}
+use Rattle.cmh_frames.specs.Topology.{Topology, home_in, members_in, AreApart, IsTopologyOf, HasNumbers, AreTidy, AreInOrder, HasMembersOf}
+use Rattle.cmh_frames.proofs.Apart.{none_some, some_same, not_both, eqb_comm, home_first, home_later, members_first, members_later, home_has_row, apart, distinct_members, distinct_sites, any_site, named_at}
 use Rattle.cmh_frames.proofs.Homes.{at_home}
 
 -- what a sort ensures of numbers
@@ -240,49 +240,3 @@ module _ (edition : Edition) (given rows : List Row) (sites : List ℕ) (free : 
         sites_ascend = subst (λ (rs : List Row). IsStrictlyIncreasing (map (λ (row : Row). row.0) rs)) (sym rows_are) rising;
         members_ascend = λ s. members_at_rise t.rows s (subst (λ rs. AllByRecursion (λ (row : Row). IsStrictlyIncreasing row.1) rs) (sym rows_are) (members_rise given rows none.processes all));
       }
-
--- ---- homes
-
-all_at_home : (test : ℕ → Bool) (ps : List ℕ) → ((p : ℕ) → list_any (λ q. q == p) ps ≡ true → test p ≡ true) → AllByRecursion (λ p. test p ≡ true) ps
-all_at_home test [] h = tt
-all_at_home test (p ∷ ps) h = (h p (or_left (p == p) _ (eq-eqb p p refl)), all_at_home test ps (λ q found. h q (or_right (p == q) _ found)))
-
-pub has_homes : (rows : List Row) (processes : List ℕ) → AreInOrder (all_members rows) processes → (p : ℕ) → list_any (λ q. q == p) processes ≡ is_some (home_in rows p)
-has_homes rows processes ordered p = sym (list_any-IsPermutation (λ q. q == p) _ _ ordered.same) ∙ home_of_member rows p
-
-pub each_has_home : (rows : List Row) (processes : List ℕ) → AreInOrder (all_members rows) processes → All (λ p. is_some (home_in rows p) ≡ true) processes
-each_has_home rows processes ordered = All-from_recursion _ processes (all_at_home (λ p. is_some (home_in rows p)) processes (λ p found. sym (has_homes rows processes ordered p) ∙ found))
-
--- ---- a home that is found by halving
-
-none_is : (p : ℕ) (ps : List ℕ) → AllByRecursion (λ q. q ≢ p) ps → list_any (λ q. q == p) ps ≡ false
-none_is p [] h = refl
-none_is p (q ∷ ps) h = ap (λ b. b || list_any (λ r. r == p) ps) (ne_eqb q p h.0) ∙ none_is p ps h.1
-
-has_some_home : (rows : List Row) (p : ℕ) → is_some (home_in rows p) ≡ true → Some (site_in rows p) ≡ home_in rows p
-has_some_home rows p h = elim (cases_home (home_in rows p)) [
-  | inl none ↦ absurd (not_both h (ap is_some none))
-  | inr at ↦ ap (λ home. Some (unwrap_or home 0)) at.1 ∙ sym at.1
-]
-
-has_no_home : (rows : List Row) (p : ℕ) → is_some (home_in rows p) ≡ false → None ≡ home_in rows p
-has_no_home rows p h = elim (cases_home (home_in rows p)) [
-  | inl none ↦ sym none
-  | inr at ↦ absurd (not_both (ap is_some at.1) h)
-]
-
-module _ (rows : List Row) (ps homes : List ℕ) (p : ℕ) (are : AreHomes rows ps homes) where
-  pub home_at : (i d : ℕ) → i < length ps → get_or ps i 0 ≡ p → Some (get_or homes i d) ≡ home_in rows p
-  home_at i d within e =
-      let site : get_or homes i d ≡ site_in rows p = ap (λ hs. get_or hs i d) are.sites ∙ get_or-map (site_in rows) ps i 0 d within ∙ ap (site_in rows) e in
-      ap Some site ∙ has_some_home rows p (sym (are.all p) ∙ list_any_at (λ q. q == p) ps i 0 within (eq-eqb _ p e))
-
-  -- p is between two numbers next to each other
-  pub no_home : (gap : ℕ) → ((k : ℕ) → k < gap → get_or ps k 0 < p) → ((k : ℕ) → gap ≤ k → k < length ps → p < get_or ps k 0) → None ≡ home_in rows p
-  no_home gap below above = has_no_home rows p (sym (are.all p) ∙ none_is p ps (recursion_from_All (λ q. q ≢ p) ps (λ k d within. subst (λ q. q ≢ p) (get_or_default ps k 0 d within) (differ k within))))
-    where
-      differ : (k : ℕ) → k < length ps → get_or ps k 0 ≢ p
-      differ k within e = elim (cases_Bool (nat_lt k gap)) [
-        | inl l ↦ absurd (omega (arith, below k (ltb-true k gap l)))
-        | inr l ↦ absurd (omega (arith, above k (ltb-false k gap l) within))
-      ]

@@ -1,6 +1,6 @@
 -- Which process is at which site.
-use Rattle.std.specs.Prelude.{◌≡◌, ℕ, ◌≤◌, Bool, true, false, ◌&&◌, List, [], ◌∷◌, ◌++◌, length, ◌==◌, if◌then◌else◌, Option, None, Some, unwrap_or, map, ◌↔◌, IsTrue}
-use Rattle.std.specs.Option.{is_some}
+use Rattle.std.specs.Prelude.{◌≡◌, ◌↔◌, ℕ, ◌≤◌, Bool, true, false, ◌&&◌, List, [], ◌∷◌, ◌++◌, length, ◌==◌, if◌then◌else◌}
+use Rattle.std.specs.Prelude.{Option, None, Some, unwrap_or, map, slice_index_or, IsTrue}
 use Rattle.std.specs.List.{list_any, AllByRecursion}
 use Rattle.std.specs.List.Sorted.{IsNonDecreasing, IsPermutation, IsStrictlyIncreasing}
 use Rattle.cmh_frames.specs.declared.edition.Edition.{Edition}
@@ -99,20 +99,14 @@ pub record AreTidy (edition : Edition) (rows : List Row) : Type 0 where
   pub few_sites : length rows ≤ site_limit edition
   pub numbers : AllByRecursion HasNumbers rows
 
--- the site in whose row a process stands, where there is one
-abbrev pub site_in : List Row → ℕ → ℕ
-site_in rows p = unwrap_or (home_in rows p) 0
-
 -- all processes of the rows
 abbrev pub all_members : List Row → List ℕ
 all_members [] = []
 all_members (row ∷ rows) = row.1 ++ all_members rows
 
--- the processes of the rows in order, and beside each its site
-pub record AreHomes (rows : List Row) (processes homes : List ℕ) : Type 0 where
-  pub ascending : IsNonDecreasing processes
-  pub all : (p : ℕ) → list_any (λ q. q == p) processes ≡ is_some (home_in rows p)
-  pub sites : homes ≡ map (site_in rows) processes
+-- at the number of each process its site
+abbrev pub AreHomes : List Row → List (Option ℕ) → Type 0
+AreHomes rows homes = (p : ℕ) → slice_index_or homes p None ≡ home_in rows p
 
 -- the same numbers in order
 pub record AreInOrder (numbers ordered : List ℕ) : Type 0 where

@@ -1,7 +1,9 @@
 -- Lists of numbers that ascend, by neighbours.
 use Rattle.std.proofs.Common.{◌≡◌, ◌↔◌, ℕ, suc, zero, ◌+◌, ◌<◌, nat_lt, Bool, true, false, List, [], ◌∷◌, length, get_or, arith, sym, refl, subst, true≢false, ◌∙◌, IsTrue, ltb-true, lt-ltb}
 use Rattle.std.specs.List.{AllByRecursion, IsAllAdjacentAnswer}
+use Rattle.std.specs.List.Sorted.{IsStrictlyIncreasing}
 use Rattle.cmh_model.specs.Rules.{IsAscending}
+use Rattle.cmh_model.proofs.Members.{increasing_tail}
 
 -- each number is below the next
 ascending_at : (xs : List ℕ) (k d : ℕ) → IsAscending xs → suc k < length xs → get_or xs k d < get_or xs (suc k) d
@@ -36,3 +38,15 @@ ascending_where xs false h = (
       let below = subst (λ i. get_or xs h.0 0 < get_or xs i 0) next (ascending_at xs h.0 0 up (omega arith)) in
       absurd (true≢false (sym (lt-ltb _ _ below) ∙ sym (h.2 0))),
 )
+
+-- ---- the same of lists that strictly increase
+
+head_below : (x : ℕ) (xs : List ℕ) → IsStrictlyIncreasing (x ∷ xs) → AllByRecursion (λ y. x < y) xs
+head_below x [] up = tt
+head_below x (y ∷ ys) up =
+    let first : x < y = up 0 (omega arith) in
+    (first, all_above x y first ys (head_below y ys (increasing_tail x (y ∷ ys) up)))
+
+pub ascending_increasing : (xs : List ℕ) → IsStrictlyIncreasing xs → IsAscending xs
+ascending_increasing [] up = tt
+ascending_increasing (x ∷ xs) up = (head_below x xs up, ascending_increasing xs (increasing_tail x xs up))

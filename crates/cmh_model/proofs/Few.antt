@@ -94,13 +94,13 @@ few_pairs firsts seconds n pairs ascending each few =
 -- ---- probes
 
 -- the probes along waits of the site's processes, of which each has few
-few_probes :
-    (t : Topology) (s : ℕ) (waits : Relation) (limit i p : ℕ) (sent : List (ℕ × Frame)) → IsWellFormed t → IsNarrow limit waits → AreProbes t s waits i p sent → length sent ≤ member_limit t.edition * limit
+pub few_probes :
+    (t : Topology) (s : ℕ) (waits : Relation) (limit i p : ℕ) (sent : List (ℕ × Frame)) → IsWellFormed t → IsNarrow limit waits → AreProbes t s waits i p sent → length sent ≤ length (members_of t s) * limit
 few_probes t s waits limit i p sent formed narrow probes =
     let each = edges probes.edges (each_edge t s waits i p sent probes) in
     let few = few_pairs (members_of t s) (λ a. (narrow a).others) limit probes.edges probes.ascending each (λ a. (narrow a).few) in
     let many : length sent ≡ length probes.edges = ap length probes.are ∙ length-map probes.edges _ in
-    omega (arith, few, many, mul-le (length (members_of t s)) limit (member_limit t.edition) limit (formed.few_members s) (omega arith))
+    omega (arith, few, many)
   where
     edges : (es : List (ℕ × ℕ)) → AllByRecursion (IsEdgeFrom t s waits p) es → AllByRecursion (λ (e : ℕ × ℕ). (list_any (λ q. q == e.0) (members_of t s) ≡ true) × (list_any (λ q. q == e.1) (narrow e.0).others ≡ true)) es
     edges [] all = tt
@@ -148,6 +148,8 @@ few_sent t s v ev sent d formed narrow acc sends =
     let x = shape t s v ev sent d sends in
     let probes : length x.probes ≤ member_limit t.edition * target_limit t.edition = elim x.from [
       | inl none ↦ omega (arith, ap length none)
-      | inr y ↦ few_probes t s (after t s v ev d).waits (target_limit t.edition) y.0 y.1 x.probes formed (stays_narrow t s v ev d acc narrow) y.3
+      | inr y ↦
+          let few = few_probes t s (after t s v ev d).waits (target_limit t.edition) y.0 y.1 x.probes formed (stays_narrow t s v ev d acc narrow) y.3 in
+          omega (arith, few, mul-le (length (members_of t s)) (target_limit t.edition) (member_limit t.edition) (target_limit t.edition) (formed.few_members s) (omega arith))
     ] in
     omega (arith, ap length x.is, length-append (answers_of t s ev) x.probes, few_answers t s v ev acc, probes)

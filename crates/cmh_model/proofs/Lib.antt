@@ -12,9 +12,16 @@ pub mod Edges
 pub mod Effects
 pub mod Journals
 pub mod Marks
+pub mod Declaring
 pub mod Outcomes
+pub mod Reached
+pub mod SomeOutcome
+pub mod Fits
+pub mod Sums
+pub mod Deliveries
 pub mod Narrow
 pub mod Lawful
+pub mod Strangers
 pub mod Few
 pub mod Numbers
 pub mod LongerRuns

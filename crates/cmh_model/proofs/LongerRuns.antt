@@ -66,10 +66,11 @@ run_first t = record { lawful = λ s. tt; in_order = λ so_far begins a b. empty
     empty [] rest h a b = begins_empty _
     empty (x ∷ xs) rest h a b = absurd (cc h)
 
--- a run with one more entry that the rules give, and that gets the next frame of its link if it gets one
-pub run_more : (t : Topology) (before : List WorldEvent) (e : WorldEvent) → IsRun t before → Accepts t e.site (state_of t e.site before) e.entry.event
-    → Sends t e.site (state_of t e.site before) e.entry.event e.entry.sent e.entry.declared → IsNext before e.site e.entry.event → IsRun t (before ++ e ∷ [])
-run_more t before e run accepted sends next = record {
+-- a run with one more entry that the rules give, whose frame, if it gets one, is the next of its link
+pub run_longer : (t : Topology) (before : List WorldEvent) (e : WorldEvent) → IsRun t before → Accepts t e.site (state_of t e.site before) e.entry.event
+    → Sends t e.site (state_of t e.site before) e.entry.event e.entry.sent e.entry.declared
+    → ((a : ℕ) → IsBeginningOf (frame_from a e.entry.event) (under_way a e.site before)) → IsRun t (before ++ e ∷ [])
+run_longer t before e run accepted sends next = record {
   lawful = λ s. elim (cases_eq e.site s) [
     | inl here ↦ subst (IsLawful t s) (sym (entries_of-append s before (e ∷ []) ∙ ap (λ z. entries_of s before ++ z) (entries_here s e [] here)))
         (subst (λ z. IsLawful t z (entries_of z before ++ e.entry ∷ [])) here (lawful_more t e.site empty_state (entries_of e.site before) e.entry (run.lawful e.site) accepted sends))
@@ -84,7 +85,7 @@ run_more t before e run accepted sends next = record {
     got : (a b : ℕ) → IsBeginningOf (got_on a b e) (under_way a b before)
     got a b = elim (cases_eq e.site b) [
       | inl here ↦ subst (λ z. IsBeginningOf (if z then frame_from a e.entry.event else []) (under_way a b before)) (sym (eq-eqb e.site b here))
-          (subst (λ z. IsBeginningOf (frame_from a e.entry.event) (under_way a z before)) here (next_on before e.site e.entry.event a next))
+          (subst (λ z. IsBeginningOf (frame_from a e.entry.event) (under_way a z before)) here (next a))
       | inr far ↦ subst (λ z. IsBeginningOf (if z then frame_from a e.entry.event else []) (under_way a b before)) (sym (ne_eqb e.site b far)) (begins_empty _)
     ]
 
@@ -97,3 +98,8 @@ run_more t before e run accepted sends next = record {
               ∙ ap (λ z. receipts a b before ++ z) (sym (append_assoc (got_on a b e) more.0 (sent_on a b e)) ∙ ap (λ z. z ++ sent_on a b e) more.1)
               ∙ sym (append_assoc (receipts a b before) (under_way a b before) (sent_on a b e)) ∙ ap (λ z. z ++ sent_on a b e) old ∙ sym (sendings-more a b before e),
         )
+
+-- the same, where what it got is told
+pub run_more : (t : Topology) (before : List WorldEvent) (e : WorldEvent) → IsRun t before → Accepts t e.site (state_of t e.site before) e.entry.event
+    → Sends t e.site (state_of t e.site before) e.entry.event e.entry.sent e.entry.declared → IsNext before e.site e.entry.event → IsRun t (before ++ e ∷ [])
+run_more t before e run accepted sends next = run_longer t before e run accepted sends (λ a. next_on before e.site e.entry.event a next)

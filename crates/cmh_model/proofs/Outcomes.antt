@@ -18,18 +18,18 @@ use Rattle.cmh_model.specs.Rules.{Sends, DeclaresOrProbes, AreProbes, after, req
 use Rattle.cmh_model.proofs.Pairs.{pair_cmp_total}
 
 -- x is one of the list
-abbrev In : ℕ × ℕ → List (ℕ × ℕ) → Type 0
+abbrev pub In : ℕ × ℕ → List (ℕ × ℕ) → Type 0
 In x [] = ⊥
 In x (y ∷ ys) = (x ≡ y) ⊎ In x ys
 
 -- a member is contained
-in_contains : (x : ℕ × ℕ) (xs : List (ℕ × ℕ)) → In x xs → Contains xs x
+pub in_contains : (x : ℕ × ℕ) (xs : List (ℕ × ℕ)) → In x xs → Contains xs x
 in_contains x [] h = absurd h
 in_contains x (y ∷ ys) (inl e) = (0, omega arith, sym e)
 in_contains x (y ∷ ys) (inr h) = let r = in_contains x ys h in (suc r.0, omega arith, r.2)
 
 -- what is contained is a member
-contains_in : (x : ℕ × ℕ) (xs : List (ℕ × ℕ)) → Contains xs x → In x xs
+pub contains_in : (x : ℕ × ℕ) (xs : List (ℕ × ℕ)) → Contains xs x → In x xs
 contains_in x xs h = go xs h.0 h.1 h.2
   where
     go : (xs : List (ℕ × ℕ)) (k : ℕ) → k < length xs → get_or xs k x ≡ x → In x xs
@@ -38,7 +38,7 @@ contains_in x xs h = go xs h.0 h.1 h.2
     go (y ∷ ys) (suc k) l e = inr (go ys k (omega arith) e)
 
 -- the first of a sorted list is below each later member
-below_each : (x y : ℕ × ℕ) (xs : List (ℕ × ℕ)) → AllByRecursion (λ z. pair_cmp x z ≡ Less) xs → In y xs → pair_cmp x y ≡ Less
+pub below_each : (x y : ℕ × ℕ) (xs : List (ℕ × ℕ)) → AllByRecursion (λ z. pair_cmp x z ≡ Less) xs → In y xs → pair_cmp x y ≡ Less
 below_each x y [] all h = absurd h
 below_each x y (z ∷ zs) all (inl e) = subst (λ w. pair_cmp x w ≡ Less) (sym e) all.0
 below_each x y (z ∷ zs) all (inr h) = below_each x y zs all.1 h

@@ -41,8 +41,12 @@ pub has-without : (r : Relation) (a b x y : ℕ) → has (without_pair r a b) x 
 has-without r a b x y = set.contains-remove pair_cmp_total r (a, b) (x, y) ∙ ap (λ z. not z && has r x y) (same_pair (x, y) (a, b))
 
 -- tied pairs have the same first number
-first_of_tied : (x y : ℕ) (z : ℕ × ℕ) → pair_cmp (x, y) z ≡ Equal → x ≡ z.0
+pub first_of_tied : (x y : ℕ) (z : ℕ × ℕ) → pair_cmp (x, y) z ≡ Equal → x ≡ z.0
 first_of_tied x y z e = eqb-true x z.0 (and_parts (x == z.0) (y == z.1) (sym (same_pair (x, y) z) ∙ ap is_eq e)).0
+
+-- and the same second one
+pub second_of_tied : (x y : ℕ) (z : ℕ × ℕ) → pair_cmp (x, y) z ≡ Equal → y ≡ z.1
+second_of_tied x y z e = eqb-true y z.1 (and_parts (x == z.0) (y == z.1) (sym (same_pair (x, y) z) ∙ ap is_eq e)).1
 
 -- with some first numbers alone
 pub has-only : (r : Relation) (test : ℕ → Bool) (x y : ℕ) → has (only_firsts r test) x y ≡ (has r x y && test x)

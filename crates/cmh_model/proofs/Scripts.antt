@@ -7,7 +7,7 @@ use Rattle.std.proofs.lemmas.Bool.{eqb-true, and_parts, or_cases, false_from_ne_
 use Rattle.cmh_model.proofs.Choices.{match_true, match_false}
 use Rattle.cmh_frames.specs.declared.edition.Edition.{Edition}
 use Rattle.cmh_frames.specs.declared.edition.Edition.TheVariants.{One, Two}
-use Rattle.cmh_frames.specs.declared.frame.Frame.TheVariants.{Request, Probe}
+use Rattle.cmh_frames.specs.declared.frame.Frame.TheVariants.{Request, Reply as Reply_frame, Probe}
 use Rattle.cmh_frames.specs.Edition.{target_limit, starts_at_ask}
 use Rattle.cmh_frames.specs.Topology.{Topology, home, At}
 use Rattle.cmh_model.specs.declared.event.Event.TheVariants.{Ask, Reply, Start, Got}
@@ -20,18 +20,29 @@ use Rattle.cmh_model.specs.declared.journal.Entry.{Entry}
 use Rattle.cmh_model.specs.Stops.{IsConsistent}
 use Rattle.cmh_model.specs.Runs.{IsRun, IsDrained, entries_of, state_of}
 use Rattle.cmh_model.specs.Laws.{is_request}
-use Rattle.cmh_model.specs.Scripts.{one_site, two_sites, three_processes, silent, outcome, at_site, state_with, wait_for_each_other, declared_at_ask, ask_each_other, probe_goes_round, granted_before_the_probe, marked_by_the_probe, overtaken}
+use Rattle.cmh_model.specs.Scripts.{one_site, two_sites, three_processes, silent, outcome, at_site, state_with, wait_for_each_other, declared_at_ask, ask_each_other, probe_goes_round, granted_before_the_probe, marked_by_the_probe, asked_and_answered, lost_request, overtaken}
 use Rattle.cmh_model.proofs.LongerRuns.{run_first, run_more}
 use Rattle.cmh_model.proofs.Listed.{pairs, has-pairs, has_some-pairs}
 use Rattle.cmh_model.proofs.Places.{one_place, site_of-at}
 use Rattle.cmh_model.proofs.Pairs.{has-with_same, has-without, has-without_same, has-only, has_some-to}
 
 -- the only pair of a relation
-one_pair : (j k x y : ℕ) → has (pairs ((j, k) ∷ [])) x y ≡ true → (x ≡ j) × (y ≡ k)
+pub one_pair : (j k x y : ℕ) → has (pairs ((j, k) ∷ [])) x y ≡ true → (x ≡ j) × (y ≡ k)
 one_pair j k x y h = elim (or_cases ((x == j) && (y == k)) false (sym (has-pairs ((j, k) ∷ []) x y) ∙ h)) [
   | inl e ↦ let both = and_parts (x == j) (y == k) e in (eqb-true x j both.0, eqb-true y k both.1)
   | inr e ↦ absurd (true≢false (sym e))
 ]
+
+-- without it nothing is left
+pub no_more_waits : (j k : ℕ) → has_some (without_pair (pairs ((j, k) ∷ [])) j k) j ≡ false
+no_more_waits j k = false_from_ne_true (has_some (without_pair (pairs ((j, k) ∷ [])) j k) j) none
+  where
+    none : has_some (without_pair (pairs ((j, k) ∷ [])) j k) j ≡ true → ⊥
+    none h =
+        let one = has_some-to (without_pair (pairs ((j, k) ∷ [])) j k) j h in
+        let was = and_parts (not ((j == j) && (one.0 == k))) (has (pairs ((j, k) ∷ [])) j one.0) (sym (has-without (pairs ((j, k) ∷ [])) j k j one.0) ∙ one.1) in
+        let is = one_pair j k j one.0 was.1 in
+        true≢false (sym one.1 ∙ ap (has (without_pair (pairs ((j, k) ∷ [])) j k) j) is.1 ∙ has-without_same (pairs ((j, k) ∷ [])) j k)
 
 -- the only member of a list
 only_member : (x y : ℕ × ℕ) → Contains (x ∷ []) y → x ≡ y
@@ -46,7 +57,7 @@ module _ (t : Topology) (s b j k : ℕ) (at_j : At t j s) (at_k : At t k b) (apa
   none_local p q h = let is = one_pair j k p q h.2 in apart (one_place t k b s at_k (subst (λ z. At t z s) is.1 h.1))
 
   -- j reaches itself alone
-  reaches_itself : (q : ℕ) → ReachesLocally t s (pairs ((j, k) ∷ [])) j q → j ≡ q
+  pub reaches_itself : (q : ℕ) → ReachesLocally t s (pairs ((j, k) ∷ [])) j q → j ≡ q
   reaches_itself q h = end h.1.0 h.1.1
     where
       end : (members : List ℕ) → IsPath (WaitsLocally t s (pairs ((j, k) ∷ []))) j members q → j ≡ q
@@ -54,11 +65,11 @@ module _ (t : Topology) (s b j k : ℕ) (at_j : At t j s) (at_k : At t k b) (apa
       end (x ∷ xs) path = absurd (none_local j x path.0)
 
   -- so j is not locally dependent upon itself
-  not_on_itself : DependsOnItself t s (pairs ((j, k) ∷ [])) j → ⊥
+  pub not_on_itself : DependsOnItself t s (pairs ((j, k) ∷ [])) j → ⊥
   not_on_itself h = none_local j h.0 h.1
 
   -- the probes from j are one probe
-  one_probe : (i : ℕ) → AreProbes t s (pairs ((j, k) ∷ [])) i j ((b, Probe (i, j, k)) ∷ [])
+  pub one_probe : (i : ℕ) → AreProbes t s (pairs ((j, k) ∷ [])) i j ((b, Probe (i, j, k)) ∷ [])
   unfolding IsStrictlySortedBy
   one_probe i = record {
     edges = (j, k) ∷ [];
@@ -74,19 +85,19 @@ module _ (t : Topology) (s b j k : ℕ) (at_j : At t j s) (at_k : At t k b) (apa
       from edge h = let is = one_pair j k edge.0 edge.1 h.1 in (0, omega arith, λ n. (sym is.0 n, sym is.1 n))
 
 -- whether a probe acts, from its three tests
-acts_is : (v : State) (i f k : ℕ) (b d w : Bool) → is_blocked v k ≡ b → has v.dependents k i ≡ d → has v.owed k f ≡ w → probe_acts v i f k ≡ (b && (not d && w))
+pub acts_is : (v : State) (i f k : ℕ) (b d w : Bool) → is_blocked v k ≡ b → has v.dependents k i ≡ d → has v.owed k f ≡ w → probe_acts v i f k ≡ (b && (not d && w))
 acts_is v i f k b d w is_b is_d is_w = λ n. is_b n && (not (is_d n) && is_w n)
 
 -- what one other process may be asked
-one_target : (t : Topology) (asker k : ℕ) → IsSome (home t k) → k ≢ asker → 0 < target_limit t.edition → AreTargets t asker (k ∷ [])
+pub one_target : (t : Topology) (asker k : ℕ) → IsSome (home t k) → k ≢ asker → 0 < target_limit t.edition → AreTargets t asker (k ∷ [])
 one_target t asker k known other limit = record { some = omega arith; within = omega (arith, limit); ascending = (tt, tt); known = ((known, other), tt) }
 
 -- 1 is not 2
-one_not_two : ◌≢◌ {A = ℕ} 1 2
+pub one_not_two : ◌≢◌ {A = ℕ} 1 2
 one_not_two e = omega (arith, e)
 
 -- 2 is not 1
-two_not_one : ◌≢◌ {A = ℕ} 2 1
+pub two_not_one : ◌≢◌ {A = ℕ} 2 1
 two_not_one e = omega (arith, e)
 
 -- nobody is declared at first
@@ -94,7 +105,7 @@ nobody_declared : (i : ℕ) → set.contains {R = nat_cmp} set.empty i ≡ false
 nobody_declared i = set.contains-empty nat_cmp i
 
 -- so a declaration is new
-newly_first : (i : ℕ) → Some i ≡ newly empty_state i
+pub newly_first : (i : ℕ) → Some i ≡ newly empty_state i
 newly_first i = ap (λ z. if z then None else Some i) (sym (nobody_declared i))
 
 -- ---- one site
@@ -146,22 +157,38 @@ declared_at_ask_run =
 
 -- ---- two sites
 
+-- both ask
+pub both_asked : (edition : Edition) → starts_at_ask edition ≡ false → 0 < target_limit edition → IsRun (two_sites edition) (take 2 ask_each_other)
+both_asked edition one limit =
+    let first = run_more (two_sites edition) [] (at_site 1 (outcome (Ask 1 (2 ∷ [])) ((2, Request (1, 2)) ∷ []) None)) (run_first (two_sites edition))
+    (refl, has_some-pairs [] 1, one_target (two_sites edition) 1 2 refl two_not_one limit) (match_false _ _ _ one (refl, refl)) tt in
+    run_more (two_sites edition) _ (at_site 2 (outcome (Ask 2 (1 ∷ [])) ((1, Request (2, 1)) ∷ []) None)) first
+    (refl, has_some-pairs [] 2, one_target (two_sites edition) 2 1 refl one_not_two limit) (match_false _ _ _ one (refl, refl)) tt
+
 -- both requests come
 pub asked_run : (edition : Edition) → starts_at_ask edition ≡ false → 0 < target_limit edition → IsRun (two_sites edition) ask_each_other
 asked_run edition one limit =
-    let first = run_more (two_sites edition) [] (at_site 1 (outcome (Ask 1 (2 ∷ [])) ((2, Request (1, 2)) ∷ []) None)) (run_first (two_sites edition))
-    (refl, has_some-pairs [] 1, one_target (two_sites edition) 1 2 refl two_not_one limit) (match_false _ _ _ one (refl, refl)) tt in
-    let second = run_more (two_sites edition) _ (at_site 2 (outcome (Ask 2 (1 ∷ [])) ((1, Request (2, 1)) ∷ []) None)) first
-    (refl, has_some-pairs [] 2, one_target (two_sites edition) 2 1 refl one_not_two limit) (match_false _ _ _ one (refl, refl)) tt in
-    let third = run_more (two_sites edition) _ (at_site 2 (silent (Got 1 (Request (1, 2))))) second (one_not_two, refl, refl, has-pairs [] 2 1) (refl, refl) ([], refl) in
+    let third = run_more (two_sites edition) (take 2 ask_each_other) (at_site 2 (silent (Got 1 (Request (1, 2))))) (both_asked edition one limit) (one_not_two, refl, refl, has-pairs [] 2 1) (refl, refl) ([], refl) in
     run_more (two_sites edition) _ (at_site 1 (silent (Got 2 (Request (2, 1))))) third (two_not_one, refl, refl, has-pairs [] 1 2) (refl, refl) ([], refl)
 
+-- or the first is lost
+pub lost_run : IsRun (two_sites One) lost_request
+lost_run = run_more (two_sites One) (take 2 ask_each_other) (at_site 1 (silent (Got 2 (Request (2, 1))))) (both_asked One refl (omega arith)) (two_not_one, refl, refl, has-pairs [] 1 2) (refl, refl) ([], refl)
+
+-- a request comes, is granted, and the reply comes
+pub answered_run : IsRun (two_sites One) asked_and_answered
+answered_run =
+    let asked = run_more (two_sites One) [] (at_site 1 (outcome (Ask 1 (2 ∷ [])) ((2, Request (1, 2)) ∷ []) None)) (run_first (two_sites One)) (refl, has_some-pairs [] 1, one_target (two_sites One) 1 2 refl two_not_one (omega arith)) (refl, refl) tt in
+    let came = run_more (two_sites One) _ (at_site 2 (silent (Got 1 (Request (1, 2))))) asked (one_not_two, refl, refl, has-pairs [] 2 1) (refl, refl) ([], refl) in
+    let granted = run_more (two_sites One) _ (at_site 2 (outcome (Reply 2 1) ((1, Reply_frame (2, 1)) ∷ []) None)) came (refl, has_some-pairs [] 2, has-pairs ((2, 1) ∷ []) 2 1, refl) (refl, refl) tt in
+    run_more (two_sites One) _ (at_site 1 (silent (Got 2 (Reply_frame (2, 1))))) granted (two_not_one, refl, refl, has-pairs ((1, 2) ∷ []) 1 2) (refl, refl) ([], refl)
+
 -- the probe acts at 2
-acts_at_two : probe_acts (state_with ((2, 1) ∷ []) ((2, 1) ∷ []) [] []) 1 1 2 ≡ true
+pub acts_at_two : probe_acts (state_with ((2, 1) ∷ []) ((2, 1) ∷ []) [] []) 1 1 2 ≡ true
 acts_at_two = acts_is (state_with ((2, 1) ∷ []) ((2, 1) ∷ []) [] []) 1 1 2 true false true (has_some-pairs ((2, 1) ∷ []) 2) (has-pairs [] 2 1) (has-pairs ((2, 1) ∷ []) 2 1)
 
 -- and at 1
-acts_at_one : probe_acts (state_with ((1, 2) ∷ []) ((1, 2) ∷ []) [] []) 1 2 1 ≡ true
+pub acts_at_one : probe_acts (state_with ((1, 2) ∷ []) ((1, 2) ∷ []) [] []) 1 2 1 ≡ true
 acts_at_one = acts_is (state_with ((1, 2) ∷ []) ((1, 2) ∷ []) [] []) 1 2 1 true false true (has_some-pairs ((1, 2) ∷ []) 1) (has-pairs [] 1 1) (has-pairs ((1, 2) ∷ []) 1 2)
 
 -- the probe goes round
@@ -233,14 +260,7 @@ pub is_forgotten : has (after three_processes 2 (value three_processes 2 marked_
 is_forgotten =
     ap (λ v. has (after three_processes 2 v (Reply 3 2) None).dependents 2 1) value_is
     ∙ has-only (pairs ((2, 1) ∷ [])) (λ k. not (has_some (pairs ((2, 3) ∷ [])) k && not (has_some (without_pair (pairs ((2, 3) ∷ [])) 2 3) k))) 2 1
-    ∙ (λ n. has-pairs ((2, 1) ∷ []) 2 1 n && not (has_some-pairs ((2, 3) ∷ []) 2 n && not (active n)))
-  where
-    active : has_some (without_pair (pairs ((2, 3) ∷ [])) 2 3) 2 ≡ false
-    active = false_from_ne_true (has_some (without_pair (pairs ((2, 3) ∷ [])) 2 3) 2) (λ h.
-        let one = has_some-to (without_pair (pairs ((2, 3) ∷ [])) 2 3) 2 h in
-        let was = and_parts (not ((2 == 2) && (one.0 == 3))) (has (pairs ((2, 3) ∷ [])) 2 one.0) (sym (has-without (pairs ((2, 3) ∷ [])) 2 3 2 one.0) ∙ one.1) in
-        let is = one_pair 2 3 2 one.0 was.1 in
-        true≢false (sym one.1 ∙ ap (has (without_pair (pairs ((2, 3) ∷ [])) 2 3) 2) is.1 ∙ has-without_same (pairs ((2, 3) ∷ [])) 2 3))
+    ∙ (λ n. has-pairs ((2, 1) ∷ []) 2 1 n && not (has_some-pairs ((2, 3) ∷ []) 2 n && not (no_more_waits 2 3 n)))
 
 -- ---- what is refused
 

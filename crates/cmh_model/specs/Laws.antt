@@ -4,7 +4,7 @@ use Rattle.std.specs.List.{list_any, AllByRecursion}
 use Rattle.cmh_frames.specs.declared.frame.Frame.{Frame}
 use Rattle.cmh_frames.specs.declared.frame.Frame.TheVariants.{Request, Reply as Reply_frame, Probe}
 use Rattle.cmh_frames.specs.Edition.{target_limit}
-use Rattle.cmh_frames.specs.Topology.{Topology, At}
+use Rattle.cmh_frames.specs.Topology.{Topology, At, is_site}
 use Rattle.cmh_model.specs.declared.event.Event.{Event}
 use Rattle.cmh_model.specs.declared.journal.Entry.{Entry}
 use Rattle.cmh_model.specs.declared.journal.WorldEvent.{WorldEvent}
@@ -12,7 +12,7 @@ use Rattle.cmh_model.specs.Relation.{has, IsNarrow}
 use Rattle.cmh_model.specs.State.{State, is_blocked}
 use Rattle.cmh_model.specs.Rules.{Sends}
 use Rattle.cmh_model.specs.Journals.{IsLawful, value}
-use Rattle.cmh_model.specs.Runs.{entries_of, state_of, under_way, IsBeginningOf, IsRun, ComesFrom}
+use Rattle.cmh_model.specs.Runs.{entries_of, state_of, under_way, IsBeginningOf, ComeFromRun}
 use Rattle.cmh_model.specs.Waits.{Waits, IsCycle, Reaches, DependsOn, OnCycle, IsDeclared, asks_for, grants, wait_after}
 use Rattle.cmh_model.specs.Stops.{stopped, IsConsistent}
 
@@ -62,7 +62,7 @@ SameJournals events others = (s : ℕ) → entries_of s events ≡ entries_of s 
 
 -- The entries of a stop come from a run.
 abbrev pub StopsAnywhere : Topology → List WorldEvent → Type 0
-StopsAnywhere t events = (stop : ℕ → ℕ) → IsConsistent stop events → (cut : List WorldEvent) × IsRun t cut × ComesFrom (stopped stop events) cut
+StopsAnywhere t events = (stop : ℕ → ℕ) → IsConsistent stop events → ComeFromRun t (stopped stop events)
 
 -- Each cycle has a declared process on it.
 abbrev pub EachCycleDeclared : List WorldEvent → Type 0
@@ -100,3 +100,7 @@ LawfulStates t = (s : ℕ) (journal : List Entry) → IsLawful t s journal → J
 abbrev pub AsksAndReplies : List WorldEvent → Type 0
 AsksAndReplies events =
     (j k : ℕ) → count_of (λ (e : WorldEvent). asks_for j k e.entry.event) events ≡ count_of (λ (e : WorldEvent). grants k j e.entry.event) events + bit (wait_after false j k events)
+
+-- A site outside the topology does nothing: its only lawful journal is the empty one.
+abbrev pub StrangersSilent : Topology → Type 0
+StrangersSilent t = (s : ℕ) (journal : List Entry) → is_site t s ≡ false → IsLawful t s journal → journal ≡ []

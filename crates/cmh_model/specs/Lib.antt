@@ -9,4 +9,5 @@ pub mod Stops
 pub mod Laws
 pub mod Declarations
 pub mod LastAsker
+pub mod Settling
 pub mod Scripts

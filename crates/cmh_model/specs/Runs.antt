@@ -39,6 +39,10 @@ pub record IsRun (t : Topology) (events : List WorldEvent) : Type 0 where
 abbrev pub ComesFrom : (ℕ → List Entry) → List WorldEvent → Type 0
 ComesFrom journals events = (s : ℕ) → entries_of s events ≡ journals s
 
+-- The journals, given by site number and so one for each site, come from a run.
+abbrev pub ComeFromRun : Topology → (ℕ → List Entry) → Type 0
+ComeFromRun t journals = (events : List WorldEvent) × IsRun t events × ComesFrom journals events
+
 -- every frame that was sent has come
 abbrev pub IsDrained : List WorldEvent → Type 0
 IsDrained events = (a b : ℕ) → receipts a b events ≡ sendings a b events

@@ -25,13 +25,20 @@ two_sites edition = record { edition = edition; rows = (1, 1 ∷ []) ∷ (2, 2 �
 abbrev pub three_processes : Topology
 three_processes = record { edition = One; rows = (1, 1 ∷ []) ∷ (2, 2 ∷ 3 ∷ []) ∷ [] }
 
+-- one process at each of three sites
+abbrev pub three_sites : Topology
+three_sites = record { edition = One; rows = (1, 1 ∷ []) ∷ (2, 2 ∷ []) ∷ (3, 3 ∷ []) ∷ [] }
+
 -- a lone process
 abbrev pub lone_process : Topology
 lone_process = record { edition = One; rows = (1, 1 ∷ []) ∷ [] }
 
 -- the processes 1 and 3 at site 1, and process 2 at site 2
+abbrev pub beside_in : Edition → Topology
+beside_in edition = record { edition = edition; rows = (1, 1 ∷ 3 ∷ []) ∷ (2, 2 ∷ []) ∷ [] }
+
 abbrev pub two_beside_one : Topology
-two_beside_one = record { edition = One; rows = (1, 1 ∷ 3 ∷ []) ∷ (2, 2 ∷ []) ∷ [] }
+two_beside_one = beside_in One
 
 -- the processes 1 and 5 at site 1, and 11 and 12 at site 2
 abbrev pub two_beside_two : Topology
@@ -144,3 +151,26 @@ found_beside_it =
 -- One site: `ask 3 1 / ask 1 2 / ask 2 1`. 3 waits for a cycle and is on none.
 abbrev pub waits_for_a_cycle : List WorldEvent
 waits_for_a_cycle = at_site 1 (silent (Ask 3 (1 ∷ []))) ∷ at_site 1 (silent (Ask 1 (2 ∷ []))) ∷ at_site 1 (silent (Ask 2 (1 ∷ []))) ∷ []
+
+-- Two sites in edition 2: `ask 1 2 / ask 2 1`, and each frame in turn: both requests, both probes, and the probes that they send.
+abbrev pub probes_cross : List WorldEvent
+probes_cross =
+    at_site 1 (outcome (Ask 1 (2 ∷ [])) ((2, Request (1, 2)) ∷ (2, Probe (1, 1, 2)) ∷ []) None)
+    ∷ at_site 2 (outcome (Ask 2 (1 ∷ [])) ((1, Request (2, 1)) ∷ (1, Probe (2, 2, 1)) ∷ []) None)
+    ∷ at_site 2 (silent (Got 1 (Request (1, 2))))
+    ∷ at_site 1 (silent (Got 2 (Request (2, 1))))
+    ∷ at_site 2 (outcome (Got 1 (Probe (1, 1, 2))) ((1, Probe (1, 2, 1)) ∷ []) None)
+    ∷ at_site 1 (outcome (Got 2 (Probe (2, 2, 1))) ((2, Probe (2, 1, 2)) ∷ []) None)
+    ∷ at_site 1 (outcome (Got 2 (Probe (1, 2, 1))) [] (Some 1))
+    ∷ at_site 2 (outcome (Got 1 (Probe (2, 1, 2))) [] (Some 2)) ∷ []
+
+-- Two sites: `ask 1 2 / cut 1 2 / ask 2 1 / deliver 2 1`. The request of 1 never comes.
+abbrev pub lost_request : List WorldEvent
+lost_request =
+    at_site 1 (outcome (Ask 1 (2 ∷ [])) ((2, Request (1, 2)) ∷ []) None)
+    ∷ at_site 2 (outcome (Ask 2 (1 ∷ [])) ((1, Request (2, 1)) ∷ []) None)
+    ∷ at_site 1 (silent (Got 2 (Request (2, 1)))) ∷ []
+
+-- A wait that has ended over a link, and the same ask again.
+abbrev pub asked_again : List WorldEvent
+asked_again = asked_and_answered ++ at_site 1 (outcome (Ask 1 (2 ∷ [])) ((2, Request (1, 2)) ∷ []) None) ∷ []

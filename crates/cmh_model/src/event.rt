@@ -1,9 +1,10 @@
 //! What happens at a controller.
 
-ghost use Rattle.std.specs.Prelude.{◌≡◌, ◌↔◌, IsTrue};
+ghost use Rattle.std.specs.Prelude.{◌≡◌, ◌↔◌, IsTrue, IfOk};
 ghost use Rattle.cmh_model.specs.Rules.{IsAscending};
 
 use cmh_frames::{Frame, ProcId, SiteId};
+use std::alloc::{AllocError, Global};
 use std::marker::Model;
 
 /// The processes that an ask names, in the order in which it names them.
@@ -33,6 +34,13 @@ impl Targets {
     {
         &self.processes
     }
+
+    /// The same targets once more.
+    pub fn copy(&self, alloc: Global) -> Result<Targets, AllocError>
+        ensures { IfOk result (λ other. other ≡ self.now) }
+    {
+        Ok(Targets::new(self.processes.to_vec(alloc)?))
+    }
 }
 
 /// Whether each is less than the next, as the targets of an ask are.
@@ -53,4 +61,27 @@ pub enum Event {
     Start { of: ProcId },
     /// A frame came from another site.
     Got { from: SiteId, frame: Frame },
+}
+
+impl Event {
+    /// The same event once more.
+    pub fn copy(&self, alloc: Global) -> Result<Event, AllocError>
+        ensures { IfOk result (λ other. other ≡ self.now) }
+    {
+        match self {
+            Event::Ask { asker, targets } => Ok(Event::Ask {
+                asker: *asker,
+                targets: targets.copy(alloc)?,
+            }),
+            Event::Reply { holder, asker } => Ok(Event::Reply {
+                holder: *holder,
+                asker: *asker,
+            }),
+            Event::Start { of } => Ok(Event::Start { of: *of }),
+            Event::Got { from, frame } => Ok(Event::Got {
+                from: *from,
+                frame: *frame,
+            }),
+        }
+    }
 }

@@ -2,7 +2,7 @@
 //!
 //! A site with its processes is written `S: P Q`, and the lines of a script are parted by ` / `.
 
-ghost use Rattle.std.specs.Prelude.{◌≡◌, ◌==◌, if◌then◌else◌, true, false, List, [], ◌∷◌, ◌++◌, None, Some, map, take};
+ghost use Rattle.std.specs.Prelude.{◌≡◌, ◌==◌, if◌then◌else◌, true, false, List, [], ◌∷◌, ◌++◌, None, Some, map, take, drop};
 ghost use Rattle.cmh_frames.specs.declared.edition.Edition.TheVariants.{One, Two};
 ghost use Rattle.cmh_frames.specs.declared.frame.Frame.TheVariants.{Request, Reply as Reply_frame, Probe};
 ghost use Rattle.cmh_frames.specs.Topology.{home};
@@ -16,6 +16,7 @@ ghost use Rattle.cmh_model.specs.Runs.{IsRun, IsDrained, state_of, sendings, rec
 ghost use Rattle.cmh_model.specs.Waits.{IsCycle, OnCycle, DependsOn, IsDeclared, wait_after};
 ghost use Rattle.cmh_model.specs.LastAsker.{AskedLast};
 ghost use Rattle.cmh_model.specs.Stops.{IsConsistent};
+ghost use Rattle.cmh_model.specs.Settling.{GoesOn, IsSettled, most_deliveries};
 ghost use Rattle.cmh_model.specs.Scripts.{one_site, two_sites, three_processes, silent, between, state_with, wait_for_each_other, ask_and_reply, declared_at_ask, ask_each_other, probe_goes_round, granted_before_the_probe, marked_by_the_probe, overtaken, lone_process, two_beside_one, two_beside_two, six_processes, crowded_site, numbers_from, at_site, got_before_sent, asked_and_answered, found_beside_it, waits_for_a_cycle};
 
 /// `1: 1 2`, `ask 1 2 / ask 2 1 / start 1`: two processes of one site wait for each other, and the start declares 1.
@@ -180,4 +181,16 @@ pub fn waiting_for_a_cycle()
     ensures not_on_cycle { OnCycle waits_for_a_cycle 3 → ⊥ }
     ensures last { AskedLast waits_for_a_cycle (1 ∷ 2 ∷ 1 ∷ []) 2 }
     ensures not_last { AskedLast waits_for_a_cycle (1 ∷ 2 ∷ 1 ∷ []) 1 → ⊥ }
+{}
+
+/// `1: 1`, `2: 2`, `ask 1 2 / ask 2 1 / deliver 1 2 / deliver 2 1 / start 1`: one probe is under way, and two deliveries follow, of 65 at most. With two requests
+/// under way the bound is 66, and with one reply 129. An ask is no delivery, and while the probe is under way one can follow.
+pub fn deliveries_come_to_an_end()
+    ensures goes_on { GoesOn (two_sites One) (take 5 probe_goes_round) (drop 5 probe_goes_round) }
+    ensures most { most_deliveries (two_sites One) (take 5 probe_goes_round) ≡ 65 }
+    ensures most_with_requests { most_deliveries (two_sites One) (take 2 ask_each_other) ≡ 66 }
+    ensures most_with_a_reply { most_deliveries (two_sites One) (take 3 asked_and_answered) ≡ 129 }
+    ensures drained { IsDrained probe_goes_round }
+    ensures not_settled { IsSettled (two_sites One) (take 5 probe_goes_round) → ⊥ }
+    ensures no_delivery { GoesOn (two_sites One) [] (take 1 ask_each_other) → ⊥ }
 {}

@@ -5,6 +5,7 @@
 
 mod event;
 pub mod examples;
+pub mod instances;
 mod journal;
 
 pub use crate::event::{Event, Targets, is_ascending};

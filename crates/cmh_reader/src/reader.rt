@@ -54,8 +54,9 @@ impl FrameReader {
         }
     }
 
-    /// Takes the next piece of the stream, and gives the frames that are whole by it. Where there are none and the stream has a fault, it
-    /// gives that fault, as it does at each later call. After `Memory` the piece may be fed again.
+    /// Takes the next piece of the stream, and gives the frames that are whole by it. Where there are none and the
+    /// stream has a fault, it gives that fault, as it does at each later call. After `Memory` the piece may be fed
+    /// again.
     pub fn feed(&mut self, piece: &[u8]) -> Result<Vec<Frame>, ReadFault>
         // The frames are those of the stream so far past those of the stream before, however it was cut.
         ensures frames { IfOk result (λ given. Takes self.old self.new piece.now given.items) }
@@ -64,10 +65,12 @@ impl FrameReader {
         // A fault comes where no frame is new, and stays.
         ensures fault { IfErr result (λ fault. fault ≢ ReadFault.Memory → fault_of self.new.standing ≡ Some fault) }
         ensures no_frames { IfErr result (λ fault. fault ≢ ReadFault.Memory → Takes self.old self.new piece.now []) }
-        ensures stays { (fault : ReadFault) → fault_of self.old.standing ≡ Some fault → (result ≡ Err fault) × (self.new ≡ self.old) }
+        ensures stays { (fault : ReadFault) → fault_of self.old.standing ≡ Some fault
+            → (result ≡ Err fault) × (self.new ≡ self.old) }
 
         // Want of memory comes only where there are new frames, changes nothing, and leaves its mark.
-        ensures wanted { result ≡ Err ReadFault.Memory → (stream : List ℕ) (frames : List Frame) → StandsFor self.old stream frames
+        ensures wanted { result ≡ Err ReadFault.Memory → (stream : List ℕ) (frames : List Frame)
+            → StandsFor self.old stream frames
             → HasMore self.old.edition self.old.senders (stream ++ piece.now) frames }
         ensures memory { result ≡ Err ReadFault.Memory → self.new ≡ record self.old { starved = true } }
         ensures fed { result ≢ Err ReadFault.Memory → self.new.starved ≡ self.old.starved }
@@ -76,7 +79,8 @@ impl FrameReader {
         // What an expected site writes has no fault, and its frames come as they were sent.
         ensures link { (stream : List ℕ) (frames sent : List Frame) → StandsFor self.old stream frames
             → BeginsLink self.old.edition self.old.senders (stream ++ piece.now) sent
-            → MatchResult result (λ given. (later : List Frame) × (frames ++ given.items ++ later ≡ sent)) (λ fault. fault ≡ ReadFault.Memory) }
+            → MatchResult result (λ given. (later : List Frame) × (frames ++ given.items ++ later ≡ sent))
+            (λ fault. fault ≡ ReadFault.Memory) }
     {
         let progress = match &self.standing {
             Standing::NoHello => return Err(ReadFault::BadHello),
@@ -108,7 +112,7 @@ impl FrameReader {
         Ok(frames)
     }
 
-    /// The bytes past the last whole frame, or of a hello that isn't whole. None behind a fault.
+    /// The bytes past the last whole frame, or of a hello that isn't whole. Empty behind a fault.
     pub fn rest(&self) -> &[u8]
         ensures { result.now ≡ rest_of self.now.standing }
     {

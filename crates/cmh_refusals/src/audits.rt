@@ -1,13 +1,13 @@
 //! Journals are audited.
 
-use crate::carriers::Sheet;
 use crate::failure::{Failure, expect};
 use crate::making;
-use crate::worlds::{AUDITS, RUNS, STARTING, World};
+use crate::sheet::Sheet;
 use cmh_audit::{AuditMemory, Report, Verdict, audit, check_set};
 use cmh_frames::{Edition, Topology};
 use cmh_journal::Journal;
 use cmh_site::{Device, run_audit};
+use cmh_worlds::{AUDITS, RUNS, STARTING, World};
 use std::alloc::Global;
 
 /// `audit` answers the verdict or want of memory.
@@ -99,7 +99,7 @@ pub fn run_audits(alloc: Global) -> Result<(), Failure> {
 }
 
 fn run_audit_of(alloc: Global, world: &World) -> Result<(), Failure> {
-    let files = files_of(alloc, world)?;
+    let files = world.file_bytes(alloc)?;
     let (status, sheet) = write_audit(alloc, world, &files)?;
     if !sheet.is_out_of_memory(status) {
         return is_verdict(world, status, &sheet);
@@ -111,7 +111,7 @@ fn run_audit_of(alloc: Global, world: &World) -> Result<(), Failure> {
 
 /// The verdict on a world was written, and no fault.
 fn is_verdict(world: &World, status: u8, sheet: &Sheet) -> Result<(), Failure> {
-    expect(status == status_of(world), "another status")?;
+    expect(status == world.status(), "another status")?;
     expect(sheet.err.is_empty(), "a fault of faultless files")?;
     expect(sheet.out.as_slice() == world.lines.as_bytes(), world.name)
 }
@@ -127,22 +127,4 @@ fn write_audit(alloc: Global, world: &World, files: &[Vec<u8>]) -> Result<(u8, S
         &mut Device::new(&mut err),
     );
     Ok((status, Sheet { out, err }))
-}
-
-/// The status of an audit with no fault.
-pub fn status_of(world: &World) -> u8 {
-    if world.lines.starts_with("accepted") {
-        0
-    } else {
-        1
-    }
-}
-
-/// The journals' files.
-pub fn files_of(alloc: Global, world: &World) -> Result<Vec<Vec<u8>>, Failure> {
-    let mut files = Vec::with_capacity(alloc, world.files.len())?;
-    for file in world.files {
-        files.push(making::file_bytes(alloc, world.edition, file)?)?;
-    }
-    Ok(files)
 }

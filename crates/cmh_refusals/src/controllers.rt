@@ -2,10 +2,10 @@
 
 use crate::failure::{Failure, expect};
 use crate::making;
-use crate::worlds::{AUDITS, RUNS, STARTING, World};
 use cmh_controller::{Controller, Entry, Event, Outcome, Refusal, Replayed, Sendings, replay};
 use cmh_frames::{Frame, ProcId, Reply, Request, SiteId, Topology};
 use cmh_journal::Journal;
+use cmh_worlds::{AUDITS, RUNS, STARTING, World};
 use std::alloc::Global;
 
 /// `Controller::new` answers an empty controller or want of memory; of an unknown site `NotHere`, whatever memory does.
@@ -212,7 +212,7 @@ fn replay_world(alloc: Global, world: &World) -> Result<(), Failure> {
         replay_one(
             alloc,
             &topology,
-            &making::journal(alloc, world.edition, file)?,
+            &making::journal(alloc, file)?,
             file.lawful,
         )?;
     }

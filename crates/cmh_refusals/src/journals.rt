@@ -3,11 +3,11 @@
 ghost use Rattle.cmh_journal.specs.Entries.{IsWhole};
 
 use crate::failure::{Failure, expect};
-use crate::making::{file_bytes, journal};
-use crate::worlds::{AUDITS, File, RUNS, STARTING, World};
+use crate::making::journal;
 use cmh_controller::Entry;
 use cmh_frames::Edition;
 use cmh_journal::{Journal, JournalFault, Tail, encode_entry, read_journal};
+use cmh_worlds::{AUDITS, File, RUNS, STARTING, World};
 use std::alloc::{AllocError, Global};
 
 /// `encode_entry` answers the one spelling of an entry or want of memory.
@@ -23,7 +23,7 @@ pub fn encode(alloc: Global) -> Result<(), Failure> {
 
 fn encode_world(alloc: Global, world: &World) -> Result<(), Failure> {
     for file in world.files {
-        spells_again(alloc, &journal(alloc, world.edition, file)?, file)?;
+        spells_again(alloc, &journal(alloc, file)?, file)?;
     }
     Ok(())
 }
@@ -104,7 +104,7 @@ fn read_world(alloc: Global, world: &World) -> Result<(), Failure> {
 }
 
 fn read_file(alloc: Global, file: &File, behind: &Behind) -> Result<(), Failure> {
-    let mut bytes = file_bytes(alloc, Edition::One, file)?;
+    let mut bytes = file.bytes(alloc)?;
     let whole = bytes.len();
     bytes.extend_from_slice(behind.bytes)?;
     let read = match read_journal(alloc, &bytes) {

@@ -1,4 +1,4 @@
-//! Calls whose allocations, reads and writes are refused in turn from outside.
+//! Calls whose allocations are refused in turn from outside.
 //!
 //! Each scenario makes calls, of which one may be refused memory, and looks at their answers: each is the undisturbed
 //! one or names want of memory, nothing has changed by a refusal, and the same call then gives the undisturbed answer.
@@ -7,18 +7,17 @@
 #![tactic(auto)]
 
 mod audits;
-mod carriers;
 mod controllers;
 mod failure;
 mod journals;
 mod making;
 mod plays;
 mod scenario;
+mod sheet;
 mod still;
+mod still_journals;
 mod streams;
 mod topologies;
-mod troubles;
-mod worlds;
 
 use crate::failure::Failure;
 use crate::scenario::Scenario;

@@ -1,9 +1,9 @@
 //! What a scenario makes before the calls that it looks at.
 
 use crate::failure::{BadNumber, Failure};
-use crate::worlds::{File, World};
-use cmh_frames::{Edition, ProcId, SiteId, SiteRow, Topology};
-use cmh_journal::{Journal, encode_header, read_journal};
+use cmh_frames::{ProcId, SiteId, SiteRow, Topology};
+use cmh_journal::{Journal, read_journal};
+use cmh_worlds::{File, World};
 use std::alloc::Global;
 
 pub fn process(number: u16) -> Result<ProcId, BadNumber> {
@@ -30,25 +30,15 @@ pub fn topology(alloc: Global, world: &World) -> Result<Topology, Failure> {
     Ok(Topology::new(alloc, world.edition, &rows)?)
 }
 
-/// The bytes of a journal's file.
-pub fn file_bytes(alloc: Global, edition: Edition, file: &File) -> Result<Vec<u8>, Failure> {
-    let mut bytes = Vec::from_slice(alloc, &encode_header(edition, site(file.site)?))?;
-    for entry in file.entries {
-        bytes.extend_from_slice(*entry)?;
-    }
-    Ok(bytes)
-}
-
-pub fn journal(alloc: Global, edition: Edition, file: &File) -> Result<Journal, Failure> {
-    let bytes = file_bytes(alloc, edition, file)?;
-    let (journal, _) = read_journal(alloc, &bytes)?;
+pub fn journal(alloc: Global, file: &File) -> Result<Journal, Failure> {
+    let (journal, _) = read_journal(alloc, &file.bytes(alloc)?)?;
     Ok(journal)
 }
 
 pub fn journals(alloc: Global, world: &World) -> Result<Vec<Journal>, Failure> {
     let mut journals = Vec::with_capacity(alloc, world.files.len())?;
     for file in world.files {
-        journals.push(journal(alloc, world.edition, file)?)?;
+        journals.push(journal(alloc, file)?)?;
     }
     Ok(journals)
 }

@@ -1,62 +1,46 @@
 //! Scripts are played.
 
-use crate::carriers::Sheet;
 use crate::failure::{Failure, expect};
+use crate::sheet::Sheet;
 use cmh_site::{Device, run_play};
+use cmh_worlds::{SEVERAL_SITES, Script};
 use std::alloc::Global;
-
-/// A script and its answers.
-pub struct Row {
-    pub script: &'static str,
-    pub answers: &'static str,
-}
-
-pub const ROWS: [Row; 2] = [
-    Row {
-        script: "site 1 1\nsite 2 2\nask 1 2\nask 2 1\ndeliver 1 2\ndeliver 2 1\nstart 1\ndeliver 1 2\ndeliver 2 1\nreport\n",
-        answers: "ok\nok\nok sent 1\nok sent 1\ngot request 1 2 sent 0\ngot request 2 1 sent 0\nok sent 1\ngot probe 1 1 2 sent 1\ngot probe 1 2 1 sent 0 declared 1\naccepted\nevents 7\nwait 1 2\nwait 2 1\ndeclared 1 cycle 1 2 1\n",
-    },
-    Row {
-        script: "site 1 1\nsite 2 2 3\nask 1 2\nask 2 3\ndeliver 1 2\nstart 1\ndeliver 1 2\nreply 3 2\nask 2 1\ndeliver 2 1\nstart 1\ndeliver 1 2\ndeliver 2 1\nreport\n",
-        answers: "ok\nok\nok sent 1\nok sent 0\ngot request 1 2 sent 0\nok sent 1\ngot probe 1 1 2 sent 0\nok sent 0\nok sent 1\ngot request 2 1 sent 0\nok sent 1\ngot probe 1 1 2 sent 1\ngot probe 1 2 1 sent 0 declared 1\naccepted\nevents 11\nwait 1 2\nwait 2 1\ndeclared 1 cycle 1 2 1\n",
-    },
-];
 
 /// `run_play` answers all lines; or the first that differs names want of memory; or all ends there with the fault.
 pub fn play(alloc: Global) -> Result<(), Failure> {
-    for row in &ROWS {
-        play_again(alloc, row)?;
+    for script in [&SEVERAL_SITES[0], &SEVERAL_SITES[3]] {
+        play_again(alloc, script)?;
     }
     Ok(())
 }
 
-fn play_again(alloc: Global, row: &Row) -> Result<(), Failure> {
-    let (status, sheet) = play_row(alloc, row)?;
-    if is_undisturbed(status, &sheet, row) {
+fn play_again(alloc: Global, script: &Script) -> Result<(), Failure> {
+    let (status, sheet) = play_one(alloc, script)?;
+    if is_undisturbed(status, &sheet, script) {
         return Ok(());
     }
     expect(
-        is_want_of_memory(&sheet, status, row.answers),
+        is_want_of_memory(&sheet, status, script.answers),
         "an answer changed, and does not say that memory was refused",
     )?;
-    let (status, sheet) = play_row(alloc, row)?;
-    expect(is_undisturbed(status, &sheet, row), "other answers")
+    let (status, sheet) = play_one(alloc, script)?;
+    expect(is_undisturbed(status, &sheet, script), "other answers")
 }
 
 /// Plays a script on a sheet of its own.
-fn play_row(alloc: Global, row: &Row) -> Result<(u8, Sheet), Failure> {
+fn play_one(alloc: Global, script: &Script) -> Result<(u8, Sheet), Failure> {
     let Sheet { mut out, mut err } = Sheet::new(alloc)?;
     let status = run_play(
         alloc,
-        &mut Device::new(row.script.as_bytes()),
+        &mut Device::new(script.lines.as_bytes()),
         &mut Device::new(&mut out),
         &mut Device::new(&mut err),
     );
     Ok((status, Sheet { out, err }))
 }
 
-fn is_undisturbed(status: u8, sheet: &Sheet, row: &Row) -> bool {
-    status == 0 && sheet.err.is_empty() && sheet.out.as_slice() == row.answers.as_bytes()
+fn is_undisturbed(status: u8, sheet: &Sheet, script: &Script) -> bool {
+    status == 0 && sheet.err.is_empty() && sheet.out.as_slice() == script.answers.as_bytes()
 }
 
 /// Whether the first line that differs says that memory was refused, or the answers end early and the fault says so.

@@ -1,18 +1,15 @@
-//! Calls that take no memory, each made so many rounds. Whatever the rounds, a scenario takes as much memory.
+//! Calls of a site that take no memory, each made so many rounds. Whatever the rounds, a scenario takes as much memory.
 
 use crate::failure::{Failure, expect};
 use crate::making;
-use crate::worlds::{RUNS, STARTING, World};
-use cmh_audit::{Report, Verdict, audit, check_set};
-use cmh_controller::{Controller, Event};
 use cmh_dependents::DependentSets;
 use cmh_frames::{
     Edition, Frame, Front, ProcId, Reply, SiteId, Topology, decode_front, decode_hello, encode,
     encode_hello,
 };
-use cmh_journal::{Journal, MemSink, Sink, append, encode_header};
 use cmh_reader::FrameReader;
 use cmh_waits::LocalWaits;
+use cmh_worlds::{RUNS, STARTING};
 use std::alloc::Global;
 
 /// A topology is asked.
@@ -112,114 +109,20 @@ fn all_end(waits: &mut LocalWaits, one: ProcId, two: ProcId, three: ProcId) -> b
     waits.waits(one, three) && waits.got_reply(one, three) && !waits.is_blocked(one)
 }
 
-/// Dependents are asked and forgotten.
+/// Dependents are asked, taken back and forgotten.
 pub fn dependents(alloc: Global, rounds: u32) -> Result<(), Failure> {
     let (one, two) = (making::process(1)?, making::process(2)?);
     for round in 0..MADE {
         let mut dependents = DependentSets::new(alloc);
         dependents.add(one, two)?;
+        dependents.add(one, one)?;
         if round < rounds {
-            let had = dependents.has(one, two);
+            let had = dependents.has(one, two) && dependents.has(one, one);
+            dependents.take_back(one, one);
+            let kept = dependents.has(one, two) && !dependents.has(one, one);
             dependents.clear(one);
-            expect(had && !dependents.has(one, two), "other dependents")?;
+            expect(had && kept && !dependents.has(one, two), "other dependents")?;
         }
     }
     Ok(())
-}
-
-/// Each event of the worked worlds is checked where its step is taken.
-pub fn checks(alloc: Global, rounds: u32) -> Result<(), Failure> {
-    for world in &RUNS {
-        let topology = making::topology(alloc, world)?;
-        for journal in &making::journals(alloc, world)? {
-            check_each(alloc, &topology, journal, rounds)?;
-        }
-    }
-    Ok(())
-}
-
-fn check_each(
-    alloc: Global,
-    topology: &Topology,
-    journal: &Journal,
-    rounds: u32,
-) -> Result<(), Failure> {
-    let mut controller = Controller::new(alloc, topology, journal.site())?;
-    for entry in journal.entries() {
-        expect(
-            is_lawful(&controller, &entry.event, rounds),
-            "a lawful event is refused",
-        )?;
-        controller.step(&entry.event)?;
-    }
-    Ok(())
-}
-
-fn is_lawful(controller: &Controller, event: &Event, rounds: u32) -> bool {
-    let mut lawful = true;
-    for _ in 0..rounds {
-        lawful = lawful && controller.check(event).is_ok();
-    }
-    lawful
-}
-
-/// A journal begins, and bytes are appended to a sink that has room for them.
-pub fn journal(alloc: Global, rounds: u32) -> Result<(), Failure> {
-    let site = making::site(1)?;
-    let mut sink = MemSink::new(alloc, None);
-    sink.reserve(7 * 1024)?;
-    let mut holds = true;
-    for _ in 0..rounds.min(1024) {
-        holds = holds && begins(alloc, &mut sink, site);
-    }
-    expect(holds, "a journal does not begin")
-}
-
-fn begins(alloc: Global, sink: &mut MemSink, site: SiteId) -> bool {
-    let journal = Journal::new(alloc, Edition::One, site);
-    journal.entries().is_empty()
-        && sink.faults() < u64::MAX
-        && append(sink, &encode_header(Edition::One, site)).is_ok()
-}
-
-/// Sets of journals are checked, and reports are asked.
-pub fn audits(alloc: Global, rounds: u32) -> Result<(), Failure> {
-    for world in &RUNS {
-        audit_one(alloc, world, rounds)?;
-    }
-    Ok(())
-}
-
-fn audit_one(alloc: Global, world: &World, rounds: u32) -> Result<(), Failure> {
-    let topology = making::topology(alloc, world)?;
-    let journals = making::journals(alloc, world)?;
-    expect(is_set(&topology, &journals, rounds), "journals are missing")?;
-    if check_set(&topology, &journals).is_err() {
-        return Err(Failure::Wrong("journals are missing"));
-    }
-    match audit(alloc, &topology, &journals)? {
-        Verdict::Accepted(report) => expect(reports(&report, rounds), "another report"),
-        Verdict::Refused(_) => Err(Failure::Wrong("journals of a run are refused")),
-    }
-}
-
-fn is_set(topology: &Topology, journals: &[Journal], rounds: u32) -> bool {
-    let mut holds = true;
-    for _ in 0..rounds {
-        holds = holds && check_set(topology, journals).is_ok();
-    }
-    holds
-}
-
-/// Whether there is a cycle for the declared process.
-fn reports(report: &Report, rounds: u32) -> bool {
-    let mut holds = true;
-    for _ in 0..rounds {
-        let cycle = match report.declared().first() {
-            Some(process) => report.cycle(*process),
-            None => None,
-        };
-        holds = holds && cycle.is_some() && report.waits().len() > 1 && report.in_transit() == 0;
-    }
-    holds
 }

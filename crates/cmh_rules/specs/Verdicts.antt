@@ -25,19 +25,22 @@ DependsOnItself v p = DependsOnItselfAmong (λ r. IsMember v r) v.waits p
 abbrev pub LeavesFrom : Held → ℕ → ℕ × ℕ → Type 0
 LeavesFrom v from edge = Reaches v from edge.0 × (has v.waits edge.0 edge.1 ≡ true) × (is_member v edge.1 ≡ false)
 
--- the probes of `origin` along each wait that leaves the site from some of its members
-pub record AreProbesOf (v : Held) (origin : ℕ) (processes : List ℕ) (frames : List Frame) : Type 0 where
+-- the probes of `origin` along each of some waits
+pub record AreProbesAlong (IsEdge : ℕ × ℕ → Type 0) (origin : ℕ) (frames : List Frame) : Type 0 where
   pub edges : List (ℕ × ℕ)
   pub ascending : IsStrictlySortedBy pair_cmp edges
-  pub all : (edge : ℕ × ℕ) → Contains edges edge ↔ (Contains processes edge.0 × (has v.waits edge.0 edge.1 ≡ true) × (is_member v edge.1 ≡ false))
+  pub all : (edge : ℕ × ℕ) → Contains edges edge ↔ IsEdge edge
   pub are : frames ≡ map (λ (edge : ℕ × ℕ). Probe (origin, edge.0, edge.1)) edges
 
--- the probes of `origin` along each wait that leaves the site from what `from` reaches
-pub record AreProbesFrom (v : Held) (origin from : ℕ) (frames : List Frame) : Type 0 where
-  pub edges : List (ℕ × ℕ)
-  pub ascending : IsStrictlySortedBy pair_cmp edges
-  pub all : (edge : ℕ × ℕ) → Contains edges edge ↔ LeavesFrom v from edge
-  pub are : frames ≡ map (λ (edge : ℕ × ℕ). Probe (origin, edge.0, edge.1)) edges
+-- those along each wait that leaves the site from some of its members
+abbrev pub AreProbesOf : Held → ℕ → List ℕ → List Frame → Type 0
+AreProbesOf v origin processes frames =
+    AreProbesAlong (λ edge.
+    Contains processes edge.0 × (has v.waits edge.0 edge.1 ≡ true) × (is_member v edge.1 ≡ false)) origin frames
+
+-- those along each wait that leaves the site from what `from` reaches
+abbrev pub AreProbesFrom : Held → ℕ → ℕ → List Frame → Type 0
+AreProbesFrom v origin from frames = AreProbesAlong (LeavesFrom v from) origin frames
 
 -- ---- the verdicts
 
@@ -54,6 +57,7 @@ acts v dependents origin from to =
 -- what the receipt of a probe of `origin`, sent by `from` to `to`, comes to
 abbrev pub IsReceipt : Held → Relation → ℕ → ℕ → ℕ → ProbeVerdict → Type 0
 IsReceipt v dependents origin from to Ignored = acts v dependents origin from to ≡ false
-IsReceipt v dependents origin from to (Declared i) = (acts v dependents origin from to ≡ true) × (i ≡ origin) × Reaches v to origin
+IsReceipt v dependents origin from to (Declared i) =
+    (acts v dependents origin from to ≡ true) × (i ≡ origin) × Reaches v to origin
 IsReceipt v dependents origin from to (Forward frames) =
     (acts v dependents origin from to ≡ true) × (¬ Reaches v to origin) × AreProbesFrom v origin to frames.items

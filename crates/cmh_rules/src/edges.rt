@@ -36,7 +36,8 @@ fn push_probes(
     targets: &[ProcId],
 ) -> Result<(), AllocError>
     requires { (to : ℕ) → Contains targets.now to → from ≢ to }
-    ensures { OnOk result (frames.new.items ≡ frames.old.items ++ map (λ to. Frame.Probe (origin, from, to)) targets.now) }
+    ensures { OnOk result (frames.new.items
+        ≡ frames.old.items ++ map (λ to. Frame.Probe (origin, from, to)) targets.now) }
 {
     frames.reserve(targets.len())?;
     for to in targets {

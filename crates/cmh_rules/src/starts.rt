@@ -19,7 +19,8 @@ pub enum StartVerdict {
     Send(Vec<Frame>),
 }
 
-/// Starts a probe computation for a process of the site (Chandy, Misra and Haas 1983). The only error is want of memory.
+/// Starts a probe computation for a process of the site (Chandy, Misra and Haas 1983). The only error is want of
+/// memory.
 pub fn start(alloc: Global, waits: &LocalWaits, process: ProcId) -> Result<StartVerdict, AllocError>
     requires { IsMember waits.now process }
     ensures { IfOk result (IsStart waits.now process) }

@@ -1,18 +1,5 @@
-pub mod LinesSeen
-pub mod Deliveries
-pub mod FileLemmas
-pub mod Forms
-pub mod Fresh
-pub mod Homes
-pub mod JournalLists
-pub mod JsonLemmas
-pub mod LinkSteps
-pub mod Numerals
-pub mod Sendings
-pub mod TextLemmas
-pub mod WordSplits
+pub mod PlayedLines
+pub mod Dialogues
+mod Named
 pub mod Plays
-pub mod Seats
-pub mod Spellings
-pub mod Takings
-pub mod Worlds
+pub mod SiteTurns

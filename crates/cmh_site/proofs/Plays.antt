@@ -6,25 +6,28 @@ use Rattle.std.specs.Io.KnownBytes.{Appends, Keeps}
 use Rattle.std.proofs.lemmas.Bool.{lt-ltb, le-ltb}
 use Rattle.std.proofs.lemmas.List.{append-nil, append_assoc}
 use Rattle.std.specs.Global.{Global}
-use Rattle.cmh_site.proofs.TextLemmas.{appends-kept}
-use Rattle.cmh_site.proofs.LinesSeen.{if_some}
+use Rattle.cmh_files.proofs.TextLemmas.{appends-kept}
+use Rattle.cmh_script.proofs.LinesSeen.{if_some}
 use Rattle.cmh_frames.specs.declared.edition.Edition.TheVariants.{One}
-use Rattle.cmh_site.specs.Device.{Tells}
-use Rattle.cmh_site.specs.Faults.{status_of, of_line}
-use Rattle.cmh_site.specs.Lines.{IsNextLine, IsEndless, IsLineFault}
-use Rattle.cmh_site.specs.Play.{Plays, begin, answer, IsNewGame, FirstSays, IsSaidBy, Replies, Answered, IsAnswerFault, IsPlayFault, reply_text, status_after}
-use Rattle.cmh_site.specs.Script.{Says}
-use Rattle.cmh_site.specs.declared.device.WriteFault.{WriteFault}
-use Rattle.cmh_site.specs.declared.faults.Fault.{Fault}
-use Rattle.cmh_site.specs.declared.faults.Fault.TheVariants.{TopologyFile, JournalFile, Json, Topology, Journal, Set, Input, Output, Memory}
-use Rattle.cmh_site.specs.declared.lines.LineFault.{LineFault}
-use Rattle.cmh_site.specs.declared.lines.LineFault.TheVariants.{Input as NoInput, Memory as NoSpace}
-use Rattle.cmh_site.specs.declared.lines.NextLine.{NextLine}
-use Rattle.cmh_site.specs.declared.lines.NextLine.TheVariants.{Line as NextLine_line, TooLong, End}
+use Rattle.cmh_script.specs.Device.{Tells}
+use Rattle.cmh_files.specs.Faults.{status_of, of_line}
+use Rattle.cmh_script.specs.Lines.{IsNextLine, IsEndless, IsLineFault}
+use Rattle.cmh_site.proofs.PlayedLines.{replied, of_run}
+use Rattle.cmh_site.specs.Play.{Plays, begin, answer, IsNewGame, FirstSays, IsSaidBy, Replies, Answered, IsAnswerFault, IsPlayFault, status_after}
+use Rattle.cmh_site.specs.Replies.{reply_text}
+use Rattle.cmh_script.specs.Script.{Says}
+use Rattle.cmh_script.specs.declared.device.WriteFault.{WriteFault}
+use Rattle.cmh_files.specs.declared.faults.Fault.{Fault}
+use Rattle.cmh_files.specs.declared.faults.Fault.TheVariants.{TopologyFile, ScriptFile, OutFile, JournalFile, Json, Topology, Journal, Set, Site, JournalDisk, Listen, Input, Output, Memory}
+use Rattle.cmh_script.specs.declared.lines.LineFault.{LineFault}
+use Rattle.cmh_script.specs.declared.lines.LineFault.TheVariants.{Input as NoInput, Memory as NoSpace}
+use Rattle.cmh_script.specs.declared.lines.NextLine.{NextLine}
+use Rattle.cmh_script.specs.declared.lines.NextLine.TheVariants.{Line as NextLine_line, TooLong, End}
 use Rattle.cmh_site.specs.declared.play.Game.{Game}
-use Rattle.cmh_site.specs.declared.play.Reply.{Reply}
-use Rattle.cmh_site.specs.declared.script.Line.{Line}
-use Rattle.cmh_site.specs.declared.script.Line.TheVariants.{Bad}
+use Rattle.cmh_site.specs.declared.play.Game.TheVariants.{Named}
+use Rattle.cmh_site.specs.declared.reply.Reply.{Reply}
+use Rattle.cmh_script.specs.declared.script.Line.{Line}
+use Rattle.cmh_script.specs.declared.script.Line.TheVariants.{Bad}
 
 -- ---- the first line of what is left
 
@@ -36,7 +39,7 @@ shrinks b (x ∷ xs) = go (x == b) (shrinks b xs)
     go true h = omega arith
     go false h = omega (arith, h)
 
-length-drop_through : (b : ℕ) (xs : List ℕ) → 0 < length xs → length (drop_through b xs) + 1 ≤ length xs
+pub length-drop_through : (b : ℕ) (xs : List ℕ) → 0 < length xs → length (drop_through b xs) + 1 ≤ length xs
 length-drop_through b [] some = absurd (omega arith)
 length-drop_through b (x ∷ xs) some = go (x == b) (shrinks b xs)
   where
@@ -44,7 +47,7 @@ length-drop_through b (x ∷ xs) some = go (x == b) (shrinks b xs)
     go true h = omega arith
     go false h = omega (arith, h)
 
-long_some : (bytes : List ℕ) → 1024 < length (first_line bytes) → 0 < length bytes
+pub long_some : (bytes : List ℕ) → 1024 < length (first_line bytes) → 0 < length bytes
 long_some [] long = absurd (omega (arith, long))
 long_some (b ∷ bs) long = omega arith
 
@@ -58,11 +61,11 @@ first_says bytes line End said is says more = absurd (more refl)
 
 -- ---- what is written
 
-appends-none : (out : Option (List ℕ)) → Appends out out []
+pub appends-none : (out : Option (List ℕ)) → Appends out out []
 appends-none None = tt
 appends-none (Some bytes) = sym (append-nil bytes)
 
-appends-more : (old out new : Option (List ℕ)) (text more : List ℕ) → Appends old out text → Appends out new more → Appends old new (text ++ more)
+pub appends-more : (old out new : Option (List ℕ)) (text more : List ℕ) → Appends old out text → Appends out new more → Appends old new (text ++ more)
 appends-more None out new text more first next = tt
 appends-more (Some old) None new text more first next = absurd first
 appends-more (Some old) (Some out) None text more first next = absurd next
@@ -70,6 +73,11 @@ appends-more (Some old) (Some out) (Some new) text more first next = next ∙ ap
 
 pub fault_not_0 : (fault : Fault) → status_of fault ≢ 0
 fault_not_0 TopologyFile e = absurd (omega (arith, e))
+fault_not_0 ScriptFile e = absurd (omega (arith, e))
+fault_not_0 OutFile e = absurd (omega (arith, e))
+fault_not_0 Site e = absurd (omega (arith, e))
+fault_not_0 JournalDisk e = absurd (omega (arith, e))
+fault_not_0 Listen e = absurd (omega (arith, e))
 fault_not_0 (JournalFile place) e = absurd (omega (arith, e))
 fault_not_0 Json e = absurd (omega (arith, e))
 fault_not_0 (Topology fault) e = absurd (omega (arith, e))
@@ -85,8 +93,8 @@ answered_none None out alloc has_failed fault = tt
 answered_none (Some bytes) out alloc has_failed fault = record {
   rest = bytes;
   text = [];
-  game = record { alloc = alloc; draft = record { edition = One; rows = [] }; world = None };
-  plays = begin (record { alloc = alloc; draft = record { edition = One; rows = [] }; world = None }) (refl, refl);
+  game = Named (record { edition = One; rows = [] });
+  plays = begin (Named (record { edition = One; rows = [] })) refl;
   wrote = inr (appends-none out);
   all = λ zero. absurd (fault_not_0 fault zero);
 }
@@ -121,7 +129,7 @@ begun start out game new = λ bytes e. record {
   counted = omega arith;
 }
 
-at_some : (o : Option (List ℕ)) (P : List ℕ → Type 0) (bytes : List ℕ) → o ≡ Some bytes → IfSome o P → P bytes
+pub at_some : (o : Option (List ℕ)) (P : List ℕ → Type 0) (bytes : List ℕ) → o ≡ Some bytes → IfSome o P → P bytes
 at_some o P bytes e h = subst (λ (x : Option (List ℕ)). IfSome x P) e h
 
 module _ (start now old out : Option (List ℕ)) (game : Game) (n : ℕ) (so_far : HasPlayed start now old out game n) where
@@ -133,12 +141,13 @@ module _ (start now old out : Option (List ℕ)) (game : Game) (n : ℕ) (so_far
       let s = so_far bytes e in
       let first = first_says s.rest line next said (at_some now (λ bytes. IsNextLine bytes line next) s.rest s.now_is is) says more in
       let shorter = length-drop_through 10 s.rest first.0 in
+      let follows = replied s.rest game later said reply first.1 replies (of_run bytes s.rest s.text game s.plays) in
       let counted = s.counted in
       record {
         rest = drop_through 10 s.rest;
         text = s.text ++ reply_text reply;
         now_is = at_some now (λ bytes. after ≡ Some (drop_through 10 bytes)) s.rest s.now_is left;
-        plays = answer s.rest s.text game later said reply s.plays first.0 first.1 replies;
+        plays = answer s.rest s.text game later said reply s.plays first.0 first.1 replies follows.0 follows.1;
         wrote = appends-more old out wrote s.text (reply_text reply) s.wrote tells;
         counted = omega (arith, shorter, counted);
       }
@@ -195,6 +204,11 @@ module _ (start now old out : Option (List ℕ)) (game : Game) (n : ℕ) (so_far
   answered_fault after has_failed Memory same =
       subst (λ (o : Option (List ℕ)). IfSome start (λ bytes. Answered bytes old o has_failed (status_of Memory))) (sym same) (answered_some has_failed Memory)
   answered_fault after has_failed TopologyFile none = absurd none
+  answered_fault after has_failed ScriptFile none = absurd none
+  answered_fault after has_failed OutFile none = absurd none
+  answered_fault after has_failed Site none = absurd none
+  answered_fault after has_failed JournalDisk none = absurd none
+  answered_fault after has_failed Listen none = absurd none
   answered_fault after has_failed (JournalFile place) none = absurd none
   answered_fault after has_failed Json none = absurd none
   answered_fault after has_failed (Topology fault) none = absurd none
@@ -242,6 +256,11 @@ pub answer_fault : (start out after : Option (List ℕ)) (read_failed has_failed
 answer_fault start out after read_failed has_failed Output failed = failed
 answer_fault start out after read_failed has_failed Memory same = tt
 answer_fault start out after read_failed has_failed TopologyFile none = absurd none
+answer_fault start out after read_failed has_failed ScriptFile none = absurd none
+answer_fault start out after read_failed has_failed OutFile none = absurd none
+answer_fault start out after read_failed has_failed Site none = absurd none
+answer_fault start out after read_failed has_failed JournalDisk none = absurd none
+answer_fault start out after read_failed has_failed Listen none = absurd none
 answer_fault start out after read_failed has_failed (JournalFile place) none = absurd none
 answer_fault start out after read_failed has_failed Json none = absurd none
 answer_fault start out after read_failed has_failed (Topology fault) none = absurd none

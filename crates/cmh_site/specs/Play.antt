@@ -1,5 +1,5 @@
 -- A script that is played: what each line does to the game, and what is written for it.
-use Rattle.std.specs.Prelude.{◌≡◌, ℕ, ◌<◌, Bool, true, ◌||◌, not, ◌==◌, nat_lt, ◌⊎◌, List, [], ◌∷◌, ◌++◌, length, Option, None, Some, Result, Ok as Ok_result, Err, is_some, MatchOption, MatchBool, ⊤}
+use Rattle.std.specs.Prelude.{◌≡◌, ℕ, ◌<◌, Bool, true, ◌==◌, nat_lt, ◌⊎◌, List, [], ◌∷◌, ◌++◌, length, Option, None, Some, Result, Ok as Ok_result, Err, MatchBool, ⊤}
 use Rattle.std.specs.Io.BufRead.{first_line, drop_through}
 use Rattle.std.specs.Io.KnownBytes.{Appends}
 use Rattle.cmh_frames.specs.declared.edition.Edition.{Edition}
@@ -7,58 +7,29 @@ use Rattle.cmh_frames.specs.declared.edition.Edition.TheVariants.{One}
 use Rattle.cmh_frames.specs.declared.rows.TopologyFault.{TopologyFault}
 use Rattle.cmh_frames.specs.Rows.{Row, IsFaultOf, fault_of}
 use Rattle.cmh_frames.specs.Topology.{IsTopologyOf}
-use Rattle.cmh_site.specs.Answers.{answer_text}
-use Rattle.cmh_site.specs.Audits.{IsVerdictOn}
-use Rattle.cmh_site.specs.AuditTexts.{verdict_text}
-use Rattle.cmh_site.specs.Device.{Tells}
-use Rattle.cmh_site.specs.Draft.{Draft}
-use Rattle.cmh_site.specs.Lines.{IsEndless}
-use Rattle.cmh_site.specs.Playground.{entries_at, link_at, IsStepOf, IsDelivery, IsSeverance}
-use Rattle.cmh_site.specs.Script.{Says}
-use Rattle.cmh_site.specs.Faults.{status_of}
-use Rattle.cmh_site.specs.declared.faults.Fault.{Fault}
-use Rattle.cmh_site.specs.declared.faults.Fault.TheVariants.{Input, Output, Memory}
-use Rattle.cmh_site.specs.declared.lines.NextLine.{NextLine}
-use Rattle.cmh_site.specs.declared.lines.NextLine.TheVariants.{Line as NextLine_line, TooLong, End}
+use Rattle.cmh_site.specs.Replies.{reply_text}
+use Rattle.cmh_audit.specs.Verdicts.{IsAccepted, IsVerdictOn}
+use Rattle.cmh_script.specs.Device.{Tells}
+use Rattle.cmh_playground.specs.Draft.{Draft}
+use Rattle.cmh_script.specs.Lines.{IsEndless}
+use Rattle.cmh_playground.specs.Playground.{entries_at, link_at, IsStepOf, IsDelivery, IsSeverance}
+use Rattle.cmh_playground.specs.Runs.{IsPlayed, IsWantOfRoom}
+use Rattle.cmh_playground.specs.declared.playground.Delivery.TheVariants.{Refused as DeliveryRefused}
+use Rattle.cmh_script.specs.Script.{Says}
+use Rattle.cmh_files.specs.Faults.{status_of}
+use Rattle.cmh_files.specs.declared.faults.Fault.{Fault}
+use Rattle.cmh_files.specs.declared.faults.Fault.TheVariants.{Input, Output, Memory}
+use Rattle.cmh_script.specs.declared.lines.NextLine.{NextLine}
+use Rattle.cmh_script.specs.declared.lines.NextLine.TheVariants.{Line as NextLine_line, TooLong, End}
 use Rattle.cmh_site.specs.declared.play.Game.{Game}
-use Rattle.cmh_site.specs.declared.play.Reply.{Reply}
-use Rattle.cmh_site.specs.declared.play.Reply.TheVariants.{Silent as NoReply, Line as LineReply, Report as ReportReply}
-use Rattle.cmh_site.specs.declared.playground.Playground.{Playground}
-use Rattle.cmh_site.specs.declared.playground.Delivery.{Delivery}
-use Rattle.cmh_site.specs.declared.playground.Delivery.TheVariants.{BadLink as NoDelivery, Closed as ClosedDelivery, Empty as EmptyDelivery, Refused as RefusedDelivery, Got as GotDelivery}
-use Rattle.cmh_site.specs.declared.playground.Severance.{Severance}
-use Rattle.cmh_site.specs.declared.playground.Severance.TheVariants.{BadLink as NoCut, Closed as ClosedCut, Lost as LostCut}
-use Rattle.cmh_site.specs.declared.script.Command.{Command}
-use Rattle.cmh_site.specs.declared.script.Command.TheVariants.{Act, Deliver, Cut, Report}
-use Rattle.cmh_site.specs.declared.script.Line.{Line}
-use Rattle.cmh_site.specs.declared.script.Line.TheVariants.{Silent, Bad, Edition as Edition_line, Site, Command as Command_line}
-use Rattle.cmh_site.specs.declared.taking.Step.{Step}
-use Rattle.cmh_site.specs.declared.taking.Step.TheVariants.{Taken, Refused as StepRefused}
-use Rattle.cmh_site.specs.declared.texts.Answer.{Answer}
-use Rattle.cmh_site.specs.declared.texts.Answer.TheVariants.{Ok, BadLine, Late, Topology, Refused, Acted, Got, Lost, BadLink, Closed, Empty}
-
--- ---- what is answered
-
-abbrev pub step_answer : Step → Answer
-step_answer (Taken done) = Acted done
-step_answer (StepRefused refused) = Refused refused
-
-abbrev pub delivery_answer : Delivery → Answer
-delivery_answer NoDelivery = BadLink
-delivery_answer ClosedDelivery = Closed
-delivery_answer EmptyDelivery = Empty
-delivery_answer (RefusedDelivery refused) = Refused refused
-delivery_answer (GotDelivery frame done) = Got frame done
-
-abbrev pub severance_answer : Severance → Answer
-severance_answer NoCut = BadLink
-severance_answer ClosedCut = Closed
-severance_answer (LostCut frames) = Lost frames
-
-abbrev pub reply_text : Reply → List ℕ
-reply_text NoReply = []
-reply_text (LineReply answer) = answer_text answer ++ 10 ∷ []
-reply_text (ReportReply edition verdict) = verdict_text edition verdict
+use Rattle.cmh_site.specs.declared.play.Game.TheVariants.{Named, Played}
+use Rattle.cmh_site.specs.declared.reply.Reply.{Reply}
+use Rattle.cmh_site.specs.declared.reply.Reply.TheVariants.{Silent as NoReply, Ok, BadLine, Late, Topology, Step as StepReply, Delivery as DeliveryReply, Severance as SeveranceReply, Report as ReportReply}
+use Rattle.cmh_playground.specs.declared.playground.Playground.{Playground}
+use Rattle.cmh_script.specs.declared.script.Command.{Command}
+use Rattle.cmh_script.specs.declared.script.Command.TheVariants.{Act, Deliver, Cut, Report}
+use Rattle.cmh_script.specs.declared.script.Line.{Line}
+use Rattle.cmh_script.specs.declared.script.Line.TheVariants.{Silent, Bad, Edition as Edition_line, Site, Command as Command_line}
 
 -- ---- what a line does
 
@@ -68,46 +39,53 @@ pub record IsNewWorld (draft : Draft) (world : Playground) : Type 0 where
   pub journals : (s : ℕ) → entries_at world s ≡ []
   pub links : (a b : ℕ) → link_at world a b ≡ Some []
 
+-- the world of a game is this one; that of a draft is new
+abbrev pub IsWorldOf : Game → Playground → Type 0
+IsWorldOf (Named draft) world = IsNewWorld draft world
+IsWorldOf (Played played) world = played ≡ world
+
 -- a command, what it does to the world, and what is written for it
 abbrev pub CarriesOut : Playground → Playground → Command → Reply → Type 0
-CarriesOut old new (Act process event) reply = (step : Step) × IsStepOf old new process event step × (reply ≡ LineReply (step_answer step))
-CarriesOut old new (Deliver from to) reply = (delivery : Delivery) × IsDelivery old new from to delivery × (reply ≡ LineReply (delivery_answer delivery))
-CarriesOut old new (Cut from to) reply = (severance : Severance) × IsSeverance old new from to severance × (reply ≡ LineReply (severance_answer severance))
-CarriesOut old new Report (ReportReply edition verdict) = (new ≡ old) × (edition ≡ old.topology.edition) × IsVerdictOn old.topology old.journals.items verdict
-CarriesOut old new Report reply = ⊥
+CarriesOut old new (Act process event) (StepReply step) = IsStepOf old new process event step
+CarriesOut old new (Deliver from to) (DeliveryReply delivery) = IsDelivery old new from to delivery
+CarriesOut old new (Cut from to) (SeveranceReply severance) = IsSeverance old new from to severance
+CarriesOut old new Report (ReportReply edition verdict) =
+    (new ≡ old) × (edition ≡ old.topology.edition) × IsVerdictOn old.topology old.journals.items verdict
+CarriesOut old new command reply = ⊥
 
 -- the first command makes the world of the draft
 pub record Commands (old new : Game) (command : Command) (reply : Reply) : Type 0 where
   pub before : Playground
   pub after : Playground
-  pub stands : MatchOption old.world (IsNewWorld old.draft before) (λ world. world ≡ before)
+  pub stands : IsWorldOf old before
   pub done : CarriesOut before after command reply
-  pub kept : new.world ≡ Some after
-  pub draft : new.draft ≡ old.draft
+  pub kept : new ≡ Played after
 
 -- nothing has changed, and this is answered
-abbrev pub OnlyAnswers : Game → Game → Reply → Answer → Type 0
-OnlyAnswers old new reply answer = (new ≡ old) × (reply ≡ LineReply answer)
+abbrev pub OnlyAnswers : Game → Game → Reply → Reply → Type 0
+OnlyAnswers old new reply answer = (new ≡ old) × (reply ≡ answer)
 
--- a command or a site was named
-abbrev pub has_begun : Game → Bool
-has_begun game = is_some game.world || not (length game.draft.rows == 0)
-
+-- the edition is set while no site is named
 abbrev pub SetsEdition : Game → Game → Edition → Reply → Type 0
-SetsEdition old new edition reply = MatchBool (has_begun old) (OnlyAnswers old new reply Late)
-    ((reply ≡ LineReply Ok) × (new ≡ record old { draft = record { edition = edition; rows = [] } }))
+SetsEdition (Played world) new edition reply = OnlyAnswers (Played world) new reply Late
+SetsEdition (Named draft) new edition reply = MatchBool (length draft.rows == 0)
+    ((reply ≡ Ok) × (new ≡ Named (record { edition = edition; rows = [] })))
+    (OnlyAnswers (Named draft) new reply Late)
 
 -- a row with which the rows are no topology is left out
-abbrev pub AddsRow : Game → Game → Row → Reply → Type 0
-AddsRow old new row reply = let rows = old.draft.rows ++ row ∷ [] in
-    ((fault_of old.draft.edition rows ≡ None) × (reply ≡ LineReply Ok) × (new ≡ record old { draft = record { edition = old.draft.edition; rows = rows } }))
-    ⊎ ((fault : TopologyFault) × IsFaultOf old.draft.edition rows fault × OnlyAnswers old new reply (Topology fault))
+abbrev pub AddsRow : Draft → Game → Row → Reply → Type 0
+AddsRow draft new row reply = let rows = draft.rows ++ row ∷ [] in
+    ((fault_of draft.edition rows ≡ None) × (reply ≡ Ok)
+    × (new ≡ Named (record { edition = draft.edition; rows = rows })))
+    ⊎ ((fault : TopologyFault) × IsFaultOf draft.edition rows fault
+    × OnlyAnswers (Named draft) new reply (Topology fault))
 
 abbrev pub AddsSite : Game → Game → Row → Reply → Type 0
-AddsSite old new row reply = MatchBool (is_some old.world) (OnlyAnswers old new reply Late) (AddsRow old new row reply)
+AddsSite (Played world) new row reply = OnlyAnswers (Played world) new reply Late
+AddsSite (Named draft) new row reply = AddsRow draft new row reply
 
 abbrev pub Replies : Game → Game → Line → Reply → Type 0
-Replies old new Silent reply = (new ≡ old) × (reply ≡ NoReply)
+Replies old new Silent reply = OnlyAnswers old new reply NoReply
 Replies old new Bad reply = OnlyAnswers old new reply BadLine
 Replies old new (Edition_line edition) reply = SetsEdition old new edition reply
 Replies old new (Site row) reply = AddsSite old new row reply
@@ -117,7 +95,7 @@ Replies old new (Command_line command) reply = Commands old new command reply
 
 -- neither sites nor commands
 abbrev pub IsNewGame : Game → Type 0
-IsNewGame game = (game.draft ≡ record { edition = One; rows = [] }) × (game.world ≡ None)
+IsNewGame game = game ≡ Named (record { edition = One; rows = [] })
 
 -- what was read of a script says this; a line that is too long is a bad one
 abbrev pub IsSaidBy : NextLine → List ℕ → Line → Type 0
@@ -126,7 +104,8 @@ IsSaidBy TooLong bytes line = line ≡ Bad
 IsSaidBy End bytes line = line ≡ Bad
 
 -- what was read of a script did this to the game, and its reply was written
-pub record AnswersLine (old new : Game) (next : NextLine) (line : List ℕ) (out_old out_new : Option (List ℕ)) : Type 0 where
+pub record AnswersLine (old new : Game) (next : NextLine) (line : List ℕ)
+    (out_old out_new : Option (List ℕ)) : Type 0 where
   pub said : Line
   pub reply : Reply
   pub says : IsSaidBy next line said
@@ -143,11 +122,24 @@ IsAnswerFault old new has_failed fault = ⊥
 abbrev pub FirstSays : List ℕ → Line → Type 0
 FirstSays bytes line = MatchBool (nat_lt 1024 (length (first_line bytes))) (line ≡ Bad) (Says (first_line bytes) line)
 
--- of the bytes of a script the lines before the rest were answered by the text, and led to the game
+-- a game whose world, if it has one, is at the end of a run
+abbrev pub IsOfRun : Game → Type 0
+IsOfRun (Named draft) = ⊤
+IsOfRun (Played world) = IsPlayed world
+
+-- A frame is refused only for want of room, and a report is that of accepted journals.
+abbrev pub IsOfHonestSites : Reply → Type 0
+IsOfHonestSites (DeliveryReply (DeliveryRefused refused)) = IsWantOfRoom refused
+IsOfHonestSites (ReportReply edition verdict) = IsAccepted verdict
+IsOfHonestSites reply = ⊤
+
+-- Of the bytes of a script the lines before the rest were answered by the text, and led to the game. The world of each
+-- game is at the end of a run, so no frame is refused but for want of room, and each report is accepted.
 pub data Plays (bytes : List ℕ) : List ℕ → List ℕ → Game → Type 0 where
   begin : (game : Game) → IsNewGame game → Plays bytes bytes [] game
-  answer : (rest text : List ℕ) (old new : Game) (line : Line) (reply : Reply) → Plays bytes rest text old → 0 < length rest → FirstSays rest line → Replies old new line reply
-      → Plays bytes (drop_through 10 rest) (text ++ reply_text reply) new
+  answer : (rest text : List ℕ) (old new : Game) (line : Line) (reply : Reply) → Plays bytes rest text old
+      → 0 < length rest → FirstSays rest line → Replies old new line reply
+      → IsOfHonestSites reply → IsOfRun new → Plays bytes (drop_through 10 rest) (text ++ reply_text reply) new
 
 -- lines of a script were answered, where the reader tells its bytes: all of them at status 0
 pub record Answered (bytes : List ℕ) (old new : Option (List ℕ)) (has_failed : Bool) (status : ℕ) : Type 0 where

@@ -1,25 +1,23 @@
 //! The commands of the program `cmh`, over readers and writers.
 #![tactic(auto)]
 
-mod audit_texts;
-mod auditing;
-mod device;
-mod draft;
-mod faults;
-mod lines;
-mod links;
+mod cluster;
+mod dialogue;
+mod journal_file;
 mod play;
-mod playground;
-mod script;
-mod taking;
-mod texts;
-mod topology_file;
-mod words;
+mod ports;
+mod reply;
+mod settling;
+mod site;
+mod site_reply;
+mod site_script;
+mod starting;
 
-pub use crate::auditing::run_audit;
-pub use crate::device::Device;
-pub use crate::faults::Fault;
+pub use crate::cluster::run_cluster;
 pub use crate::play::run_play;
-pub use crate::topology_file::{
-    TopologyFile, TopologyFileFault, read_topology_file, read_topology_file_with_ports,
+pub use crate::site::run_site;
+pub use cmh_files::{
+    Fault, TopologyFile, TopologyFileFault, read_topology_file, read_topology_file_with_ports,
+    run_audit,
 };
+pub use cmh_script::Device;

@@ -1,28 +1,22 @@
 //! The command `play`: all sites of a world in memory, driven by a script.
 
 ghost use Rattle.std.specs.Prelude.{◌≡◌, ◌≢◌, ◌⊎◌, true, false, IfOk, IfErr, IfSome, OnOk, OnErr, Some};
-ghost use Rattle.cmh_site.specs.Faults.{NamesFault};
-ghost use Rattle.cmh_site.specs.Play.{AddsSite, Answered, AnswersLine, CarriesOut, Commands, IsAnswerFault, IsNewGame, IsPlayFault, IsSaidBy, Replies, SetsEdition, delivery_answer, reply_text, severance_answer, status_after, step_answer};
-ghost use Rattle.cmh_site.specs.Status.{IsStatus};
+ghost use Rattle.cmh_files.specs.Faults.{NamesFault};
+ghost use Rattle.cmh_site.specs.Play.{AddsSite, Answered, AnswersLine, CarriesOut, Commands, IsAnswerFault, IsNewGame, IsPlayFault, IsSaidBy, Replies, SetsEdition, status_after};
+ghost use Rattle.cmh_files.specs.Status.{IsStatus};
 
-use crate::audit_texts::VerdictText;
-use crate::device::Device;
-use crate::draft::Draft;
-use crate::faults::Fault;
-use crate::lines::{NextLine, read_line};
-use crate::playground::{Delivery, Playground, Severance};
-use crate::script::{Command, Line, parse};
-use crate::taking::Step;
-use crate::texts::Answer;
-use cmh_audit::Verdict;
+use crate::reply::Reply;
+use cmh_files::Fault;
 use cmh_frames::{Edition, SiteRow};
+use cmh_playground::{Draft, Playground};
+use cmh_script::{Command, Device, Line, NextLine, parse, read_line};
 use std::alloc::{AllocError, Global};
-use std::fmt;
 use std::io::{Read, Write};
 
 /// Plays a script, and answers the status of the program: 0 at the script's end, 1 where memory ran out, 3 where the
 /// script can't be read or the answers can't be written. A fault is named on `err`, and a write to it that fails is
-/// ignored. The lines before a fault are answered.
+/// ignored. Each answer is flushed before the next line is read. The lines before a fault are answered, of which the
+/// contract says no more than that nothing else is written.
 pub fn run_play<R: Read, W: Write, E: Write>(
     alloc: Global,
     input: &mut Device<R>,
@@ -32,13 +26,15 @@ pub fn run_play<R: Read, W: Write, E: Write>(
     ensures status { IsStatus result }
 
     // What is written answers the script line by line: all of it where the status is 0.
-    ensures answers { IfSome (R.remaining input.old.inner) (λ bytes. Answered bytes (W.contents out.old.inner) (W.contents out.new.inner) out.new.has_failed result) }
+    ensures answers { IfSome (R.remaining input.old.inner) (λ bytes. Answered bytes (W.contents out.old.inner)
+        (W.contents out.new.inner) out.new.has_failed result) }
     ensures silent { result ≡ 0 → err.new ≡ err.old }
 
     // What was written is flushed, also before a fault.
     ensures flushed { result ≡ 0 → out.new.is_flushed ≡ true }
     ensures left { out.new.has_failed ≡ false → (out.new.is_flushed ≡ true) ⊎ (out.new ≡ out.old) }
-    ensures fault { result ≢ 0 → NamesFault (IsPlayFault (R.remaining input.old.inner) input.new.has_failed out.new.has_failed) result (E.contents err.old.inner) (E.contents err.new.inner) err.new.has_failed }
+    ensures fault { result ≢ 0 → NamesFault (IsPlayFault (R.remaining input.old.inner) input.new.has_failed
+        out.new.has_failed) result (E.contents err.old.inner) (E.contents err.new.inner) err.new.has_failed }
 {
     match play(alloc, input, out) {
         Ok(()) => 0,
@@ -51,7 +47,8 @@ fn play<R: Read, W: Write>(
     input: &mut Device<R>,
     out: &mut Device<W>,
 ) -> Result<(), Fault>
-    ensures answers { IfSome (R.remaining input.old.inner) (λ bytes. Answered bytes (W.contents out.old.inner) (W.contents out.new.inner) out.new.has_failed (status_after result)) }
+    ensures answers { IfSome (R.remaining input.old.inner) (λ bytes. Answered bytes (W.contents out.old.inner)
+        (W.contents out.new.inner) out.new.has_failed (status_after result)) }
     ensures fault { IfErr result (IsPlayFault (R.remaining input.old.inner) input.new.has_failed out.new.has_failed) }
     ensures flushed { OnOk result (out.new.is_flushed ≡ true) }
     ensures left { out.new.has_failed ≡ false → (out.new.is_flushed ≡ true) ⊎ (out.new ≡ out.old) }
@@ -72,7 +69,8 @@ fn answer_all<R: Read, W: Write>(
     out: &mut Device<W>,
 ) -> Result<(), Fault>
     requires { IsNewGame game.old }
-    ensures answers { IfSome (R.remaining input.old.inner) (λ bytes. Answered bytes (W.contents out.old.inner) (W.contents out.new.inner) out.new.has_failed (status_after result)) }
+    ensures answers { IfSome (R.remaining input.old.inner) (λ bytes. Answered bytes (W.contents out.old.inner)
+        (W.contents out.new.inner) out.new.has_failed (status_after result)) }
     ensures fault { IfErr result (IsPlayFault (R.remaining input.old.inner) input.new.has_failed out.new.has_failed) }
 {
     let mut line = Vec::new(alloc);
@@ -81,7 +79,7 @@ fn answer_all<R: Read, W: Write>(
         if next.is_end() {
             return Ok(());
         }
-        game.answer_line(next, &line, out)?;
+        game.answer_line(alloc, next, &line, out)?;
     }
     Err(Fault::Input)
 }
@@ -96,115 +94,88 @@ fn said_by(alloc: Global, next: NextLine, line: &[u8]) -> Result<Line, AllocErro
     }
 }
 
-/// What is written for a line of a script.
-#[derive(Debug, Drop)]
-enum Reply {
-    Silent,
-    Line(Answer),
-    /// The lines of the verdict on a world of this edition.
-    Report(Edition, Verdict),
-}
-
-impl fmt::Display for Reply {
-    ghost output = { λ reply. Some (reply_text reply) };
-
-    fn fmt<W: fmt::Write>(&self, f: &mut fmt::Formatter<W>) -> fmt::Result {
-        match self {
-            Reply::Silent => Ok(()),
-            Reply::Line(answer) => write!(f, "{answer}\n"),
-            Reply::Report(edition, verdict) => {
-                let text = VerdictText {
-                    edition: *edition,
-                    verdict,
-                };
-                write!(f, "{text}")
-            }
-        }
-    }
-}
-
-/// A world that a script names and then plays.
+/// A world that a script names and then plays: the first command closes the draft.
 #[derive(Drop)]
-struct Game {
-    alloc: Global,
-    draft: Draft,
-    /// The world, from the first command on.
-    world: Option<Playground>,
+enum Game {
+    Named(Draft),
+    Played(Playground),
 }
 
 impl Game {
     fn new(alloc: Global) -> Result<Game, AllocError>
         ensures { IfOk result IsNewGame }
     {
-        Ok(Game {
-            alloc,
-            draft: Draft::new(alloc)?,
-            world: None,
-        })
+        Ok(Game::Named(Draft::new(alloc)?))
     }
 
     /// Answers what was read of a script.
     fn answer_line<W: Write>(
         &mut self,
+        alloc: Global,
         next: NextLine,
         line: &[u8],
         out: &mut Device<W>,
     ) -> Result<(), Fault>
-        ensures answers { OnOk result (AnswersLine self.old self.new next line.now (W.contents out.old.inner) (W.contents out.new.inner)) }
-        ensures fault { IfErr result (IsAnswerFault (W.contents out.old.inner) (W.contents out.new.inner) out.new.has_failed) }
+        ensures answers { OnOk result (AnswersLine self.old self.new next line.now
+            (W.contents out.old.inner) (W.contents out.new.inner)) }
+        ensures fault { IfErr result (IsAnswerFault (W.contents out.old.inner)
+            (W.contents out.new.inner) out.new.has_failed) }
     {
-        let said = said_by(self.alloc, next, line)?;
-        let reply = self.answer(said)?;
+        let said = said_by(alloc, next, line)?;
+        let reply = self.answer(alloc, said)?;
         out.write_text(&reply)?;
+        out.flush()?;
         Ok(())
     }
 
-    fn answer(&mut self, line: Line) -> Result<Reply, Fault>
+    fn answer(&mut self, alloc: Global, line: Line) -> Result<Reply, Fault>
         ensures replies { IfOk result (Replies self.old self.new line) }
         ensures fault { OnErr result (result ≡ Err Fault.Memory) }
     {
         match line {
             Line::Silent => Ok(Reply::Silent),
-            Line::Bad => Ok(Reply::Line(Answer::BadLine)),
-            Line::Edition(edition) => Ok(Reply::Line(self.set_edition(edition)?)),
-            Line::Site(row) => Ok(Reply::Line(self.add(row)?)),
-            Line::Command(command) => self.command(command),
+            Line::Bad => Ok(Reply::BadLine),
+            Line::Edition(edition) => Ok(self.set_edition(edition)?),
+            Line::Site(row) => Ok(self.add(row)?),
+            Line::Command(command) => self.command(alloc, command),
         }
     }
 
-    fn set_edition(&mut self, edition: Edition) -> Result<Answer, AllocError>
-        ensures { IfOk result (λ answer. SetsEdition self.old self.new edition (Reply.Line answer)) }
+    fn set_edition(&mut self, edition: Edition) -> Result<Reply, AllocError>
+        ensures { IfOk result (SetsEdition self.old self.new edition) }
     {
-        if self.world.is_some() || !self.draft.is_empty() {
-            return Ok(Answer::Late);
+        match self {
+            Game::Named(draft) if draft.is_empty() => {
+                draft.set_edition(edition)?;
+                Ok(Reply::Ok)
+            }
+            _ => Ok(Reply::Late),
         }
-        self.draft.set_edition(edition)?;
-        Ok(Answer::Ok)
     }
 
-    fn add(&mut self, row: SiteRow) -> Result<Answer, AllocError>
-        ensures { IfOk result (λ answer. AddsSite self.old self.new row (Reply.Line answer)) }
+    fn add(&mut self, row: SiteRow) -> Result<Reply, AllocError>
+        ensures { IfOk result (AddsSite self.old self.new row) }
     {
-        if self.world.is_some() {
-            return Ok(Answer::Late);
-        }
-        match self.draft.add(row)? {
-            None => Ok(Answer::Ok),
-            Some(fault) => Ok(Answer::Topology(fault)),
+        match self {
+            Game::Named(draft) => match draft.add(row)? {
+                None => Ok(Reply::Ok),
+                Some(fault) => Ok(Reply::Topology(fault)),
+            },
+            Game::Played(_) => Ok(Reply::Late),
         }
     }
 
     /// The first command closes the draft.
-    fn command(&mut self, command: Command) -> Result<Reply, Fault>
+    fn command(&mut self, alloc: Global, command: Command) -> Result<Reply, Fault>
         ensures done { IfOk result (Commands self.old self.new command) }
         ensures fault { OnErr result (result ≡ Err Fault.Memory) }
     {
-        match &mut self.world {
-            Some(world) => carry_out(self.alloc, world, command),
-            None => {
-                let mut world = Playground::new(self.alloc, self.draft.topology())?;
-                let reply = carry_out(self.alloc, &mut world, command)?;
-                self.world = Some(world);
+        match self {
+            Game::Played(world) => carry_out(alloc, world, command),
+            Game::Named(draft) => {
+                let mut world = Playground::new(alloc, draft.topology())?;
+                let reply = carry_out(alloc, &mut world, command)?;
+                *self = Game::Played(world);
                 Ok(reply)
             }
         }
@@ -216,52 +187,9 @@ fn carry_out(alloc: Global, world: &mut Playground, command: Command) -> Result<
     ensures fault { OnErr result (result ≡ Err Fault.Memory) }
 {
     match command {
-        Command::Act { process, event } => {
-            let step = world.act(process, event)?;
-            Ok(Reply::Line(acted(step)))
-        }
-        Command::Deliver { from, to } => {
-            let delivery = world.deliver(from, to)?;
-            Ok(Reply::Line(delivered(delivery)))
-        }
-        Command::Cut { from, to } => {
-            let severance = world.cut(from, to)?;
-            Ok(Reply::Line(severed(severance)))
-        }
-        Command::Report => {
-            let verdict = world.audit(alloc)?;
-            Ok(Reply::Report(world.edition(), verdict))
-        }
-    }
-}
-
-fn acted(step: Step) -> Answer
-    ensures { result ≡ step_answer step }
-{
-    match step {
-        Step::Taken(done) => Answer::Acted(done),
-        Step::Refused(refused) => Answer::Refused(refused),
-    }
-}
-
-fn delivered(delivery: Delivery) -> Answer
-    ensures { result ≡ delivery_answer delivery }
-{
-    match delivery {
-        Delivery::BadLink => Answer::BadLink,
-        Delivery::Closed => Answer::Closed,
-        Delivery::Empty => Answer::Empty,
-        Delivery::Refused(refused) => Answer::Refused(refused),
-        Delivery::Got(frame, done) => Answer::Got(frame, done),
-    }
-}
-
-fn severed(severance: Severance) -> Answer
-    ensures { result ≡ severance_answer severance }
-{
-    match severance {
-        Severance::BadLink => Answer::BadLink,
-        Severance::Closed => Answer::Closed,
-        Severance::Lost(frames) => Answer::Lost(frames),
+        Command::Act { process, event } => Ok(Reply::Step(world.act(process, event)?)),
+        Command::Deliver { from, to } => Ok(Reply::Delivery(world.deliver(from, to)?)),
+        Command::Cut { from, to } => Ok(Reply::Severance(world.cut(from, to)?)),
+        Command::Report => Ok(Reply::Report(world.edition(), world.audit(alloc)?)),
     }
 }

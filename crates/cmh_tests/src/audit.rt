@@ -1,8 +1,8 @@
 //! The command `audit`, from the bytes of its files to the bytes of its answer.
 
+use crate::carriers::{Trouble, Writer};
 use cmh_site::{Device, run_audit};
-use std::io;
-use std::io::{ErrorKind, Write};
+use cmh_worlds::{AUDITS, RUNS, STARTING, World};
 use std::process::Abort;
 use std::test::Fail;
 
@@ -25,19 +25,7 @@ struct Row {
     fault: &'static str,
 }
 
-const VERDICTS: [Row; 8] = [
-    Row {
-        shows: "a site may get a request before its own site asks anything",
-        topology: THREE_SITES,
-        files: &[
-            b"CMHJ\x01\x00\x01\x00\x08\x04\x00\x03\x01\x00\x03\x00\x01",
-            b"CMHJ\x01\x00\x02",
-            b"CMHJ\x01\x00\x03\x00\x0e\x01\x00\x03\x01\x00\x01\x05\x00\x01\x01\x00\x03\x00\x01",
-        ],
-        status: 0,
-        lines: "accepted\nevents 2\nwait 3 1\n",
-        fault: "",
-    },
+const VERDICTS: [Row; 5] = [
     Row {
         shows: "the order of the files does not matter",
         topology: THREE_SITES,
@@ -48,28 +36,6 @@ const VERDICTS: [Row; 8] = [
         ],
         status: 0,
         lines: "accepted\nevents 2\nwait 3 1\n",
-        fault: "",
-    },
-    Row {
-        shows: "frames of one link are got in the order of sending",
-        topology: TWO_SITES,
-        files: &[
-            b"CMHJ\x01\x00\x01\x00\x18\x01\x00\x01\x02\x00\x02\x00\x03\x05\x00\x02\x01\x00\x01\x00\x02\x05\x00\x02\x01\x00\x01\x00\x03",
-            b"CMHJ\x01\x00\x02\x00\x08\x04\x00\x01\x01\x00\x01\x00\x03\x00\x08\x04\x00\x01\x01\x00\x01\x00\x02",
-        ],
-        status: 1,
-        lines: "refused\nstop 2 at 1\n",
-        fault: "",
-    },
-    Row {
-        shows: "a probe that was not sent is missed",
-        topology: TWO_SITES,
-        files: &[
-            b"CMHJ\x01\x00\x01\x00\x18\x01\x00\x01\x02\x00\x02\x00\x03\x05\x00\x02\x01\x00\x01\x00\x02\x05\x00\x02\x01\x00\x01\x00\x03\x00\x0d\x03\x00\x01\x05\x00\x02\x03\x00\x01\x00\x01\x00\x02",
-            b"CMHJ\x01\x00\x02",
-        ],
-        status: 1,
-        lines: "refused\nstop 1 at 2\n",
         fault: "",
     },
     Row {
@@ -188,63 +154,43 @@ const FAULTS: [Row; 9] = [
     },
 ];
 
-/// Lines that are taken a byte at a time, until the writes fail.
-#[derive(Drop)]
-struct Taken {
-    bytes: Vec<u8>,
-    writes: u64,
-}
-
-impl Write for Taken {
-    fn write(&mut self, buf: &[u8]) -> io::Result<usize> {
-        if self.writes == 0 {
-            return Err(io::Error::from(ErrorKind::Other));
-        }
-        self.writes -= 1;
-        let len = buf.len().min(1);
-        self.bytes.extend_from_slice(&buf[..len])?;
-        Ok(len)
-    }
-
-    fn flush(&mut self) -> io::Result<()> {
-        Ok(())
-    }
-}
-
-/// The status, the lines and the fault line of an audit.
+/// The status, the lines and the fault line of an audit, and whether it met the trouble.
 #[derive(Drop)]
 struct Answer {
     status: u8,
     lines: Vec<u8>,
     fault: Vec<u8>,
+    met: bool,
 }
 
-fn audit<R: AllocGlobal>(rt: &R, row: &Row, writes: u64) -> Result<Answer, Fail> {
-    let mut files = Vec::new(rt.alloc());
-    for file in row.files {
-        files.push(Vec::from_slice(rt.alloc(), *file)?)?;
-    }
-    let bytes = Vec::new(rt.alloc());
-    let mut out = Taken { bytes, writes };
+/// Audits files; the writes take a byte at a time.
+fn audit<R: AllocGlobal>(rt: &R, topology: &str, files: &[Vec<u8>], writes: Trouble) -> Answer {
+    let mut lines = Vec::new(rt.alloc());
     let mut fault = Vec::new(rt.alloc());
-    let topology = row.topology.as_bytes();
+    let mut out = Writer::new(&mut lines, 1, writes);
     let status = run_audit(
         rt.alloc(),
-        topology,
-        &files,
+        topology.as_bytes(),
+        files,
         &mut Device::new(&mut out),
         &mut Device::new(&mut fault),
     );
-    Ok(Answer {
+    let met = out.met();
+    Answer {
         status,
-        lines: out.bytes,
+        lines,
         fault,
-    })
+        met,
+    }
 }
 
 fn check<R: Abort + AllocGlobal>(rt: &R, rows: &[Row]) -> Result<(), Fail> {
     for row in rows {
-        let answer = audit(rt, row, u64::MAX)?;
+        let mut files = Vec::new(rt.alloc());
+        for file in row.files {
+            files.push(Vec::from_slice(rt.alloc(), *file)?)?;
+        }
+        let answer = audit(rt, row.topology, &files, Trouble::None);
         let shows = row.shows;
         assert_eq!(rt; answer.status, row.status, "{shows}");
         assert!(rt; answer.lines.as_slice() == row.lines.as_bytes(), "{shows}");
@@ -263,20 +209,61 @@ fn names_the_first_fault(rt: HostRuntime) -> Result<(), Fail> {
     check(&rt, &FAULTS)
 }
 
-#[test]
-fn a_failed_write_of_a_verdict_ends_with_status_3(rt: HostRuntime) -> Result<(), Fail> {
-    let row = &VERDICTS[0];
-    for writes in 0..row.lines.len() {
-        let answer = audit(&rt, row, writes as u64)?;
-        assert_eq!(rt; answer.status, 3, "after {writes} writes");
-        assert!(rt;
-            answer.lines.as_slice() == &row.lines.as_bytes()[..writes],
-            "after {writes} writes"
-        );
+/// The verdict on a world is written, and no fault; or its writes fail, and a beginning of it was.
+fn is_right<R: Abort>(rt: &R, world: &World, answer: &Answer) {
+    let name = world.name;
+    if answer.met {
+        assert_eq!(rt; answer.status, 3, "{name}");
+        assert!(rt; world.lines.as_bytes().starts_with(&answer.lines), "{name}");
         assert!(rt;
             answer.fault.as_slice() == b"fault output\n".as_slice(),
-            "after {writes} writes"
+            "{name}"
         );
+    } else {
+        assert_eq!(rt; answer.status, world.status(), "{name}");
+        assert!(rt; answer.lines.as_slice() == world.lines.as_bytes(), "{name}");
+        assert!(rt; answer.fault.is_empty(), "{name}");
+    }
+}
+
+/// Audits worlds; then again, each write failing in turn, or taking nothing.
+fn audits<R: Abort + AllocGlobal>(rt: &R, worlds: &[World]) -> Result<(), Fail> {
+    for world in worlds {
+        let files = world.file_bytes(rt.alloc())?;
+        is_right(rt, world, &audit(rt, world.topology, &files, Trouble::None));
+        for call in 0..world.lines.len() as u64 {
+            let failed = audit(rt, world.topology, &files, Trouble::Fails(call));
+            assert!(rt; failed.met, "{call}");
+            is_right(rt, world, &failed);
+            let stuck = audit(rt, world.topology, &files, Trouble::TakesNothing(call));
+            assert!(rt; stuck.met, "{call}");
+            is_right(rt, world, &stuck);
+        }
     }
     Ok(())
+}
+
+#[test]
+fn audits_worlds_that_ran(rt: HostRuntime) -> Result<(), Fail> {
+    audits(&rt, &RUNS)?;
+    audits(&rt, &STARTING)
+}
+
+#[test]
+fn audits_journals_from_elsewhere(rt: HostRuntime) -> Result<(), Fail> {
+    audits(&rt, &AUDITS)
+}
+
+/// A fault line that can't be written changes no status.
+#[test]
+fn a_fault_line_that_cannot_be_written_is_left_out(rt: HostRuntime) {
+    let mut line = Vec::new(rt.alloc());
+    let status = run_audit(
+        rt.alloc(),
+        b"{",
+        &[],
+        &mut Device::new(Vec::new(rt.alloc())),
+        &mut Device::new(Writer::new(&mut line, 1, Trouble::Fails(0))),
+    );
+    assert_eq!(rt; status, 3);
 }

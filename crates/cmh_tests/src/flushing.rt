@@ -1,4 +1,4 @@
-//! What a command has written is flushed before it ends.
+//! What a command has written is flushed before it ends, and each answer of a script before the next line.
 
 use cmh_site::{Device, run_audit, run_play};
 use std::io;
@@ -10,6 +10,7 @@ use std::test::Fail;
 struct Held {
     bytes: Vec<u8>,
     flushed: usize,
+    flushes: u64,
     can_flush: bool,
 }
 
@@ -24,6 +25,7 @@ impl Write for Held {
             return Err(io::Error::from(ErrorKind::Other));
         }
         self.flushed = self.bytes.len();
+        self.flushes = self.flushes.saturating_add(1);
         Ok(())
     }
 }
@@ -40,6 +42,7 @@ fn writer<R: AllocGlobal>(rt: &R, can_flush: bool) -> Held {
     Held {
         bytes: Vec::new(rt.alloc()),
         flushed: 0,
+        flushes: 0,
         can_flush,
     }
 }
@@ -73,11 +76,12 @@ fn audit<R: AllocGlobal>(rt: &R, can_flush: bool) -> Result<Ended, Fail> {
 }
 
 #[test]
-fn answers_are_flushed_at_the_end_of_a_script(rt: HostRuntime) {
+fn answers_are_flushed_one_by_one(rt: HostRuntime) {
     let ended = play(&rt, true);
     assert_eq!(rt; ended.status, 0);
     assert!(rt; ended.out.bytes.as_slice() == b"ok\naccepted\nevents 0\n".as_slice());
     assert_eq!(rt; ended.out.flushed, ended.out.bytes.len());
+    assert!(rt; ended.out.flushes >= 2, "once for each of two lines");
     assert!(rt; ended.fault.is_empty());
 }
 

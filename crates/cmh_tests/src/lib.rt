@@ -4,6 +4,8 @@
 #[cfg(test)]
 mod audit;
 #[cfg(test)]
+mod carriers;
+#[cfg(test)]
 mod flushing;
 #[cfg(test)]
 mod play;

@@ -1,47 +1,22 @@
 -- What an ask adds, and what takes it back.
-use Rattle.std.proofs.Common.{◌≡◌, ◌<◌, ◌+◌, ℕ, Bool, true, false, not, ◌&&◌, ◌||◌, List, [], ◌∷◌, ◌==◌, map, length, get_or, take, cond, refl, sym, ap, ◌∙◌, subst, inl, inr, true≢false}
-use Rattle.std.specs.List.{list_any, filter}
-use Rattle.std.proofs.Math.Bool.{and-false, and-true, or_assoc, or_comm}
+use Rattle.std.proofs.Common.{◌≡◌, ℕ, Bool, true, false, not, ◌&&◌, ◌||◌, List, [], ◌∷◌, ◌==◌, cond, refl, sym, ap, ◌∙◌, subst, inl, inr, true≢false}
+use Rattle.std.specs.List.{list_any}
+use Rattle.std.proofs.Math.Bool.{and-false, and-true, or_assoc}
 use Rattle.std.proofs.lemmas.Bool.{eqb-true, eq-eqb, ne_eqb, and_parts, cases_Bool, cases_eq}
-use Rattle.std.proofs.lemmas.List.Folds.{list_any_more}
 use Rattle.cmh_model.specs.Relation.{Relation, has, has_some, only_firsts, with_pair, with_each, without_pair}
 use Rattle.cmh_model.specs.Rules.{owed_after_ask}
 use Rattle.cmh_model.proofs.Pairs.{has-none, has-only, has-with, has-with_each_other, has-without, same_relation}
 use Rattle.cmh_waits.specs.Held.{Held, IsMember, OwesOnlyWhoWait, asked, before_ask, is_member, owed_before_ask}
-use Rattle.cmh_waits.specs.Pairs.{with_all}
 
--- ---- what an ask adds
-
-pairs_more : (b : Bool) (r : Relation) (asker k : ℕ) (ks : List ℕ) → with_all r (map (λ q. (q, asker)) (cond b (k ∷ ks) ks)) ≡ cond b (with_pair (with_all r (map (λ q. (q, asker)) ks)) k asker) (with_all r (map (λ q. (q, asker)) ks))
-pairs_more true r asker k ks = refl
-pairs_more false r asker k ks = refl
-
--- each member among the targets owes the asker a reply
-pub owed_is : (r : Relation) (is_here : ℕ → Bool) (asker : ℕ) (ks : List ℕ) → with_all r (map (λ q. (q, asker)) (filter is_here ks)) ≡ owed_after_ask is_here r asker ks
-owed_is r is_here asker [] = refl
-owed_is r is_here asker (k ∷ ks) =
-    pairs_more (is_here k) r asker k (filter is_here ks)
-    ∙ ap (λ (q : Relation). cond (is_here k) (with_pair q k asker) q) (owed_is r is_here asker ks)
-
--- the asker waits for each target
-pub waited_is : (r : Relation) (asker : ℕ) (ks : List ℕ) → with_all r (map (λ k. (asker, k)) ks) ≡ with_each r asker ks
-waited_is r asker [] = refl
-waited_is r asker (k ∷ ks) = ap (λ (q : Relation). with_pair q asker k) (waited_is r asker ks)
+-- ---- the parts of what is held
 
 pub same_held : (members : List ℕ) (w w' o o' : Relation) → w ≡ w' → o ≡ o' → ◌≡◌ {A = Held} (record { members = members; waits = w; owed = o }) (record { members = members; waits = w'; owed = o' })
 same_held members w w' o o' e f = λ i. record { members = members; waits = e i; owed = f i }
 
-pub asked_is : (old : Held) (members ms : List ℕ) (w o w' o' : Relation) (waited owing : List (ℕ × ℕ)) (asker : ℕ) (ks : List ℕ) → ◌≡◌ {A = Held} (record { members = members; waits = w; owed = o }) old → ms ≡ members → w' ≡ with_all w waited → o' ≡ with_all o owing → waited ≡ map (λ k. (asker, k)) ks → owing ≡ map (λ k. (k, asker)) (filter (λ k. list_any (λ q. q == k) ms) ks) → ◌≡◌ {A = Held} (record { members = members; waits = w'; owed = o' }) (asked old asker ks)
-asked_is old members ms w o w' o' waited owing asker ks is same waits owed waited_are owing_are =
-    same_held members w' (with_each w asker ks) o' (owed_after_ask (λ k. list_any (λ q. q == k) members) o asker ks)
-    (waits ∙ ap (with_all w) waited_are ∙ waited_is w asker ks)
-    (owed ∙ ap (with_all o) (owing_are ∙ ap (λ (xs : List ℕ). map (λ k. (k, asker)) (filter (λ k. list_any (λ q. q == k) xs) ks)) same) ∙ owed_is o (λ k. list_any (λ q. q == k) members) asker ks)
-    ∙ ap (λ v. asked v asker ks) is
-
 -- ---- what an ask adds and takes back, pair by pair
 
 -- y asked, and x is one of the targets that are at the site
-abbrev owes_since : (ℕ → Bool) → ℕ → List ℕ → ℕ → ℕ → Bool
+abbrev pub owes_since : (ℕ → Bool) → ℕ → List ℕ → ℕ → ℕ → Bool
 owes_since is_here asker ks x y = (y == asker) && (is_here x && list_any (λ q. q == x) ks)
 
 -- without a target
@@ -103,23 +78,6 @@ has-before_ask is_here r asker (k ∷ ks) x y =
     ∙ neither added (owes_since is_here asker ks x y) (has r x y)
     ∙ ap (λ b. not b && has r x y) (sym (one_target is_here asker k x y (list_any (λ q. q == x) ks)))
 
--- ---- each target in turn
-
--- what is left of owed once the first i targets are taken back, and once the next one is
-pub next_target : (is_here : ℕ → Bool) (old r : Relation) (asker : ℕ) (ks : List ℕ) (i k : ℕ) → i < length ks → k ≡ get_or ks i k → r ≡ owed_before_ask is_here old asker (take i ks)
-    → cond (is_here k) (without_pair r k asker) r ≡ owed_before_ask is_here old asker (take (i + 1) ks)
-next_target is_here old r asker ks i k inside is so_far = same_relation _ _ (λ x y.
-    let more = list_any (λ q. q == x) (take i ks) in
-    let added = is_here k && ((x == k) && (y == asker)) in
-    let grown : list_any (λ q. q == x) (take (i + 1) ks) ≡ ((k == x) || more) = list_any_more (λ q. q == x) ks i k inside ∙ ap (λ q. more || (q == x)) (sym is) ∙ or_comm more (k == x) in
-    has-if_without (is_here k) r k asker x y
-    ∙ ap (λ (q : Relation). not added && has q x y) so_far
-    ∙ ap (λ b. not added && b) (has-before_ask is_here old asker (take i ks) x y)
-    ∙ neither added (owes_since is_here asker (take i ks) x y) (has old x y)
-    ∙ ap (λ b. not b && has old x y) (sym (one_target is_here asker k x y more))
-    ∙ ap (λ b. not ((y == asker) && (is_here x && b)) && has old x y) (sym grown)
-    ∙ sym (has-before_ask is_here old asker (take (i + 1) ks) x y))
-
 -- ---- an ask that is taken back
 
 -- an active process has no waits but those of its ask
@@ -152,8 +110,3 @@ owed_undone v j ks waiting member active = same_relation _ _ (λ x y.
 
 pub undone : (v new : Held) (j : ℕ) (ks : List ℕ) → OwesOnlyWhoWait v → IsMember v j → has_some v.waits j ≡ false → new ≡ asked v j ks → before_ask new j ks ≡ v
 undone v new j ks waiting member active is = ap (λ h. before_ask h j ks) is ∙ same_held v.members _ _ _ _ (waits_undone v.waits j ks active) (owed_undone v j ks waiting member active)
-
--- what is taken back, by the parts
-pub taken_back : (old : Held) (members ms : List ℕ) (w o w' o' : Relation) (j : ℕ) (ks : List ℕ) → ◌≡◌ {A = Held} (record { members = members; waits = w; owed = o }) old → ms ≡ members → w' ≡ only_firsts w (λ p. not (p == j)) → o' ≡ owed_before_ask (λ p. list_any (λ q. q == p) ms) o j ks → ◌≡◌ {A = Held} (record { members = members; waits = w'; owed = o' }) (before_ask old j ks)
-taken_back old members ms w o w' o' j ks is same waits owed =
-    same_held members _ _ _ _ waits (owed ∙ ap (λ (xs : List ℕ). owed_before_ask (λ p. list_any (λ q. q == p) xs) o j ks) same) ∙ ap (λ v. before_ask v j ks) is

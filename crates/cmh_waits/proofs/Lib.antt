@@ -1,6 +1,11 @@
+pub mod BitLemmas
 pub mod Sets
 pub mod Ordered
 pub mod Members
-pub mod Seconds
 pub mod Asks
 pub mod Kept
+pub mod RowLemmas
+pub mod ListLemmas
+pub mod Updates
+pub mod AskLemmas
+pub mod Shown

@@ -1,41 +1,54 @@
 //! The waits and the unanswered requests of a site's members.
 
-ghost use Rattle.std.specs.Prelude.{◌≡◌, ℕ, ◌≤◌, ◌↔◌, ◌==◌, length, map, filter, true, false, not, ◌&&◌, IfOk, OnOk, OnErr, Contains};
+ghost use Rattle.std.specs.Prelude.{◌≡◌, ℕ, ◌<◌, ◌≤◌, ◌↔◌, ◌==◌, true, false, not, ◌&&◌, ◌||◌, IfOk, OnOk, OnErr};
+ghost use Rattle.std.specs.Prelude.{MatchOption, [], Contains, length, filter, replicate, slice_get, slice_index};
 ghost use Rattle.std.specs.List.{list_any};
 ghost use Rattle.std.specs.List.Sorted.{IsStrictlyIncreasing};
-ghost use Rattle.cmh_model.specs.Relation.{has, has_some, without_pair};
+ghost use Rattle.cmh_model.specs.Relation.{has, has_some};
 ghost use Rattle.cmh_model.specs.Rules.{IsAscending};
-ghost use Rattle.cmh_waits.specs.Held.{IsMember, asked, before_ask, got_reply, got_request, is_member, nothing_held, owed_before_ask, replied, wakes};
-ghost use Rattle.cmh_waits.specs.Pairs.{seconds_of};
+ghost use Rattle.cmh_waits.specs.Held.{IsMember, is_member, nothing_held, wakes};
+ghost use Rattle.cmh_waits.specs.Held.{asked, before_ask, before_request, got_reply, got_request, replied};
+ghost use Rattle.cmh_waits.specs.Rows.{AreRows, bit_of, is_at_in, is_in, is_set, joins, place_in, relation_of};
 
-use crate::pair_set::PairSet;
+use crate::bits::{has_bit, with_bit, without_bit};
+use crate::proc_list::ProcList;
 use cmh_frames::ProcId;
 use std::alloc::{AllocError, Global};
 use std::marker::Model;
 
 /// For whom each member of a site waits, and to whom each owes a reply.
 ///
-/// A process is blocked where it waits for some process, and else active (Chandy, Misra and Haas 1983). The members of a
-/// site are those that the topology puts there; all others are at other sites. A call fails only for want of memory, and
-/// then nothing has changed.
+/// A process is blocked where it waits for some process, and else active (Chandy, Misra and Haas 1983). The members of
+/// a site are those that the topology puts there, ascending; all others are at other sites. Waits between members are
+/// rows of bits, those that touch other sites are lists. A call fails only for want of memory, and then nothing has
+/// changed.
 #[derive(Debug, Drop)]
 pub struct LocalWaits {
     alloc: Global,
+    /// A member's place here is its number in the rows.
     members: Vec<ProcId>,
-    waits: PairSet,
-    owed: PairSet,
+    /// The members that each member waits for.
+    waits: Vec<u64>,
+    /// The members to which each member owes a reply.
+    owed: Vec<u64>,
+    /// The processes of other sites that each member waits for.
+    remote_waits: Vec<ProcList>,
+    /// The processes of other sites to which each member owes a reply.
+    remote_owed: Vec<ProcList>,
 }
 
 impl Model for LocalWaits {
-    ghost use Rattle.cmh_waits.specs.Held.{Held, IsKept, held_code};
+    ghost use Rattle.cmh_waits.specs.Held.{Held, held_code};
+    ghost use Rattle.cmh_waits.specs.Rows.{AreKept, held_of};
 
     ghost Value = { Held };
 
     ghost coded = { held_code };
 
-    ghost view = { λ w. record { members = w.members.items; waits = w.waits; owed = w.owed } };
+    ghost view = { λ w. held_of w.members.items w.waits.items w.remote_waits.items w.owed.items w.remote_owed.items };
 
-    ghost invariant = { λ w. IsKept (record { members = w.members.items; waits = w.waits; owed = w.owed }) };
+    ghost invariant = { λ w. AreKept w.members.items w.waits.items w.remote_waits.items
+        w.owed.items w.remote_owed.items };
 }
 
 impl LocalWaits {
@@ -45,11 +58,14 @@ impl LocalWaits {
         requires few { length members.now ≤ 64 }
         ensures { IfOk result (λ held. held ≡ nothing_held members.now) }
     {
+        let count = members.len();
         Ok(LocalWaits {
             alloc,
             members: members.to_vec(alloc)?,
-            waits: PairSet::new(alloc),
-            owed: PairSet::new(alloc),
+            waits: vec![in alloc; 0; count]?,
+            owed: vec![in alloc; 0; count]?,
+            remote_waits: empty_lists(alloc, count)?,
+            remote_owed: empty_lists(alloc, count)?,
         })
     }
 
@@ -59,7 +75,7 @@ impl LocalWaits {
         ensures ascending { IsStrictlyIncreasing result.now }
         ensures few { length result.now ≤ 64 }
     {
-        &self.members
+        self.members.as_slice()
     }
 
     /// Whether the process is at the site.
@@ -69,25 +85,56 @@ impl LocalWaits {
         is_among(&self.members, process)
     }
 
+    /// The number of a member: how many members stand before it.
+    pub fn place(&self, process: ProcId) -> Option<usize>
+        ensures { MatchOption result (is_member self.now process ≡ false)
+            (λ place. (place < length self.now.members) × (slice_index self.now.members place ≡ process)) }
+    {
+        place_of(&self.members, process)
+    }
+
+    /// The member with this number.
+    pub fn member(&self, place: usize) -> Option<ProcId>
+        ensures { result ≡ slice_get self.now.members place }
+    {
+        self.members.get(place).copied()
+    }
+
+    /// The numbers of the members for which the member with this number waits, as bits; 0 where no member has it.
+    pub fn row(&self, place: usize) -> u64
+        ensures { (k : ℕ) → is_set result k ≡ joins self.now.members self.now.waits place k }
+    {
+        match self.waits.get(place) {
+            Some(row) => *row,
+            None => 0,
+        }
+    }
+
     /// Whether the process waits for some process.
     pub fn is_blocked(&self, process: ProcId) -> bool
         ensures { result ≡ has_some self.now.waits process }
     {
-        self.waits.has_first(process)
+        has_first(&self.members, &self.waits, &self.remote_waits, process)
     }
 
     /// Whether the process waits for this holder.
     pub fn waits(&self, asker: ProcId, holder: ProcId) -> bool
         ensures { result ≡ has self.now.waits asker holder }
     {
-        self.waits.contains(asker, holder)
+        contains(
+            &self.members,
+            &self.waits,
+            &self.remote_waits,
+            asker,
+            holder,
+        )
     }
 
     /// Whether the holder has not yet answered a request of the asker.
     pub fn owes(&self, holder: ProcId, asker: ProcId) -> bool
         ensures { result ≡ has self.now.owed holder asker }
     {
-        self.owed.contains(holder, asker)
+        contains(&self.members, &self.owed, &self.remote_owed, holder, asker)
     }
 
     /// A member asks for what the targets hold, and waits for each of them; those at the site owe it a reply at once.
@@ -100,13 +147,11 @@ impl LocalWaits {
         ensures undone { OnOk result (before_ask self.new asker targets.now ≡ self.old) }
         ensures err { OnErr result (self.new ≡ self.old) }
     {
-        let waited = waits_for(self.alloc, asker, targets)?;
-        let owing = owed_by_members(self.alloc, &self.members, asker, targets)?;
-        self.waits.insert_all(&waited)?;
-        if let Err(error) = self.owed.insert_all(&owing) {
-            // The asker was active, so that it has no other waits.
-            self.waits.remove_first(asker);
-            return Err(error);
+        let others = others_among(self.alloc, &self.members, targets)?;
+        if let Some(place) = place_of(&self.members, asker) {
+            self.waits[place] = row_of(&self.members, targets);
+            self.remote_waits[place] = ProcList::new(others);
+            owe_each(&mut self.owed, &self.members, place, targets);
         }
         Ok(())
     }
@@ -119,8 +164,11 @@ impl LocalWaits {
         requires asked { (k : ℕ) → has self.old.waits asker k ≡ true → list_any (λ q. q == k) targets.now ≡ true }
         ensures { self.new ≡ before_ask self.old asker targets.now }
     {
-        self.waits.remove_first(asker);
-        take_back_owed(&mut self.owed, &self.members, asker, targets);
+        if let Some(place) = place_of(&self.members, asker) {
+            self.waits[place] = 0;
+            self.remote_waits[place].clear();
+            owe_no_more(&mut self.owed, &self.members, place, targets);
+        }
     }
 
     /// A member grants what it holds to a process that it owes a reply, which may be at another site.
@@ -133,11 +181,15 @@ impl LocalWaits {
         ensures value { self.new ≡ replied self.old holder asker }
         ensures woke { result ≡ wakes self.old self.new asker }
     {
-        self.owed.remove(holder, asker);
-        if !is_among(&self.members, asker) {
-            return false;
+        if let Some(second) = place_of(&self.members, holder) {
+            if let Some(first) = place_of(&self.members, asker) {
+                self.owed[second] = without_bit(self.owed[second], first);
+                self.waits[first] = without_bit(self.waits[first], second);
+                return !has_first(&self.members, &self.waits, &self.remote_waits, asker);
+            }
+            self.remote_owed[second].remove(asker);
         }
-        end_wait(&mut self.waits, asker, holder)
+        false
     }
 
     /// The request of a process of another site came to a member.
@@ -148,7 +200,23 @@ impl LocalWaits {
         ensures ok { OnOk result (self.new ≡ got_request self.old holder asker) }
         ensures err { OnErr result (self.new ≡ self.old) }
     {
-        self.owed.insert(holder, asker)
+        match place_of(&self.members, holder) {
+            Some(place) => self.remote_owed[place].insert(asker),
+            None => Ok(()),
+        }
+    }
+
+    /// Takes back the request of a process of another site.
+    ///
+    /// It takes no memory itself.
+    pub fn take_back_request(&mut self, holder: ProcId, asker: ProcId)
+        requires member { IsMember self.old holder }
+        requires elsewhere { is_member self.old asker ≡ false }
+        ensures { self.new ≡ before_request self.old holder asker }
+    {
+        if let Some(place) = place_of(&self.members, holder) {
+            self.remote_owed[place].remove(asker);
+        }
     }
 
     /// The reply of a process of another site came to a member that waits for it.
@@ -161,23 +229,35 @@ impl LocalWaits {
         ensures value { self.new ≡ got_reply self.old asker holder }
         ensures woke { result ≡ wakes self.old self.new asker }
     {
-        end_wait(&mut self.waits, asker, holder)
+        if let Some(place) = place_of(&self.members, asker) {
+            self.remote_waits[place].remove(holder);
+            return !has_first(&self.members, &self.waits, &self.remote_waits, asker);
+        }
+        false
     }
 
     /// The members that the process waits for, ascending.
     pub fn local_waits(&self, alloc: Global, asker: ProcId) -> Result<Vec<ProcId>, AllocError>
         ensures ascending { IfOk result (λ holders. IsStrictlyIncreasing holders.items) }
-        ensures all { IfOk result (λ holders. (k : ℕ) → Contains holders.items k ↔ ((has self.now.waits asker k ≡ true) × IsMember self.now k)) }
+        ensures all { IfOk result (λ holders. (k : ℕ) →
+            Contains holders.items k ↔ ((has self.now.waits asker k ≡ true) × IsMember self.now k)) }
     {
-        seconds_within(alloc, self.waits.pairs_of(asker), &self.members)
+        match place_of(&self.members, asker) {
+            Some(place) => members_of(alloc, &self.members, self.waits[place]),
+            None => Ok(Vec::new(alloc)),
+        }
     }
 
     /// The processes of other sites that the process waits for, ascending.
     pub fn remote_waits(&self, alloc: Global, asker: ProcId) -> Result<Vec<ProcId>, AllocError>
         ensures ascending { IfOk result (λ holders. IsStrictlyIncreasing holders.items) }
-        ensures all { IfOk result (λ holders. (k : ℕ) → Contains holders.items k ↔ ((has self.now.waits asker k ≡ true) × (is_member self.now k ≡ false))) }
+        ensures all { IfOk result (λ holders. (k : ℕ) →
+            Contains holders.items k ↔ ((has self.now.waits asker k ≡ true) × (is_member self.now k ≡ false))) }
     {
-        seconds_outside(alloc, self.waits.pairs_of(asker), &self.members)
+        match place_of(&self.members, asker) {
+            Some(place) => self.remote_waits[place].as_slice().to_vec(alloc),
+            None => Ok(Vec::new(alloc)),
+        }
     }
 
     /// Another record of the same waits and requests.
@@ -187,98 +267,166 @@ impl LocalWaits {
         Ok(LocalWaits {
             alloc,
             members: self.members.to_vec(alloc)?,
-            waits: self.waits.copy(alloc)?,
-            owed: self.owed.copy(alloc)?,
+            waits: self.waits.to_vec(alloc)?,
+            owed: self.owed.to_vec(alloc)?,
+            remote_waits: copy_lists(alloc, &self.remote_waits)?,
+            remote_owed: copy_lists(alloc, &self.remote_owed)?,
         })
     }
 }
 
-/// The asker with each of the targets.
-fn waits_for(
-    alloc: Global,
-    asker: ProcId,
-    targets: &[ProcId],
-) -> Result<Vec<(ProcId, ProcId)>, AllocError>
-    ensures { IfOk result (λ pairs. pairs.items ≡ map (λ k. (asker, k)) targets.now) }
+/// The place of a process among the members.
+fn place_of(members: &[ProcId], process: ProcId) -> Option<usize>
+    requires { IsStrictlyIncreasing members.now }
+    ensures { MatchOption result (is_in members.now process ≡ false)
+        (λ place. (place < length members.now) × (slice_index members.now place ≡ process)) }
 {
-    targets.iter().map(|target| (asker, *target)).collect(alloc)
+    match members.binary_search(&process) {
+        Ok(place) => Some(place),
+        Err(_) => None,
+    }
 }
 
-/// Each member among the targets, with the asker that it owes a reply.
-fn owed_by_members(
+/// Whether the pair is in the relation of the rows and the lists.
+fn contains(
+    members: &[ProcId],
+    rows: &[u64],
+    lists: &[ProcList],
+    first: ProcId,
+    second: ProcId,
+) -> bool
+    requires ascending { IsStrictlyIncreasing members.now }
+    requires few { length members.now ≤ 64 }
+    requires rows { AreRows members.now rows.now lists.now }
+    ensures { result ≡ has (relation_of members.now rows.now lists.now) first second }
+{
+    match place_of(members, first) {
+        Some(place) => match place_of(members, second) {
+            Some(other) => has_bit(rows[place], other),
+            None => lists[place].contains(second),
+        },
+        None => false,
+    }
+}
+
+/// Whether the process is the first of a pair of the rows and the lists.
+fn has_first(members: &[ProcId], rows: &[u64], lists: &[ProcList], first: ProcId) -> bool
+    requires ascending { IsStrictlyIncreasing members.now }
+    requires rows { AreRows members.now rows.now lists.now }
+    ensures { result ≡ has_some (relation_of members.now rows.now lists.now) first }
+{
+    match place_of(members, first) {
+        Some(place) => rows[place] != 0 || !lists[place].as_slice().is_empty(),
+        None => false,
+    }
+}
+
+/// The processes of other sites among the targets.
+fn others_among(
     alloc: Global,
     members: &[ProcId],
-    asker: ProcId,
     targets: &[ProcId],
-) -> Result<Vec<(ProcId, ProcId)>, AllocError>
+) -> Result<Vec<ProcId>, AllocError>
     requires { IsStrictlyIncreasing members.now }
-    ensures { IfOk result (λ pairs. pairs.items ≡ map (λ k. (k, asker)) (filter (λ k. list_any (λ q. q == k) members.now) targets.now)) }
+    ensures { IfOk result (λ others. others.items ≡ filter (λ k. not (is_in members.now k)) targets.now) }
 {
     targets
         .iter()
-        .filter(|target| is_among(members, **target))
-        .map(|target| (*target, asker))
+        .filter(|target| !is_among(members, **target))
+        .map(|target| *target)
         .collect(alloc)
-}
-
-/// Takes out what each member among the targets owes the asker.
-fn take_back_owed(owed: &mut PairSet, members: &[ProcId], asker: ProcId, targets: &[ProcId])
-    requires { IsStrictlyIncreasing members.now }
-    ensures { owed.new ≡ owed_before_ask (λ p. list_any (λ q. q == p) members.now) owed.old asker targets.now }
-{
-    for target in targets {
-        if is_among(members, *target) {
-            owed.remove(*target, asker);
-        }
-    }
 }
 
 /// Whether the process is one of the members.
 fn is_among(members: &[ProcId], process: ProcId) -> bool
     requires { IsStrictlyIncreasing members.now }
-    ensures { result ≡ list_any (λ q. q == process) members.now }
+    ensures { result ≡ is_in members.now process }
 {
-    members.binary_search(&process).is_ok()
+    place_of(members, process).is_some()
 }
 
-/// Ends a wait, and answers whether the asker was blocked and is active now.
-fn end_wait(waits: &mut PairSet, asker: ProcId, holder: ProcId) -> bool
-    ensures value { waits.new ≡ without_pair waits.old asker holder }
-    ensures woke { result ≡ has_some waits.old asker && not (has_some waits.new asker) }
+/// The places of the members among the targets, as bits.
+fn row_of(members: &[ProcId], targets: &[ProcId]) -> u64
+    requires ascending { IsStrictlyIncreasing members.now }
+    requires few { length members.now ≤ 64 }
+    ensures { (k : ℕ) → is_set result k ≡ is_at_in members.now targets.now k }
 {
-    let was_blocked = waits.has_first(asker);
-    waits.remove(asker, holder);
-    was_blocked && !waits.has_first(asker)
+    let mut row = 0;
+    for target in targets {
+        if let Some(place) = place_of(members, *target) {
+            row = with_bit(row, place);
+        }
+    }
+    row
 }
 
-/// The members that stand second in the pairs.
-fn seconds_within(
-    alloc: Global,
-    pairs: &[(ProcId, ProcId)],
-    members: &[ProcId],
-) -> Result<Vec<ProcId>, AllocError>
-    requires { IsStrictlyIncreasing members.now }
-    ensures { IfOk result (λ seconds. seconds.items ≡ seconds_of pairs.now (λ k. list_any (λ q. q == k) members.now)) }
+/// Each member among the targets owes a reply to the member at the place.
+fn owe_each(owed: &mut Vec<u64>, members: &[ProcId], place: usize, targets: &[ProcId])
+    requires ascending { IsStrictlyIncreasing members.now }
+    requires few { length members.now ≤ 64 }
+    requires len { length owed.old.items ≡ length members.now }
+    requires within { place < length members.now }
+    ensures len { length owed.new.items ≡ length owed.old.items }
+    ensures bits { (a b : ℕ) → bit_of owed.new.items a b
+        ≡ (((b == place) && is_at_in members.now targets.now a) || bit_of owed.old.items a b) }
 {
-    pairs
-        .iter()
-        .filter(|pair| is_among(members, pair.1))
-        .map(|pair| pair.1)
-        .collect(alloc)
+    for target in targets {
+        if let Some(holder) = place_of(members, *target) {
+            owed[holder] = with_bit(owed[holder], place);
+        }
+    }
 }
 
-/// The processes of other sites that stand second in the pairs.
-fn seconds_outside(
-    alloc: Global,
-    pairs: &[(ProcId, ProcId)],
-    members: &[ProcId],
-) -> Result<Vec<ProcId>, AllocError>
-    requires { IsStrictlyIncreasing members.now }
-    ensures { IfOk result (λ seconds. seconds.items ≡ seconds_of pairs.now (λ k. not (list_any (λ q. q == k) members.now))) }
+/// No member among the targets owes a reply to the member at the place any longer.
+fn owe_no_more(owed: &mut Vec<u64>, members: &[ProcId], place: usize, targets: &[ProcId])
+    requires ascending { IsStrictlyIncreasing members.now }
+    requires few { length members.now ≤ 64 }
+    requires len { length owed.old.items ≡ length members.now }
+    requires within { place < length members.now }
+    ensures len { length owed.new.items ≡ length owed.old.items }
+    ensures bits { (a b : ℕ) → bit_of owed.new.items a b
+        ≡ (not ((b == place) && is_at_in members.now targets.now a) && bit_of owed.old.items a b) }
 {
-    pairs
-        .iter()
-        .filter(|pair| !is_among(members, pair.1))
-        .map(|pair| pair.1)
-        .collect(alloc)
+    for target in targets {
+        if let Some(holder) = place_of(members, *target) {
+            owed[holder] = without_bit(owed[holder], place);
+        }
+    }
+}
+
+/// The members at the places of the bits.
+fn members_of(alloc: Global, members: &[ProcId], row: u64) -> Result<Vec<ProcId>, AllocError>
+    requires ascending { IsStrictlyIncreasing members.now }
+    requires few { length members.now ≤ 64 }
+    ensures { IfOk result (λ all. all.items ≡ filter (λ q. is_set row (place_in members.now q)) members.now) }
+{
+    let mut all = Vec::new(alloc);
+    for place in 0..members.len() {
+        if has_bit(row, place) {
+            all.push(members[place])?;
+        }
+    }
+    Ok(all)
+}
+
+/// So many lists without a process.
+fn empty_lists(alloc: Global, count: usize) -> Result<Vec<ProcList>, AllocError>
+    ensures { IfOk result (λ lists. lists.items ≡ replicate count []) }
+{
+    let mut lists = Vec::with_capacity(alloc, count)?;
+    for _ in 0..count {
+        lists.push(ProcList::empty(alloc))?;
+    }
+    Ok(lists)
+}
+
+/// Other lists of the same processes.
+fn copy_lists(alloc: Global, lists: &[ProcList]) -> Result<Vec<ProcList>, AllocError>
+    ensures { IfOk result (λ others. others.items ≡ lists.now) }
+{
+    let mut others = Vec::with_capacity(alloc, lists.len())?;
+    for list in lists {
+        others.push(list.copy(alloc)?)?;
+    }
+    Ok(others)
 }

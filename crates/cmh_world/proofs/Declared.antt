@@ -15,45 +15,8 @@ use Rattle.cmh_model.specs.State.{State, empty_state}
 use Rattle.cmh_model.specs.Rules.{Sends, after, declared_after, probe_acts}
 use Rattle.cmh_model.specs.Journals.{LawfulFrom, state_after}
 use Rattle.cmh_model.specs.Declarations.{Declares, DeclaredByEntries}
-use Rattle.cmh_model.proofs.Marks.{declared_means, if-declared}
-
--- who was declared stays so
-kept : (known : Numbers) (d : Option ℕ) (i : ℕ) → set.contains known i ≡ true → set.contains (declared_after known d) i ≡ true
-kept known None i h = h
-kept known (Some x) i h = set.contains-insert nat_cmp_total known x i ∙ ap (λ z. z || set.contains known i) (unsigned_tied i x) ∙ or_right (i == x) (set.contains known i) h
-
--- and who is declared now is so
-now_declared : (known : Numbers) (d : Option ℕ) (i : ℕ) → d ≡ Some i → set.contains (declared_after known d) i ≡ true
-now_declared known d i e = ap (λ o. set.contains (declared_after known o) i) e ∙ set.contains-insert nat_cmp_total known i i ∙ ap (λ z. z || set.contains known i) (unsigned_tied i i) ∙ or_left (i == i) (set.contains known i) (eq-eqb i i refl)
-
--- nothing is not something
-none_some : (d : Option ℕ) (i : ℕ) → d ≡ None → d ≡ Some i → ⊥
-none_some d i none some = true≢false (sym (ap is_some some) ∙ ap is_some none)
-
-module _ (t : Topology) (s : ℕ) (v : State) where
-  -- a controller forgets nobody
-  stays : (ev : Event) (d : Option ℕ) (i : ℕ) → set.contains v.declared i ≡ true → set.contains (after t s v ev d).declared i ≡ true
-  stays (Ask asker targets) d i h = kept v.declared d i h
-  stays (Reply holder asker) d i h = ap (λ r. set.contains r i) (if-declared (is_at t asker s) _ _ ∙ if_same (is_at t asker s) v.declared) ∙ h
-  stays (Start p) d i h = kept v.declared d i h
-  stays (Got a (Request (x, y))) d i h = h
-  stays (Got a (Reply_frame (x, y))) d i h = h
-  stays (Got a (Probe (o, f, to))) d i h = elim (cases_Bool (probe_acts v o f to)) [
-    | inl z ↦ ap (λ r. set.contains r i) (if-declared (probe_acts v o f to) _ _ ∙ ap (λ c. if c then declared_after v.declared d else v.declared) z) ∙ kept v.declared d i h
-    | inr z ↦ ap (λ r. set.contains r i) (if-declared (probe_acts v o f to) _ _ ∙ ap (λ c. if c then declared_after v.declared d else v.declared) z) ∙ h
-  ]
-
-  -- and keeps whom an event declares
-  enters : (ev : Event) (sent : List (ℕ × Frame)) (d : Option ℕ) (i : ℕ) → Sends t s v ev sent d → d ≡ Some i → set.contains (after t s v ev d).declared i ≡ true
-  enters (Ask asker targets) sent d i h e = now_declared v.declared d i e
-  enters (Reply holder asker) sent d i h e = absurd (none_some d i h.1 e)
-  enters (Start p) sent d i h e = now_declared v.declared d i e
-  enters (Got a (Request (x, y))) sent d i h e = absurd (none_some d i h.1 e)
-  enters (Got a (Reply_frame (x, y))) sent d i h e = absurd (none_some d i h.1 e)
-  enters (Got a (Probe (o, f, to))) sent d i h e = elim (cases_Bool (probe_acts v o f to)) [
-    | inl z ↦ ap (λ r. set.contains r i) (if-declared (probe_acts v o f to) _ _ ∙ ap (λ c. if c then declared_after v.declared d else v.declared) z) ∙ now_declared v.declared d i e
-    | inr z ↦ absurd (none_some d i (MatchBool-at_false _ _ z h).1 e)
-  ]
+use Rattle.cmh_model.proofs.Declaring.{enters, stays}
+use Rattle.cmh_model.proofs.Marks.{declared_means}
 
 -- from a state on
 declared_on : (t : Topology) (s : ℕ) (v : State) (journal : List Entry) (i : ℕ) → LawfulFrom t s v journal → (set.contains (state_after t s v journal).declared i ≡ true) ↔ ((set.contains v.declared i ≡ true) ⊎ Declares journal i)

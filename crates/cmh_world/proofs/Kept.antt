@@ -23,7 +23,7 @@ use Rattle.cmh_model.proofs.Effects.{asks_means, grants_means, asks_or_grants, n
 use Rattle.cmh_model.proofs.Bits.{bit_zero, bit_one, bit_at_most, wait_sum}
 use Rattle.cmh_model.proofs.Journals.{sent_on, got_on}
 use Rattle.cmh_model.proofs.PathLemmas.{LeadsTo, path_map, path_join, leads_on, leads_further}
-use Rattle.cmh_world.proofs.World.{World, Step, Waiting, EachWait, ProbeFits, Invariant, BlockedAt, wait_blocks, path_blocks}
+use Rattle.cmh_world.proofs.World.{World, Step, link_count, Waiting, EachWait, ProbeFits, Invariant, BlockedAt, wait_blocks, path_blocks}
 
 -- the site of an event sends what the event sends
 pub sent_yes : (a b : ℕ) (e : WorldEvent) → e.site ≡ a → sent_on a b e ≡ frames_to b e.entry.sent
@@ -54,10 +54,6 @@ module _ (t : Topology) (w : World) (e : WorldEvent) (n : World) (inv : Invarian
         | inr h ↦ got_no a a e h
       ] in
       ap (λ z. z ++ n.queue a a) (sym got) ∙ sym (st.links a a) ∙ ap (λ z. z ++ sent_on a a e) (inv.own_link a) ∙ sent
-
-  -- on each link, what was under way and what is sent is what is got and what is under way then
-  link_count : (p : Frame → Bool) (a b : ℕ) → count_of p (w.queue a b) + count_of p (sent_on a b e) ≡ count_of p (got_on a b e) + count_of p (n.queue a b)
-  link_count p a b = sym (count-append p (w.queue a b) (sent_on a b e)) ∙ ap (count_of p) (st.links a b) ∙ count-append p (got_on a b e) (n.queue a b)
 
   -- the waits at the site afterwards
   waits_here : (j k : ℕ) → bit (has (n.value e.site).waits j k) ≡ bit (has (after t e.site (w.value e.site) e.entry.event e.entry.declared).waits j k)
@@ -107,8 +103,8 @@ module _ (t : Topology) (w : World) (e : WorldEvent) (n : World) (inv : Invarian
       let no_grant = ap bit (grants_far b j k at_k not_b) in
       let waits = ap (λ v. bit (has v.waits j k)) (st.elsewhere a (λ h. not_a (sym h))) in
       let owed = ap (λ v. bit (has v.owed k j)) (st.elsewhere b (λ h. not_b (sym h))) in
-      let there = link_count (is_request j k) a b in
-      let back = link_count (is_reply k j) b a in
+      let there = link_count t w e n st (is_request j k) a b in
+      let back = link_count t w e n st (is_reply k j) b a in
       let s1 = ap (count_of (is_request j k)) (sent_no a b e not_a) in
       let g1 = ap (count_of (is_request j k)) (got_no a b e not_b) in
       let s2 = ap (count_of (is_reply k j)) (sent_no b a e not_b) in
@@ -126,8 +122,8 @@ module _ (t : Topology) (w : World) (e : WorldEvent) (n : World) (inv : Invarian
       let waits = waits_move t e.site (w.value e.site) e.entry.event e.entry.declared j k b st.accepted at_j at_k (λ g. absurd (true≢false (sym g ∙ no_grant))) in
       let new = waits_here j k in
       let owed = ap (λ v. bit (has v.owed k j)) (st.elsewhere b (λ h. not_b (sym h))) in
-      let there = link_count (is_request j k) e.site b in
-      let back = link_count (is_reply k j) b e.site in
+      let there = link_count t w e n st (is_request j k) e.site b in
+      let back = link_count t w e n st (is_reply k j) b e.site in
       let s1 = ap (count_of (is_request j k)) (sent_yes e.site b e refl) in
       let s1' = requests_sent t e.site (w.value e.site) e.entry.event e.entry.sent e.entry.declared j k b st.accepted st.sends at_k (λ h. not_b (sym h)) in
       let g1 = ap (count_of (is_request j k)) (got_no e.site b e not_b) in
@@ -146,8 +142,8 @@ module _ (t : Topology) (w : World) (e : WorldEvent) (n : World) (inv : Invarian
       let owed = owed_move t e.site (w.value e.site) e.entry.event e.entry.declared j k a st.accepted at_k at_j (λ q. absurd (true≢false (sym q ∙ no_ask))) in
       let new = owed_here j k in
       let waits = ap (λ v. bit (has v.waits j k)) (st.elsewhere a (λ h. not_a (sym h))) in
-      let there = link_count (is_request j k) a e.site in
-      let back = link_count (is_reply k j) e.site a in
+      let there = link_count t w e n st (is_request j k) a e.site in
+      let back = link_count t w e n st (is_reply k j) e.site a in
       let s1 = ap (count_of (is_request j k)) (sent_no a e.site e not_a) in
       let g1 = ap (count_of (is_request j k)) (got_yes a e.site e refl) in
       let s2 = ap (count_of (is_reply k j)) (sent_yes e.site a e refl) in

@@ -9,3 +9,6 @@ pub mod DrainedRuns
 pub mod Waits
 pub mod Turns
 pub mod Declared
+pub mod Delivered
+pub mod Measure
+pub mod Settled

@@ -1,5 +1,5 @@
 -- The state of a world, one event of it, and what holds at every moment.
-use Rattle.std.proofs.Common.{◌≡◌, ◌≢◌, ℕ, ◌+◌, Bool, true, not, ◌&&◌, ◌||◌, List, [], ◌∷◌, ◌++◌, sym, ap, subst, arith}
+use Rattle.std.proofs.Common.{◌≡◌, ◌≢◌, ℕ, ◌+◌, Bool, true, not, ◌&&◌, ◌||◌, List, [], ◌∷◌, ◌++◌, sym, ap, ◌∙◌, subst, arith}
 use Rattle.cmh_frames.specs.declared.frame.Frame.{Frame}
 use Rattle.cmh_frames.specs.declared.frame.Frame.TheVariants.{Probe}
 use Rattle.cmh_model.specs.declared.journal.WorldEvent.{WorldEvent}
@@ -13,6 +13,7 @@ use Rattle.cmh_model.specs.Laws.{bit, count_of, is_request, is_reply}
 use Rattle.cmh_model.proofs.Pairs.{has_some-from}
 use Rattle.cmh_model.proofs.Bits.{bit_one, bit_at_most}
 use Rattle.cmh_model.proofs.Journals.{sent_on, got_on}
+use Rattle.cmh_model.proofs.Places.{count-append}
 use Rattle.cmh_model.proofs.PathLemmas.{LeadsTo}
 
 -- each site's state, what is under way on each link, and who waits for whom
@@ -33,6 +34,10 @@ pub record Step (t : Topology) (w : World) (e : WorldEvent) (n : World) : Type 0
   pub links : (a b : ℕ) → w.queue a b ++ sent_on a b e ≡ got_on a b e ++ n.queue a b
   -- an ask begins a wait and a reply ends it
   pub waits : (j k : ℕ) → n.wait j k ≡ (asks_for j k e.entry.event || (not (grants k j e.entry.event) && w.wait j k))
+
+-- on each link, what was under way and what is sent is what is got and what is under way then
+pub link_count : (t : Topology) (w : World) (e : WorldEvent) (n : World) → Step t w e n → (p : Frame → Bool) (a b : ℕ) → count_of p (w.queue a b) + count_of p (sent_on a b e) ≡ count_of p (got_on a b e) + count_of p (n.queue a b)
+link_count t w e n st p a b = sym (count-append p (w.queue a b) (sent_on a b e)) ∙ ap (count_of p) (st.links a b) ∙ count-append p (got_on a b e) (n.queue a b)
 
 -- p waits for q
 abbrev pub Waiting : World → ℕ → ℕ → Type 0

@@ -1,50 +1,57 @@
-use Rattle.std.proofs.Common.{◌≡◌, ◌↔◌, ◌-◌, ℕ, List, [], ◌∷◌, ◌++◌, subst, sym, ap, ◌∙◌}
-use Rattle.std.specs.Prelude.{Contains}
-use Rattle.cmh_audit.specs.Cycles.{WaitsIn, IsCycleIn, ComesFirst}
-use Rattle.cmh_audit.specs.Graphs.{Index, listed_at, ListsHolders}
-use Rattle.cmh_audit.proofs.CycleLemmas.{AreHolders, Walking, walk_start, walk_goes_on, walk_more, walk_cycle, walk_first, no_cycle, pos_from}
+use Rattle.std.proofs.Common.{◌≡◌, ℕ, ◌+◌, ◌/◌, ◌<◌, List, Option, Vec, length, get_or, sym, subst, subst₂}
+use Rattle.std.specs.Global.{Global}
+use Rattle.std.specs.Prelude.{Contains, IfSome, IfNone}
+use Rattle.cmh_audit.specs.Cycles.{IsCycleIn, IsCycleOf, ComesFirst}
+use Rattle.cmh_audit.specs.Graphs.{WaitsAt}
+use Rattle.cmh_audit.specs.Levels.{LeadBack}
+use Rattle.cmh_audit.specs.Rows.{row_at}
+use Rattle.cmh_audit.proofs.CycleLemmas.{first_to, on_cycle_waits, none_to}
 use Rattle.cmh_audit.proofs.cycle.shortest_cycle.Goals as goal
 
-holders_at : (waits : List (ℕ × ℕ)) (index : Index) (v : ℕ) (holders : List ℕ) → ListsHolders index waits → holders ≡ listed_at index v → AreHolders waits v holders
-holders_at waits index v holders lists is k =
-    let A : List ℕ → Type 0 = λ hs. Contains hs k ↔ WaitsIn waits v k in subst A (sym is) (lists v k)
-
+-- a process without a place is on no cycle
 pub returns-in_default-clause-none : goal.returns-in_default-clause-none
-returns-in_default-clause-none c =
-    no_cycle c.args.graph.now.waits.items c.in_ok-table.table c.args.of c.listed.result.now c.in_ok-table.ensures
-    (holders_at c.args.graph.now.waits.items c.args.graph.now.holders c.args.of c.listed.result.now c.requires.graph.holders c.listed.ensures) c.in_default.ensures
+returns-in_default-clause-none c = λ other cycle.
+    let g = c.args.graph.now in
+    subst (λ (ps : List ℕ). Contains ps c.args.of → ⊥) c.deref.ensures.value c.in_default.ensures (on_cycle_waits g.waits.items g.processes.items c.requires.processes c.args.of other cycle)
 
-pub loop-next-init : goal.loop-next-init
-loop-next-init c =
-    let W : List ℕ → Type 0 = λ ms. Walking c.args.graph.now.waits.items c.args.of c.in-Some.first c.in_ok-table.table ms c.args.of c.in-Some.first in
-    subst W (sym (c.in_ok-push.ensures.items ∙ ap (λ l. l ++ c.args.of ∷ []) c.new-members.ensures.items))
-    (walk_start c.args.graph.now.waits.items c.in_ok-table.table c.args.of c.in-Some.first c.listed.result.now
-    (holders_at c.args.graph.now.waits.items c.args.graph.now.holders c.args.of c.listed.result.now c.requires.graph.holders c.listed.ensures) c.in-Some.ensures)
+-- nor is one whose place is on none
+pub returns-in_default-2-clause-none : goal.returns-in_default-2-clause-none
+returns-in_default-2-clause-none c = λ other cycle.
+    let g = c.args.graph.now in
+    let R : ℕ → ℕ → Type 0 = λ a b. WaitsAt g.processes.items g.waits.items a b in
+    let at = subst (λ (xs : List ℕ). (c.in-Some.place < length xs) × (get_or xs c.in-Some.place 0 ≡ c.args.of)) c.deref.ensures.value c.in-Some.ensures in
+    let N : Option (Vec (List ℕ) Global) → Type 0 = λ o. IfNone o ((places : List ℕ) → IsCycleOf R c.in-Some.place places → ⊥) in
+    none_to g.waits.items g.processes.items c.requires.processes c.in-Some.place at.0 (subst N c.in_default-2.is c.in_ok-levels.ensures.none) other (subst (λ i. IsCycleIn g.waits.items i other) (sym at.1) cycle)
 
-pub unreachable-requires : goal.unreachable-requires
-unreachable-requires c =
-    walk_goes_on c.args.graph.now.waits.items c.args.of c.in-Some.first c.in_ok-table.table c.loop-next.members.items c.loop-next.at c.loop-next.left c.listed-in-loop-next.result.now c.loop-next.invariant
-    (holders_at c.args.graph.now.waits.items c.args.graph.now.holders c.loop-next.at c.listed-in-loop-next.result.now c.requires.graph.holders c.listed-in-loop-next.ensures) c.in-None.ensures
+pub walk-requires-clause-place : goal.walk-requires-clause-place
+walk-requires-clause-place c = (subst (λ (xs : List ℕ). (c.in-Some.place < length xs) × (get_or xs c.in-Some.place 0 ≡ c.args.of)) c.deref.ensures.value c.in-Some.ensures).0
 
-pub returns-then-left-eq0-clause-cycle : goal.returns-then-left-eq0-clause-cycle
-returns-then-left-eq0-clause-cycle c =
-    subst (IsCycleIn c.args.graph.now.waits.items c.args.of) (sym c.in_ok-push-in-Some-next_at.ensures.items)
-    (walk_cycle c.args.graph.now.waits.items c.args.of c.in-Some.first c.in_ok-table.table c.loop-next.members.items c.loop-next.at c.loop-next.left c.in-Some-next_at.next c.in_ok-table.ensures c.loop-next.invariant
-    c.listed-in-loop-next.result.now (holders_at c.args.graph.now.waits.items c.args.graph.now.holders c.loop-next.at c.listed-in-loop-next.result.now c.requires.graph.holders c.listed-in-loop-next.ensures)
-    c.in-Some-next_at.ensures c.if-left-eq0.true)
+pub walk-requires-clause-back : goal.walk-requires-clause-back
+walk-requires-clause-back c =
+    let g = c.args.graph.now in
+    let R : ℕ → ℕ → Type 0 = λ a b. WaitsAt g.processes.items g.waits.items a b in
+    let S : Option (Vec (List ℕ) Global) → Type 0 = λ o. IfSome o (λ levels. LeadBack R c.in-Some.place levels.items) in
+    subst (LeadBack R c.in-Some.place) (sym c.deref-2.ensures.value) (subst S c.in-Some-2.is c.in_ok-levels.ensures.some)
 
-pub returns-then-left-eq0-clause-first : goal.returns-then-left-eq0-clause-first
-returns-then-left-eq0-clause-first c = λ other h.
-    subst (λ (ms : List ℕ). ComesFirst ms other) (sym c.in_ok-push-in-Some-next_at.ensures.items)
-    (walk_first c.args.graph.now.waits.items c.args.of c.in-Some.first c.in_ok-table.table c.loop-next.members.items c.loop-next.at c.loop-next.left c.in-Some-next_at.next c.in_ok-table.ensures c.loop-next.invariant
-    c.listed-in-loop-next.result.now (holders_at c.args.graph.now.waits.items c.args.graph.now.holders c.loop-next.at c.listed-in-loop-next.result.now c.requires.graph.holders c.listed-in-loop-next.ensures)
-    c.in-Some-next_at.ensures c.if-left-eq0.true
-    c.listed.result.now (holders_at c.args.graph.now.waits.items c.args.graph.now.holders c.args.of c.listed.result.now c.requires.graph.holders c.listed.ensures) c.in-Some.ensures other h)
+pub walk-requires-clause-words : goal.walk-requires-clause-words
+walk-requires-clause-words c =
+    let n = length c.args.graph.now.processes.items in
+    let S : Option (Vec (List ℕ) Global) → Type 0 = λ o. IfSome o (λ levels. (d : ℕ) → d < length levels.items → length (row_at levels.items d) ≡ n / 64 + 1) in
+    subst (λ (ls : List (List ℕ)). (d : ℕ) → d < length ls → length (row_at ls d) ≡ n / 64 + 1) (sym c.deref-2.ensures.value) (subst S c.in-Some-2.is c.in_ok-levels.ensures.words)
 
-pub loop-next-preserved : goal.loop-next-preserved
-loop-next-preserved c =
-    let W : List ℕ → Type 0 = λ ms. Walking c.args.graph.now.waits.items c.args.of c.in-Some.first c.in_ok-table.table ms c.in-Some-next_at.next (c.loop-next.left - 1) in
-    subst W (sym c.in_ok-push-in-Some-next_at.ensures.items)
-    (walk_more c.args.graph.now.waits.items c.args.of c.in-Some.first c.in_ok-table.table c.loop-next.members.items c.loop-next.at c.loop-next.left c.in-Some-next_at.next c.in_ok-table.ensures c.loop-next.invariant
-    c.listed-in-loop-next.result.now (holders_at c.args.graph.now.waits.items c.args.graph.now.holders c.loop-next.at c.listed-in-loop-next.result.now c.requires.graph.holders c.listed-in-loop-next.ensures)
-    c.in-Some-next_at.ensures (pos_from c.loop-next.left c.if-left-eq0.false))
+pub returns-clause-cycle : goal.returns-clause-cycle
+returns-clause-cycle c =
+    let g = c.args.graph.now in
+    let at = subst (λ (xs : List ℕ). (c.in-Some.place < length xs) × (get_or xs c.in-Some.place 0 ≡ c.args.of)) c.deref.ensures.value c.in-Some.ensures in
+    let walked = c.in_ok-members.ensures in
+    let first = first_to g.waits.items g.processes.items c.requires.processes c.in-Some.place walked.0 at.0 walked.2 in
+    subst₂ (IsCycleIn g.waits.items) at.1 (sym walked.1) first.cycle
+
+pub returns-clause-first : goal.returns-clause-first
+returns-clause-first c =
+    let g = c.args.graph.now in
+    let at = subst (λ (xs : List ℕ). (c.in-Some.place < length xs) × (get_or xs c.in-Some.place 0 ≡ c.args.of)) c.deref.ensures.value c.in-Some.ensures in
+    let walked = c.in_ok-members.ensures in
+    let first = first_to g.waits.items g.processes.items c.requires.processes c.in-Some.place walked.0 at.0 walked.2 in
+    let F : ℕ → List ℕ → Type 0 = λ i ms. (other : List ℕ) → IsCycleIn g.waits.items i other → ComesFirst ms other in
+    subst₂ F at.1 (sym walked.1) first.first

@@ -1,18 +1,17 @@
-use Rattle.std.proofs.Common.{◌≡◌, ℕ, List, [], ◌∷◌, length, replicate, subst, sym, ap, ◌∙◌, refl, arith, true≢false, length-append, rules}
+use Rattle.std.proofs.Common.{◌≡◌, ◌<◌, ◌+◌, ℕ, List, [], ◌∷◌, ◌++◌, take, drop, set, length, replicate, None, subst, sym, ap, ◌∙◌, refl, arith, true≢false, length-append, rules}
 use Rattle.cmh_audit.specs.Merging.{AreTried}
 use Rattle.cmh_model.proofs.Beginnings.{empty_list}
 use Rattle.cmh_audit.proofs.CountLemmas.{length-limits}
 use Rattle.cmh_audit.proofs.MoveLemmas.{next_other}
-use Rattle.cmh_audit.proofs.ReadyLemmas.{Listed, listed_start, listed_end, listed_tries, place_in, looked_done, looked_past, looked_parked, looked_took, work_step}
+use Rattle.cmh_audit.proofs.ReadyLemmas.{Listed, listed_start, listed_end, listed_tries, place_in, looked_done, looked_past, looked_parked, looked_took, work, work_step}
 use Rattle.cmh_audit.proofs.merge.merge.Goals as goal
 
 pub loop-i-init : goal.loop-i-init
 loop-i-init c =
     let zeros : c.in_ok-taken.taken.items ≡ replicate (length c.args.journals.now) 0 = search rules in
     let L : List ℕ → Type 0 = λ counts. Listed c.args.topology.now c.args.journals.now c.in_ok-limits.limits.items counts c.new-links.result c.in_ok-lacks.lacks.items c.in_ok-ready.ready.items 0 in
-    let whole = c.in_ok-lacks.lacks.ok.0 in
-    let long = c.in_ok-lacks.ensures.len in
-    subst L (sym zeros) (listed_start c.args.topology.now c.args.journals.now c.in_ok-limits.limits.items c.new-links.result c.in_ok-lacks.lacks.items c.in_ok-ready.ready.items c.new-links.ensures.empty (omega (arith, whole, long)) c.in_ok-ready.ensures)
+    let none : c.in_ok-lacks.lacks.items ≡ replicate (length c.args.journals.now) None = search rules in
+    subst L (sym zeros) (listed_start c.args.topology.now c.args.journals.now c.in_ok-limits.limits.items c.new-links.result c.in_ok-lacks.lacks.items c.in_ok-ready.ready.items c.new-links.ensures.empty none c.in_ok-ready.ensures)
 
 pub bounds-journals-i : goal.bounds-journals-i
 bounds-journals-i c = place_in c.args.topology.now c.args.journals.now c.in_ok-limits.limits.items c.loop-i.taken.items c.loop-i.links c.loop-i.lacks.items c.loop-i.ready.items c.pop.new.self.items c.loop-i.tries c.in-Some.i c.loop-i.invariant c.in-Some.ensures.items
@@ -46,20 +45,25 @@ overflow_add-tries c =
 pub move_frames-requires : goal.move_frames-requires
 move_frames-requires c = c.if-is_next.ensures.0 refl
 
-pub loop-i-preserved-in-Continue-branch-6 : goal.loop-i-preserved-in-Continue-branch-6
-loop-i-preserved-in-Continue-branch-6 c =
-    looked_took c.args.topology.now c.args.journals.now c.in_ok-limits.limits.items c.loop-i.taken.items c.loop-i.links c.move_frames.new.links c.loop-i.lacks.items c.deref_mut.result.now c.wake.new.lacks c.loop-i.ready.items c.pop.new.self.items c.wake.new.ready.items
-    c.loop-i.tries c.in-Some.i c.index-at.result.now c.index-limit.result.now c.site-site.result c.loop-i.lacks.len c.index-journals-i.result c.entries-entries.result.now c.index-entries-at.result c.requires.once c.in_ok-limits.ensures c.loop-i.invariant c.in-Some.ensures.items
-    c.index-at.ensures c.index-limit.ensures c.index-journals-i.is c.site-site.ensures c.entries-entries.ensures.value c.if-at-limit.true c.index-entries-at.is (c.if-is_next.ensures.0 refl) c.in_ok-move_frames.ensures c.in_ok-wake.ensures c.deref_mut.ensures.value c.wake.auto.lacks c.loop-i.lacks.ok.0
+pub loop-i-preserved-in-Continue-branch-7 : goal.loop-i-preserved-in-Continue-branch-7
+loop-i-preserved-in-Continue-branch-7 c =
+    let lacks = take c.loop-i.lacks.len (c.wake.new.lacks ++ drop (length c.wake.new.lacks) c.loop-i.lacks.items) in
+    subst (λ r. Listed c.args.topology.now c.args.journals.now c.in_ok-limits.limits.items (set c.loop-i.taken.items c.in-Some.i (c.index-at.result.now + 1)) c.move_frames.new.links lacks r (c.loop-i.tries + 1)) (sym c.in_ok-push.ensures.items)
+    (looked_took c.args.topology.now c.args.journals.now c.in_ok-limits.limits.items c.loop-i.taken.items c.loop-i.links c.move_frames.new.links c.loop-i.lacks.items c.deref_mut.result.now c.wake.new.lacks c.loop-i.ready.items c.pop.new.self.items c.wake.new.ready.items
+    c.loop-i.tries c.in-Some.i c.index-at.result.now c.index-limit.result.now c.site-site.result c.loop-i.lacks.len c.index-journals-i.result c.entries-entries.result.now c.index-entries-at.result c.as_slice.result.now c.requires.once c.in_ok-limits.ensures c.loop-i.invariant c.in-Some.ensures.items
+    c.index-at.ensures c.index-limit.ensures c.index-journals-i.is c.site-site.ensures c.entries-entries.ensures.value c.if-at-limit.true c.index-entries-at.is (c.if-is_next.ensures.0 refl) c.in_ok-move_frames.ensures c.as_slice.ensures c.in_ok-wake.ensures c.deref_mut.ensures.value c.loop-i.lacks.ok.0)
 
-pub loop-i-smaller-in-Continue-branch-6 : goal.loop-i-smaller-in-Continue-branch-6
-loop-i-smaller-in-Continue-branch-6 c =
-    work_step c.args.topology.now c.args.journals.now c.in_ok-limits.limits.items c.loop-i.taken.items c.loop-i.links c.loop-i.lacks.items c.deref_mut.result.now c.loop-i.ready.items c.pop.new.self.items c.wake.new.ready.items _ c.move_frames.new.links 0
+pub loop-i-smaller-in-Continue-branch-7 : goal.loop-i-smaller-in-Continue-branch-7
+loop-i-smaller-in-Continue-branch-7 c =
+    subst (λ r. work c.args.journals.now (set c.loop-i.taken.items c.in-Some.i (c.index-at.result.now + 1)) r < work c.args.journals.now c.loop-i.taken.items c.loop-i.ready.items) (sym c.in_ok-push.ensures.items)
+    (work_step c.args.topology.now c.args.journals.now c.in_ok-limits.limits.items c.loop-i.taken.items c.loop-i.links c.loop-i.lacks.items c.loop-i.ready.items c.pop.new.self.items (c.wake.new.ready.items ++ c.in-Some.i ∷ []) _ c.move_frames.new.links
     c.loop-i.tries c.in-Some.i c.index-at.result.now c.in_ok-limits.ensures c.loop-i.invariant c.in-Some.ensures.items c.index-at.ensures
     (looked_took c.args.topology.now c.args.journals.now c.in_ok-limits.limits.items c.loop-i.taken.items c.loop-i.links c.move_frames.new.links c.loop-i.lacks.items c.deref_mut.result.now c.wake.new.lacks c.loop-i.ready.items c.pop.new.self.items c.wake.new.ready.items
-    c.loop-i.tries c.in-Some.i c.index-at.result.now c.index-limit.result.now c.site-site.result c.loop-i.lacks.len c.index-journals-i.result c.entries-entries.result.now c.index-entries-at.result c.requires.once c.in_ok-limits.ensures c.loop-i.invariant c.in-Some.ensures.items
-    c.index-at.ensures c.index-limit.ensures c.index-journals-i.is c.site-site.ensures c.entries-entries.ensures.value c.if-at-limit.true c.index-entries-at.is (c.if-is_next.ensures.0 refl) c.in_ok-move_frames.ensures c.in_ok-wake.ensures c.deref_mut.ensures.value c.wake.auto.lacks c.loop-i.lacks.ok.0)
-    c.deref_mut.ensures.value c.in_ok-wake.ensures.bound
+    c.loop-i.tries c.in-Some.i c.index-at.result.now c.index-limit.result.now c.site-site.result c.loop-i.lacks.len c.index-journals-i.result c.entries-entries.result.now c.index-entries-at.result c.as_slice.result.now c.requires.once c.in_ok-limits.ensures c.loop-i.invariant c.in-Some.ensures.items
+    c.index-at.ensures c.index-limit.ensures c.index-journals-i.is c.site-site.ensures c.entries-entries.ensures.value c.if-at-limit.true c.index-entries-at.is (c.if-is_next.ensures.0 refl) c.in_ok-move_frames.ensures c.as_slice.ensures c.in_ok-wake.ensures c.deref_mut.ensures.value c.loop-i.lacks.ok.0))
+
+pub wake-requires-clause-long : goal.wake-requires-clause-long
+wake-requires-clause-long c = ap length c.deref_mut.ensures.value ∙ c.loop-i.invariant.long
 
 pub loop-i-preserved-in-Got : goal.loop-i-preserved-in-Got
 loop-i-preserved-in-Got c =
@@ -73,7 +77,7 @@ loop-i-preserved-in_default-event c =
 
 pub loop-i-preserved-else-at-limit : goal.loop-i-preserved-else-at-limit
 loop-i-preserved-else-at-limit c =
-    looked_done c.args.topology.now c.args.journals.now c.in_ok-limits.limits.items c.loop-i.taken.items c.loop-i.links c.loop-i.lacks.items c.loop-i.ready.items c.pop.new.self.items c.loop-i.tries c.in-Some.i c.index-at.result.now c.index-limit.result.now c.index-journals-i.result c.in_ok-limits.ensures c.loop-i.invariant c.in-Some.ensures.items c.index-at.ensures c.index-limit.ensures c.index-journals-i.is c.if-at-limit.false
+    looked_done c.args.topology.now c.args.journals.now c.in_ok-limits.limits.items c.loop-i.taken.items c.loop-i.links c.loop-i.lacks.items c.loop-i.ready.items c.pop.new.self.items c.loop-i.tries c.in-Some.i c.index-at.result.now c.index-limit.result.now c.index-journals-i.result c.entries-entries.result.now c.in_ok-limits.ensures c.loop-i.invariant c.in-Some.ensures.items c.index-at.ensures c.index-limit.ensures c.index-journals-i.is c.entries-entries.ensures.value c.if-at-entries.true c.if-at-limit.false
 
 pub loop-i-preserved : goal.loop-i-preserved
 loop-i-preserved c =

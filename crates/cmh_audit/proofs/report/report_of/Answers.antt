@@ -31,7 +31,7 @@ count_frames-in_transit-requires c =
 pub invariant_of-result : goal.invariant_of-result
 invariant_of-result c =
     let long = firsts-length c.in_ok-graph.graph.waits.items c.deref.result.now c.in_ok-cycles.cycles.items c.in_ok-cycles.ensures in
-    long ∙ ap length c.deref.ensures.value
+    (long ∙ ap length c.deref.ensures.value, c.in_ok-declared.ensures.ascending)
 
 pub returns-clause-reports : goal.returns-clause-reports
 returns-clause-reports c = λ run is_run come.

@@ -4,11 +4,11 @@ use Rattle.std.specs.List.Sorted.{IsStrictlyIncreasing}
 use Rattle.cmh_frames.specs.Topology.{sites_of}
 use Rattle.cmh_audit.specs.Journals.{entry_count}
 use Rattle.cmh_audit.specs.Stops.{stops_at, AreStops}
-use Rattle.cmh_audit.specs.Verdicts.{entries_before}
+use Rattle.cmh_audit.specs.Verdicts.{entries_before, sent_before}
 use Rattle.cmh_audit.proofs.AuditLemmas.{set_few, tries_fit, all_left}
 use Rattle.cmh_model.proofs.Beginnings.{empty_list, some_list}
 use Rattle.cmh_audit.proofs.CountingLemmas.{ascending_apart}
-use Rattle.cmh_audit.proofs.TryLemmas.{looks_made, no_stops}
+use Rattle.cmh_audit.proofs.TryLemmas.{looks_made, few_looks, no_stops}
 use Rattle.cmh_audit.proofs.StopLemmas.{are_stops, come_from, stops_refuse}
 use Rattle.cmh_audit.proofs.verdict.audit.Goals as goal
 
@@ -70,5 +70,22 @@ returns-clause-looked c =
     let rows : c.new.result.rows ≡ stops_at (sites_of c.args.topology.now) c.args.journals.now c.in_ok-merged.merged.taken.items = c.new.ensures.rows ∙ c.in_ok-rows.ensures ∙ ap (λ ss. stops_at ss c.args.journals.now c.deref.result.now) c.sites-sites.ensures.value ∙ ap (stops_at (sites_of c.args.topology.now) c.args.journals.now) c.deref.ensures.value in
     let L : List (ℕ × ℕ) → Type 0 = λ stops. entries_before stops c.args.journals.now + length stops ≤ c.in_ok-merged.merged.tries in
     let looks = subst L (sym rows) (looks_made c.args.topology.now c.args.journals.now c.in_ok-merged.merged.taken.items c.in_ok-merged.merged.tries (ascending_apart (sites_of c.args.topology.now) (subst IsStrictlyIncreasing c.sites-sites.ensures.value c.sites-sites.ensures.ascending)) c.requires c.in_ok-merged.ensures.stuck c.in_ok-merged.ensures.looked) in
+    let same = c.new.ensures.tries in
+    omega (arith, looks, same)
+
+pub returns-then-is_empty-clause-caused : goal.returns-then-is_empty-clause-caused
+returns-then-is_empty-clause-caused c =
+    let none : stops_at (sites_of c.args.topology.now) c.args.journals.now c.in_ok-merged.merged.taken.items ≡ [] = sym (c.in_ok-rows.ensures ∙ ap (λ ss. stops_at ss c.args.journals.now c.deref.result.now) c.sites-sites.ensures.value ∙ ap (stops_at (sites_of c.args.topology.now) c.args.journals.now) c.deref.ensures.value) ∙ empty_list c.in_ok-rows.rows.items (sym c.in_ok-rows.rows.ok.0 ∙ eqb-true c.in_ok-rows.rows.len 0 (sym c.is_empty.ensures ∙ c.if-is_empty.true)) in
+    let L : List (ℕ × ℕ) → Type 0 = λ rows. c.in_ok-merged.merged.tries ≤ (entries_before rows c.args.journals.now + length rows) + sent_before rows c.args.journals.now in
+    let looks = subst L none (few_looks c.args.topology.now c.args.journals.now c.in_ok-merged.merged.taken.items c.in_ok-merged.merged.tries (ascending_apart (sites_of c.args.topology.now) (subst IsStrictlyIncreasing c.sites-sites.ensures.value c.sites-sites.ensures.ascending)) c.requires c.in_ok-merged.ensures.stuck c.in_ok-merged.ensures.looked) in
+    let all = no_stops c.args.journals.now in
+    let same = c.in_ok-report.ensures.tries in
+    omega (arith, looks, all, same)
+
+pub returns-clause-caused : goal.returns-clause-caused
+returns-clause-caused c =
+    let rows : c.new.result.rows ≡ stops_at (sites_of c.args.topology.now) c.args.journals.now c.in_ok-merged.merged.taken.items = c.new.ensures.rows ∙ c.in_ok-rows.ensures ∙ ap (λ ss. stops_at ss c.args.journals.now c.deref.result.now) c.sites-sites.ensures.value ∙ ap (stops_at (sites_of c.args.topology.now) c.args.journals.now) c.deref.ensures.value in
+    let L : List (ℕ × ℕ) → Type 0 = λ stops. c.in_ok-merged.merged.tries ≤ (entries_before stops c.args.journals.now + length stops) + sent_before stops c.args.journals.now in
+    let looks = subst L (sym rows) (few_looks c.args.topology.now c.args.journals.now c.in_ok-merged.merged.taken.items c.in_ok-merged.merged.tries (ascending_apart (sites_of c.args.topology.now) (subst IsStrictlyIncreasing c.sites-sites.ensures.value c.sites-sites.ensures.ascending)) c.requires c.in_ok-merged.ensures.stuck c.in_ok-merged.ensures.looked) in
     let same = c.new.ensures.tries in
     omega (arith, looks, same)

@@ -1,7 +1,7 @@
-use Rattle.std.proofs.Common.{◌≡◌, take, map}
-use Rattle.cmh_frames.specs.Topology.{site_in}
+use Rattle.std.proofs.Common.{◌≡◌, ℕ, ◌-◌, length, drop, slice_index_or, None}
+use Rattle.cmh_frames.specs.Topology.{home_in}
 use Rattle.cmh_frames.proofs.topology.homes_of.Given as goal
 
--- the homes of the processes so far
-abbrev pub invariant-loop-process : goal.invariant-loop-process
-invariant-loop-process l = l.homes.items ≡ map (site_in l.rows) (take l.process-index l.processes)
+-- the homes of the processes of the later rows
+abbrev pub invariant-loop-later : goal.invariant-loop-later
+invariant-loop-later l = (p : ℕ) → slice_index_or l.homes.items p None ≡ home_in (drop (length l.rows - l.later) l.rows) p

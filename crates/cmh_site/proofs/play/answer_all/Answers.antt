@@ -1,7 +1,7 @@
 use Rattle.std.proofs.Common.{ℕ, List, subst, inr}
 use Rattle.cmh_site.specs.Play.{IsSaidBy}
 use Rattle.cmh_site.proofs.Plays.{answered_all, answered_err, answered_fault_err, answered_some, answer_err, begun, endless_lines, played_more, read_err}
-use Rattle.cmh_site.specs.declared.faults.Fault.TheVariants.{Input}
+use Rattle.cmh_files.specs.declared.faults.Fault.TheVariants.{Input}
 use Rattle.cmh_site.proofs.play.answer_all.Goals as goal
 
 pub loop-turn-init : goal.loop-turn-init

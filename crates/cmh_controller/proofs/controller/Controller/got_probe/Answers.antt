@@ -1,14 +1,15 @@
-use Rattle.std.proofs.Common.{◌≡◌, ◌++◌, IsSome, List, None, map, sym, subst, ◌∙◌, ap}
+use Rattle.std.proofs.Common.{true, refl, ◌≡◌, ◌++◌, IsSome, List, None, map, sym, subst, ◌∙◌, ap}
 use Rattle.std.specs.List.{AllByRecursion}
 use Rattle.cmh_frames.specs.declared.frame.Frame.{Frame}
 use Rattle.cmh_frames.specs.declared.frame.Frame.TheVariants.{Probe}
 use Rattle.cmh_frames.specs.Topology.{At, home}
 use Rattle.cmh_model.specs.declared.event.Event.TheVariants.{Got}
 use Rattle.cmh_model.specs.Rules.{Sends}
-use Rattle.cmh_controller.specs.Controller.{Controller}
+use Rattle.cmh_controller.specs.Controller.{Controller, state_of}
 use Rattle.cmh_controller.specs.Destinations.{addressed, receiver_of}
 use Rattle.cmh_controller.proofs.OfSite.{member_here}
 use Rattle.cmh_controller.proofs.Probing.{receivers_known, receipt_declared, receipt_forward}
+use Rattle.cmh_controller.proofs.TakingBack.{IsBack, probe_back, probe_stands}
 use Rattle.cmh_controller.proofs.controller.Controller.got_probe.Goals as goal
 
 pub on_probe-requires : goal.on_probe-requires
@@ -22,18 +23,34 @@ send_each-requires c =
     subst (λ (fs : List Frame). AllByRecursion (λ frame. IsSome (home c.self.inside.topology (receiver_of frame))) fs) (sym c.deref.ensures.value)
     (receivers_known c.self.inside.topology c.self.inside.site c.self.inside.waits c.self.invariant c.args.origin c.args.to c.in-Forward.frames.items verdict.2)
 
-pub returns-in_ok-found-in-Declared-clause-sent : goal.returns-in_ok-found-in-Declared-clause-sent
-returns-in_ok-found-in-Declared-clause-sent c =
+pub returns-in_ok-found-in-Declared-clause-ok : goal.returns-in_ok-found-in-Declared-clause-ok
+returns-in_ok-found-in-Declared-clause-ok c =
     let inside = c.self.inside in
+    let old = c.args.self.now in
+    let found = c.in_ok-found-in-Declared.found in
     let verdict = rw c.in-Declared.is at c.in_ok-on_probe.ensures in
-    subst (λ (v : Controller). Sends v.topology v.site v.state (Got c.args.sender (Probe (c.args.origin, c.args.from, c.args.to))) c.new-in-Declared.result c.in_ok-found-in-Declared.found) c.self.view_is
-    (receipt_declared inside.topology inside.site inside.waits c.self.invariant inside.dependents inside.declared c.args.sender c.args.origin c.args.from c.args.to _ _ verdict.0 verdict.2 (c.new-in-Declared.ensures ∙ c.new.ensures.items) c.in_ok-found-in-Declared.ensures.new)
+    let ensures = c.in_ok-found-in-Declared.ensures in record {
+      accepted = c.requires;
+      sends =
+          subst (λ (v : Controller). Sends v.topology v.site v.state (Got c.args.sender (Probe (c.args.origin, c.args.from, c.args.to))) c.new-in-Declared.result found) c.self.view_is
+          (receipt_declared inside.topology inside.site inside.waits c.self.invariant inside.dependents inside.declared c.args.sender c.args.origin c.args.from c.args.to _ _ verdict.0 verdict.2 (c.new-in-Declared.ensures ∙ c.new.ensures.items) ensures.new);
+      stands = probe_stands inside.topology inside.site inside.waits inside.dependents _ inside.declared _ old c.args.sender c.args.origin c.args.from c.args.to found c.self.view_is verdict.0 ensures.dependents ensures.declared;
+      back = subst (λ (v : Controller). IsBack v (Got c.args.sender (Probe (c.args.origin, c.args.from, c.args.to))) true found) c.self.view_is
+          (probe_back inside.topology inside.site (state_of inside.waits inside.dependents inside.declared) c.args.sender c.args.origin c.args.from c.args.to found verdict.0 ensures.back);
+    }
 
-pub returns-in_ok-add-in-Forward-clause-sent : goal.returns-in_ok-add-in-Forward-clause-sent
-returns-in_ok-add-in-Forward-clause-sent c =
+pub returns-in_ok-add-in-Forward-clause-ok : goal.returns-in_ok-add-in-Forward-clause-ok
+returns-in_ok-add-in-Forward-clause-ok c =
     let inside = c.self.inside in
+    let old = c.args.self.now in
     let verdict = rw c.in-Forward.is at c.in_ok-on_probe.ensures in
     let added = subst (λ (fs : List Frame). c.send_each.new.sent.items ≡ c.new-sent.result.items ++ map (addressed inside.topology) fs) c.deref.ensures.value c.in_ok-send_each-in-Forward.ensures in
-    let sent = c.new-in-Forward.ensures ∙ added ∙ ap (λ fs. fs ++ map (addressed inside.topology) c.in-Forward.frames.items) c.new-sent.ensures.items in
-    subst (λ (v : Controller). Sends v.topology v.site v.state (Got c.args.sender (Probe (c.args.origin, c.args.from, c.args.to))) c.new-in-Forward.result None) c.self.view_is
-    (receipt_forward inside.topology inside.site inside.waits c.self.invariant inside.dependents inside.declared c.args.sender c.args.origin c.args.from c.args.to c.in-Forward.frames.items _ verdict.0 verdict.1 verdict.2 sent)
+    let sent = c.new-in-Forward.ensures ∙ added ∙ ap (λ fs. fs ++ map (addressed inside.topology) c.in-Forward.frames.items) c.new-sent.ensures.items in record {
+      accepted = c.requires;
+      sends =
+          subst (λ (v : Controller). Sends v.topology v.site v.state (Got c.args.sender (Probe (c.args.origin, c.args.from, c.args.to))) c.new-in-Forward.result None) c.self.view_is
+          (receipt_forward inside.topology inside.site inside.waits c.self.invariant inside.dependents inside.declared c.args.sender c.args.origin c.args.from c.args.to c.in-Forward.frames.items _ verdict.0 verdict.1 verdict.2 sent);
+      stands = probe_stands inside.topology inside.site inside.waits inside.dependents _ inside.declared _ old c.args.sender c.args.origin c.args.from c.args.to None c.self.view_is verdict.0 c.in_ok-add-in-Forward.ensures.ok refl;
+      back = subst (λ (v : Controller). IsBack v (Got c.args.sender (Probe (c.args.origin, c.args.from, c.args.to))) true None) c.self.view_is
+          (probe_back inside.topology inside.site (state_of inside.waits inside.dependents inside.declared) c.args.sender c.args.origin c.args.from c.args.to None verdict.0 refl);
+    }

@@ -1,41 +1,51 @@
-use Rattle.std.proofs.Common.{◌≡◌, false, not, ◌==◌, ap, ◌∙◌, subst}
-use Rattle.cmh_model.specs.Relation.{Relation, has_some, only_firsts, with_each}
-use Rattle.cmh_waits.specs.Held.{Held, IsKept}
-use Rattle.cmh_waits.specs.Pairs.{with_all}
-use Rattle.cmh_waits.proofs.Asks.{asked_is, same_held, undone, waited_is, waits_undone}
+use Rattle.std.proofs.Common.{◌≡◌, ◌<◌, ◌&&◌, ◌||◌, ◌==◌, not, ℕ, List, length, get_or, ap, ◌∙◌, sym, subst}
+use Rattle.std.specs.List.{filter}
+use Rattle.std.specs.List.Sorted.{IsStrictlyIncreasing}
+use Rattle.std.proofs.lemmas.List.Kept.{IsStrictlyIncreasing-filter}
+use Rattle.cmh_model.specs.Relation.{has_some}
+use Rattle.cmh_waits.specs.Held.{Held, IsKept, asked}
+use Rattle.cmh_waits.specs.Rows.{bit_of, is_at_in, is_in, is_set}
+use Rattle.cmh_waits.proofs.Asks.{same_held, undone}
 use Rattle.cmh_waits.proofs.Kept.{kept_as, kept_ask}
+use Rattle.cmh_waits.proofs.AskLemmas.{increasing_from, owed_asked, rows_owing, rows_asked, waits_asked}
 use Rattle.cmh_waits.proofs.local_waits.LocalWaits.ask.Goals as goal
 
--- where there was no memory for what members owe, the waits of the ask are gone again
-module _ (c : goal.After-drop-waited-in-Err) where
-  waited : c.insert_all.new.self ≡ with_each c.self.inside.waits c.args.asker c.args.targets.now
-  waited = c.in_ok-insert_all.ensures.ok ∙ ap (with_all c.self.inside.waits) (c.deref-2.ensures.value ∙ c.in_ok-waited.ensures) ∙ waited_is c.self.inside.waits c.args.asker c.args.targets.now
+pub new-requires : goal.new-requires
+new-requires c = subst IsStrictlyIncreasing (sym c.in_ok-others.ensures) (IsStrictlyIncreasing-filter _ c.args.targets.now (increasing_from c.args.targets.now c.requires.ascending))
 
-  active : has_some c.self.inside.waits c.args.asker ≡ false
-  active = ap (λ (v : Held). has_some v.waits c.args.asker) c.self.view_is ∙ c.requires.active
+pub invariant_of-self : goal.invariant_of-self
+invariant_of-self c =
+    let w = c.self.inside in
+    let ms = w.members.items in
+    let p = c.in-Some.place in
+    let j = c.args.asker in
+    let ts = c.args.targets.now in
+    let at = subst (λ (xs : List ℕ). (p < length xs) × (get_or xs p 0 ≡ j)) c.deref-2.ensures.value c.in-Some.ensures in
+    let up = c.self.invariant.2.ascending in
+    let bits = subst (λ (xs : List ℕ). (k : ℕ) → is_set c.row_of.result k ≡ is_at_in xs ts k) c.deref-in-Some.ensures.value c.row_of.ensures in
+    let list = subst (λ (xs : List ℕ). c.new.result ≡ filter (λ k. not (is_in xs k)) ts) c.deref.ensures.value (c.new.ensures ∙ c.in_ok-others.ensures) in
+    let owes = subst (λ (xs : List ℕ). (a b : ℕ) → bit_of c.owe_each.new.owed.items a b ≡ (((b == p) && is_at_in xs ts a) || bit_of w.owed.items a b)) c.deref-in-Some-2.ensures.value c.owe_each.ensures.bits in
+    let active = ap (λ (v : Held). has_some v.waits j) c.self.view_is ∙ c.requires.active in (
+      rows_asked ms w.waits.items w.remote_waits.items up c.self.invariant.0 p j at.0 at.1 ts c.row_of.result c.new.result bits list,
+      rows_owing ms w.owed.items w.remote_owed.items up c.self.invariant.1 p j at.0 at.1 ts c.owe_each.new.owed.items c.owe_each.ensures.len owes,
+      kept_as _ _ (same_held ms _ _ _ _ (waits_asked ms w.waits.items w.remote_waits.items up c.self.invariant.0 p j at.0 at.1 ts c.row_of.result c.new.result bits list active) (owed_asked ms w.owed.items w.remote_owed.items up c.self.invariant.1 p j at.0 at.1 ts c.owe_each.new.owed.items c.owe_each.ensures.len owes) ∙ ap (λ (v : Held). asked v j ts) c.self.view_is) (kept_ask c.args.self.now j ts (subst IsKept c.self.view_is c.self.invariant.2)),
+    )
 
-  unchanged : ◌≡◌ {A = Held} (record { members = c.self.inside.members.items; waits = c.remove_first.new.self; owed = c.insert_all-2.new.self }) (record { members = c.self.inside.members.items; waits = c.self.inside.waits; owed = c.self.inside.owed })
-  unchanged = same_held c.self.inside.members.items _ _ _ _
-      (c.remove_first.ensures ∙ ap (λ (r : Relation). only_firsts r (λ p. not (p == c.args.asker))) waited ∙ waits_undone c.self.inside.waits c.args.asker c.args.targets.now active)
-      c.in-Err.ensures.err
+pub returns-in-Some-clause-ok : goal.returns-in-Some-clause-ok
+returns-in-Some-clause-ok c =
+    let w = c.self.inside in
+    let ms = w.members.items in
+    let p = c.in-Some.place in
+    let j = c.args.asker in
+    let ts = c.args.targets.now in
+    let at = subst (λ (xs : List ℕ). (p < length xs) × (get_or xs p 0 ≡ j)) c.deref-2.ensures.value c.in-Some.ensures in
+    let up = c.self.invariant.2.ascending in
+    let bits = subst (λ (xs : List ℕ). (k : ℕ) → is_set c.row_of.result k ≡ is_at_in xs ts k) c.deref-in-Some.ensures.value c.row_of.ensures in
+    let list = subst (λ (xs : List ℕ). c.new.result ≡ filter (λ k. not (is_in xs k)) ts) c.deref.ensures.value (c.new.ensures ∙ c.in_ok-others.ensures) in
+    let owes = subst (λ (xs : List ℕ). (a b : ℕ) → bit_of c.owe_each.new.owed.items a b ≡ (((b == p) && is_at_in xs ts a) || bit_of w.owed.items a b)) c.deref-in-Some-2.ensures.value c.owe_each.ensures.bits in
+    let active = ap (λ (v : Held). has_some v.waits j) c.self.view_is ∙ c.requires.active in
+    same_held ms _ _ _ _ (waits_asked ms w.waits.items w.remote_waits.items up c.self.invariant.0 p j at.0 at.1 ts c.row_of.result c.new.result bits list active) (owed_asked ms w.owed.items w.remote_owed.items up c.self.invariant.1 p j at.0 at.1 ts c.owe_each.new.owed.items c.owe_each.ensures.len owes) ∙ ap (λ (v : Held). asked v j ts) c.self.view_is
 
-pub invariant_of-self-in-Err : goal.invariant_of-self-in-Err
-invariant_of-self-in-Err c = kept_as _ _ (unchanged c) c.self.invariant
-
-pub returns-in-Err-clause-err : goal.returns-in-Err-clause-err
-returns-in-Err-clause-err c = unchanged c ∙ c.self.view_is
-
-pub invariant_of-self-in_default : goal.invariant_of-self-in_default
-invariant_of-self-in_default c = kept_as _ _
-    (asked_is c.args.self.now c.self.inside.members.items c.deref.result.now c.self.inside.waits c.self.inside.owed _ _ c.deref-2.result.now c.deref-3.result.now c.args.asker c.args.targets.now c.self.view_is c.deref.ensures.value
-    c.in_ok-insert_all.ensures.ok c.in_default.ensures.ok (c.deref-2.ensures.value ∙ c.in_ok-waited.ensures) (c.deref-3.ensures.value ∙ c.in_ok-owing.ensures))
-    (kept_ask c.args.self.now c.args.asker c.args.targets.now (subst IsKept c.self.view_is c.self.invariant))
-
-pub returns-clause-ok : goal.returns-clause-ok
-returns-clause-ok c =
-    asked_is c.args.self.now c.self.inside.members.items c.deref.result.now c.self.inside.waits c.self.inside.owed _ _ c.deref-2.result.now c.deref-3.result.now c.args.asker c.args.targets.now c.self.view_is c.deref.ensures.value
-    c.in_ok-insert_all.ensures.ok c.in_default.ensures.ok (c.deref-2.ensures.value ∙ c.in_ok-waited.ensures) (c.deref-3.ensures.value ∙ c.in_ok-owing.ensures)
-
-pub returns-clause-undone : goal.returns-clause-undone
-returns-clause-undone c =
-    undone c.args.self.now _ c.args.asker c.args.targets.now (subst IsKept c.self.view_is c.self.invariant).waiting c.requires.member c.requires.active (returns-clause-ok c)
+pub returns-in-Some-clause-undone : goal.returns-in-Some-clause-undone
+returns-in-Some-clause-undone c =
+    undone c.args.self.now _ c.args.asker c.args.targets.now (subst IsKept c.self.view_is c.self.invariant.2).waiting c.requires.member c.requires.active (returns-in-Some-clause-ok c)

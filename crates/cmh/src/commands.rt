@@ -1,0 +1,110 @@
+//! The command line: its commands and their arguments.
+
+use crate::help::Help;
+use clap::{Arg, ArgAction, Command, Error, value_parser};
+use std::alloc::Global;
+
+pub const AUDIT: &str = "audit";
+
+pub const SITE: &str = "site";
+
+pub const CLUSTER: &str = "cluster";
+
+pub const TOPOLOGY: &str = "topology";
+
+pub const JOURNALS: &str = "journals";
+
+pub const JOURNAL: &str = "journal";
+
+pub const SCRIPT: &str = "script";
+
+pub const OUT: &str = "out";
+
+/// The command line.
+pub fn command<'a>(alloc: Global, help: &'a Help) -> Result<Command<'a>, Error> {
+    let play = Command::new(alloc, "play")
+        .about(
+            "Plays a script from standard input on a world of sites in memory, and answers each line",
+        )
+        .override_usage("cmh play < FILE")
+        .after_help(help.play.as_str());
+    let cmh = Command::new(alloc, "cmh")
+        .version("0.1.0")
+        .about(
+            "Plays or runs sites whose processes wait for each other and find their deadlocks by probes, and audits their \
+             journals. Without a command it plays a script.",
+        )
+        .after_help(Help::COMMANDS)
+        .subcommand(play)?
+        .subcommand(site_command(alloc, help)?)?
+        .subcommand(cluster_command(alloc, help)?)?
+        .subcommand(audit_command(alloc, help)?)?;
+    Ok(cmh)
+}
+
+fn audit_command<'a>(alloc: Global, help: &'a Help) -> Result<Command<'a>, Error> {
+    let journals = Arg::new(alloc, JOURNALS)
+        .value_name("JOURNAL")
+        .help("The journal files of all sites, in any order")
+        .required(true)
+        .action(ArgAction::Append);
+    let audit = Command::new(alloc, AUDIT)
+        .about(
+            "Tells whether the journals of all sites come from one run, and who waits and is deadlocked at its end",
+        )
+        .after_help(help.audit.as_str())
+        .arg(topology_arg(alloc))?
+        .arg(journals)?;
+    Ok(audit)
+}
+
+fn site_command<'a>(alloc: Global, help: &'a Help) -> Result<Command<'a>, Error> {
+    let site = Arg::new(alloc, SITE)
+        .long(SITE)
+        .value_name("NUMBER")
+        .help("The number of the site, 1 to 9999")
+        .required(true)
+        .value_parser(value_parser!(u16).range(1..=9999))
+        .action(ArgAction::Set);
+    let journal = path_arg(alloc, JOURNAL, "FILE").help(
+        "The journal that it writes; a file that stands there and isn't empty is kept as FILE.1, FILE.2 and so on",
+    );
+    let command = Command::new(alloc, SITE)
+        .about(
+            "Runs one site: answers lines from standard input, talks to the other sites over 127.0.0.1, and keeps a journal",
+        )
+        .after_help(help.site.as_str())
+        .arg(topology_arg(alloc))?
+        .arg(site)?
+        .arg(journal)?;
+    Ok(command)
+}
+
+fn cluster_command<'a>(alloc: Global, help: &'a Help) -> Result<Command<'a>, Error> {
+    let script = path_arg(alloc, SCRIPT, "FILE").help("The lines that the sites are given");
+    let out = path_arg(alloc, OUT, "DIR").help(
+        "The folder for the journals site-N.cmhj, which has to be there; journals of the run before are replaced",
+    );
+    let command = Command::new(alloc, CLUSTER)
+        .about(
+            "Runs all sites as threads over 127.0.0.1, waits after each line until all frames have come, and audits the journals",
+        )
+        .after_help(help.cluster.as_str())
+        .arg(topology_arg(alloc))?
+        .arg(script)?
+        .arg(out)?;
+    Ok(command)
+}
+
+fn topology_arg<'a>(alloc: Global) -> Arg<'a> {
+    path_arg(alloc, TOPOLOGY, "FILE").help("The JSON file that names the sites and their processes")
+}
+
+/// An option whose value is a path.
+fn path_arg<'a>(alloc: Global, name: &'a str, value: &'a str) -> Arg<'a> {
+    Arg::new(alloc, name)
+        .long(name)
+        .value_name(value)
+        .required(true)
+        .action(ArgAction::Set)
+}

@@ -1,0 +1,230 @@
+//! What `--help` tells behind the words of a command: the language, the numbers and the statuses.
+
+use cmh_audit::SetFault;
+use cmh_controller::Refusal;
+use cmh_frames::TopologyFault;
+use cmh_journal::JournalFault;
+use std::alloc::{AllocError, Global};
+use std::fmt;
+
+const SCRIPT: &str = "\
+Lines of a script, by words; a line that fits none is answered `bad line`:
+  # ..           a comment; it and an empty line have no answer
+  edition N      the rules, 1 or 2, before the first site
+  site S P..     a site and its processes, before the first command
+  ask J K..      process J asks for what others hold, and waits for all of them
+  reply J K      process J grants what it holds to K, which asked for it
+  start J        a computation looks for a deadlock of process J
+  deliver A B    hands over the oldest frame from site A to site B
+  cut A B        cuts the link from site A to site B; what is under way is lost
+  report         audits the journals of all sites as they stand
+";
+
+const PLAY_STATUSES: &str = "\
+Statuses: 0 at the script's end, 1 where memory ran out, 2 for a command line that isn't understood, 3 at another
+fault, which is named on standard error: `fault input`, `fault output`.
+
+Example: printf 'site 1 1 2\\nask 1 2\\nask 2 1\\nstart 1\\nreport\\n' | cmh play
+";
+
+const SITE_LINES: &str = "\
+Lines of standard input; a line that fits none is answered `bad line`, and each is answered before the next is read:
+  # ..           a comment; it and an empty line have no answer
+  ask J K..      process J of this site asks for what others hold, and waits for all of them
+  reply J K      process J of this site grants what it holds to K, which asked for it
+  start J        a computation looks for a deadlock of process J of this site
+  declared       the processes of this site that were found deadlocked
+  connect        opens the links to all other sites, which should be listening; once
+  links          the state of each link: `new`, `open` or `closed N`
+  quit           ends the site, as the end of the input does
+
+The first line that it prints is `listening`, the last one `stopped`. An answer `ok` comes after its entry is in the
+journal and synced, so the journal can be audited whenever and however the site ends.
+";
+
+const CLUSTER_LINES: &str = "\
+Lines of the script; a line that fits none is answered `bad line`:
+  # ..           a comment; it and an empty line have no answer
+  ask J K..      process J asks for what others hold, and waits for all of them
+  reply J K      process J grants what it holds to K, which asked for it
+  start J        a computation looks for a deadlock of process J
+  declared S     the processes of site S that were found deadlocked
+
+After the script it prints `link A B closed N` for each link that had closed, and then the audit.
+Each link takes two open files, so N sites take about 2 N N of them: under the usual limit of 1,024 some 20 sites, and
+all 64 under 20,000 (`ulimit -n`).
+";
+
+const LINK_FAULTS: &str = "\
+Why a link is closed, as in `closed 5`:
+   1  it could not be connected
+   2  a read failed
+   3  a write failed
+   4  its bytes are no frames, or a frame was unlawful
+   5  its other end has ended
+   6  memory or a thread was refused
+   7  the station takes no more steps
+";
+
+const SITE_STATUSES: &str = "\
+Statuses: 0 at the end, 1 where memory ran out, 2 for a command line that isn't understood, 3 at a fault, which is named
+on standard error: `fault file topology`, `fault json`, `fault topology N`, `fault site` (it isn't in the topology),
+`fault journal disk`, `fault listen` (its port is taken), `fault input`, `fault output`.
+
+Example: (echo connect; echo ask 1 2; cat) | cmh site --topology world.json --site 1 --journal one.cmhj
+";
+
+const CLUSTER_STATUSES: &str = "\
+Statuses: 0 accepted, 1 refused, out of memory, or `not settled` (frames didn't come), 2 for a command line that isn't
+understood, 3 at a fault, which is named on standard error: `fault file P` (P is `topology`, `script` or `out`),
+`fault json`, `fault topology N`, `fault listen` (a port is taken), `fault journal P N`, `fault output`.
+
+Example: cmh cluster --topology world.json --script asks --out journals
+";
+
+const AUDIT_STATUSES: &str = "\
+Statuses: 0 accepted, 1 refused or out of memory, 2 for a command line that isn't understood, 3 at a fault, which is
+named on standard error: `fault file P`, `fault json`, `fault topology N`, `fault journal P N`, `fault set N`,
+`fault output`. P is `topology`, or the place of a journal in the command, from 1.
+
+Example: cmh audit --topology world.json one.cmhj two.cmhj
+";
+
+const COMMANDS: &str = "\
+`cmh play --help` has the language of scripts, `cmh site --help` and `cmh cluster --help` that of running sites,
+`cmh audit --help` the faults of files.
+
+Example: cmh play < examples/cycle-over-two-sites.script
+";
+
+const REFUSALS: [Refusal; 9] = [
+    Refusal::UnknownProcess,
+    Refusal::NotHere,
+    Refusal::BadTargets,
+    Refusal::Blocked,
+    Refusal::NotBlocked,
+    Refusal::NotOwed,
+    Refusal::AlreadyDeclared,
+    Refusal::Unlawful,
+    Refusal::Memory,
+];
+
+const TOPOLOGY_FAULTS: [TopologyFault; 5] = [
+    TopologyFault::Limit,
+    TopologyFault::RepeatedSite,
+    TopologyFault::RepeatedProcess,
+    TopologyFault::BadNumber,
+    TopologyFault::Memory,
+];
+
+const SET_FAULTS: [SetFault; 4] = [
+    SetFault::UnknownSite,
+    SetFault::OtherEdition,
+    SetFault::RepeatedSite,
+    SetFault::MissingSite,
+];
+
+/// What stands behind the words of each command.
+#[derive(Debug, Drop)]
+pub struct Help {
+    pub play: String,
+    pub site: String,
+    pub cluster: String,
+    pub audit: String,
+}
+
+impl Help {
+    /// Behind the words of `cmh` itself.
+    pub const COMMANDS: &'static str = COMMANDS;
+
+    pub fn new(alloc: Global) -> Result<Help, AllocError> {
+        Ok(Help {
+            play: play(alloc)?,
+            site: running(alloc, SITE_LINES, SITE_STATUSES)?,
+            cluster: running(alloc, CLUSTER_LINES, CLUSTER_STATUSES)?,
+            audit: audit(alloc)?,
+        })
+    }
+}
+
+fn play(alloc: Global) -> Result<String, AllocError> {
+    let mut text = String::from_str(alloc, SCRIPT)?;
+    write!(text, "\nRefusals, as in `refused 3`:\n")?;
+    refusals(&mut text)?;
+    write!(text, "\nFaults of sites, as in `topology 2`:\n")?;
+    topology_faults(&mut text)?;
+    write!(text, "\n{PLAY_STATUSES}")?;
+    Ok(text)
+}
+
+/// Of sites that run: the lines that they are given, refusals, faults of links and statuses.
+fn running(alloc: Global, lines: &str, statuses: &str) -> Result<String, AllocError> {
+    let mut text = String::from_str(alloc, lines)?;
+    write!(text, "\nRefusals, as in `refused 3`:\n")?;
+    refusals(&mut text)?;
+    write!(
+        text,
+        "   9  the journal could not be written, and no more steps are taken\n"
+    )?;
+    write!(text, "  10  the journal can't be written\n")?;
+    write!(text, "\n{LINK_FAULTS}\n{statuses}")?;
+    Ok(text)
+}
+
+fn refusals(text: &mut String) -> Result<(), AllocError> {
+    for refusal in REFUSALS {
+        row(text, refusal.number(), refusal)?;
+    }
+    row(text, 12, JournalFault::Full)?;
+    Ok(())
+}
+
+fn audit(alloc: Global) -> Result<String, AllocError> {
+    let mut text = String::from_str(
+        alloc,
+        "Faults of the topology file, as in `fault topology 2`:\n",
+    )?;
+    topology_faults(&mut text)?;
+    write!(
+        text,
+        "\nFaults of journal P, as in `fault journal P 2 at 7`:\n"
+    )?;
+    row(
+        &mut text,
+        JournalFault::BadHeader.number(),
+        JournalFault::BadHeader,
+    )?;
+    row(
+        &mut text,
+        JournalFault::BadEntry(7).number(),
+        JournalFault::BadEntry(7),
+    )?;
+    row(&mut text, JournalFault::Full.number(), JournalFault::Full)?;
+    row(
+        &mut text,
+        JournalFault::Memory.number(),
+        JournalFault::Memory,
+    )?;
+    write!(
+        text,
+        "\nFaults of the journals together, as in `fault set 4`:\n"
+    )?;
+    for fault in SET_FAULTS {
+        row(&mut text, fault.number(), fault)?;
+    }
+    write!(text, "\n{AUDIT_STATUSES}")?;
+    Ok(text)
+}
+
+fn topology_faults(text: &mut String) -> Result<(), AllocError> {
+    for fault in TOPOLOGY_FAULTS {
+        row(text, fault.number(), fault)?;
+    }
+    Ok(())
+}
+
+/// A line of a table: a number and what it stands for.
+fn row<T: fmt::Display + Drop>(text: &mut String, number: u8, what: T) -> Result<(), AllocError> {
+    write!(text, "  {number:>2}  {what}\n")?;
+    Ok(())
+}

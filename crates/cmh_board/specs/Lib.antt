@@ -1,0 +1,6 @@
+pub mod History
+pub mod Lists
+pub mod Rule
+pub mod Fronts
+pub mod Boards
+pub mod KeptBoard

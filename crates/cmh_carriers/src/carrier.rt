@@ -1,0 +1,113 @@
+//! What carries bytes between two sites. Each failing call raises `faults` by one, and no other call changes it.
+
+ghost use Rattle.std.specs.Prelude.{◌≡◌, ℕ, ◌+◌, ◌-◌, ◌<◌, ◌≤◌, ◌^◌, Bool, true, List, length, take, Option, IfOk, OnOk, OnErr};
+ghost use Rattle.cmh_journal.specs.Sink.{known_and};
+
+use cmh_frames::SiteId;
+use thiserror::Error;
+
+/// A call of a carrier failed.
+#[derive(Clone, Copy, Debug, PartialEq, Eq, Error)]
+#[error("the connection failed")]
+pub struct IoFault;
+
+/// Another handle of a connection, by which whoever waits in its `read` is let go.
+pub trait Line {
+    /// Ends the connection in both directions. A `read` that is under way answers the end.
+    fn shut(&self);
+}
+
+/// The receiving end of a connection.
+pub trait Incoming {
+    /// How many calls have failed.
+    ghost failures: { Self → ℕ };
+
+    /// The bytes that it gave, where it tells them.
+    ghost given: { Self → Option (List ℕ) };
+
+    /// Whether it told its end.
+    ghost is_over: { Self → Bool };
+
+    /// Gives the next bytes, and answers how many. Where the buffer isn't empty, 0 is the end. It may wait.
+    fn read(&mut self, buffer: &mut [u8]) -> Result<usize, IoFault>
+        requires countable { failures self.old < 2 ^ 64 - 1 }
+        ensures within { IfOk result (λ count. count ≤ length buffer.new) }
+        ensures given { IfOk result (λ count. given self.new ≡ known_and (given self.old) (take count buffer.new)) }
+        ensures over { result ≡ Ok 0 → 0 < length buffer.new → is_over self.new ≡ true }
+        ensures ok { OnOk result (failures self.new ≡ failures self.old) }
+        ensures none { OnErr result (given self.new ≡ given self.old) }
+        ensures err { OnErr result (failures self.new ≡ failures self.old + 1) };
+
+    /// How many calls have failed.
+    fn faults(&self) -> u64
+        ensures { result ≡ failures self.now };
+
+    /// Ends the connection, also where another handle of it is held.
+    fn shut(&self);
+}
+
+/// The sending end of a connection.
+pub trait Outgoing {
+    /// How many calls have failed.
+    ghost failures: { Self → ℕ };
+
+    /// The bytes that it took, where it tells them.
+    ghost taken: { Self → Option (List ℕ) };
+
+    /// Takes a beginning of the piece, at least one byte of it, and answers how many. It may wait.
+    fn write(&mut self, piece: &[u8]) -> Result<usize, IoFault>
+        requires countable { failures self.old < 2 ^ 64 - 1 }
+        ensures within { IfOk result (λ count. count ≤ length piece.now) }
+        ensures some { 0 < length piece.now → IfOk result (λ count. 0 < count) }
+        ensures taken { IfOk result (λ count. taken self.new ≡ known_and (taken self.old) (take count piece.now)) }
+        ensures ok { OnOk result (failures self.new ≡ failures self.old) }
+        ensures none { OnErr result (taken self.new ≡ taken self.old) }
+        ensures err { OnErr result (failures self.new ≡ failures self.old + 1) };
+
+    /// How many calls have failed.
+    fn faults(&self) -> u64
+        ensures { result ≡ failures self.now };
+}
+
+/// Where connections arrive.
+pub trait Listen {
+    type In: Incoming + Send + Drop + 'static;
+
+    type Line: Line + Send + Drop + 'static;
+
+    /// How many calls have failed.
+    ghost failures: { Self → ℕ };
+
+    /// Waits for the next connection.
+    fn accept(&mut self) -> Result<Self::In, IoFault>
+        requires countable { failures self.old < 2 ^ 64 - 1 }
+        ensures fresh { IfOk result (λ incoming. Self.In.failures incoming ≡ 0) }
+        ensures ok { OnOk result (failures self.new ≡ failures self.old) }
+        ensures err { OnErr result (failures self.new ≡ failures self.old + 1) };
+
+    /// Another handle of a connection. `None` where memory for one was refused.
+    fn line(&self, incoming: &Self::In) -> Option<Self::Line>;
+
+    /// How many calls have failed.
+    fn faults(&self) -> u64
+        ensures { result ≡ failures self.now };
+}
+
+/// What opens connections to other sites.
+pub trait Dial {
+    type Out: Outgoing + Send + Drop + 'static;
+
+    /// How many calls have failed.
+    ghost failures: { Self → ℕ };
+
+    /// Opens a connection to where a site listens. It may wait.
+    fn connect(&mut self, site: SiteId) -> Result<Self::Out, IoFault>
+        requires countable { failures self.old < 2 ^ 64 - 1 }
+        ensures fresh { IfOk result (λ outgoing. Self.Out.failures outgoing ≡ 0) }
+        ensures ok { OnOk result (failures self.new ≡ failures self.old) }
+        ensures err { OnErr result (failures self.new ≡ failures self.old + 1) };
+
+    /// How many calls have failed.
+    fn faults(&self) -> u64
+        ensures { result ≡ failures self.now };
+}

@@ -1,0 +1,10 @@
+//! What carries bytes between two sites: connections over TCP and over memory.
+#![tactic(auto)]
+
+mod carrier;
+mod memory;
+mod tcp;
+
+pub use crate::carrier::{Dial, Incoming, IoFault, Line, Listen, Outgoing};
+pub use crate::memory::{MemIncoming, MemOutgoing};
+pub use crate::tcp::{TcpDial, TcpIncoming, TcpLine, TcpListen, TcpOutgoing};

@@ -1,0 +1,4 @@
+pub mod FileLemmas
+pub mod JsonLemmas
+pub mod TextLemmas
+pub mod Headlines

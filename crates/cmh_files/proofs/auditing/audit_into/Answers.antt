@@ -1,0 +1,16 @@
+use Rattle.std.proofs.Common.{ℕ, List, subst, ◌∙◌}
+use Rattle.std.specs.Io.KnownBytes.{Appends}
+use Rattle.cmh_files.proofs.TextLemmas.{appends-kept}
+use Rattle.cmh_files.proofs.auditing.audit_into.Goals as goal
+
+pub returns-clause-wrote : goal.returns-clause-wrote
+returns-clause-wrote g c =
+    record {
+      edition = c.in_ok-audited.audited.edition;
+      cuts = c.in_ok-audited.audited.cuts.items;
+      verdict = c.in_ok-audited.audited.verdict;
+      audits = c.in_ok-audited.ensures.audits;
+      status_is = c.status_of-status.ensures;
+      wrote = subst (λ (text : List ℕ). Appends (g.W.Write.contents c.args.out.now.inner) (g.W.Write.contents c.flush.new.self.inner) text)
+          (c.as_str.ensures.value ∙ c.in_ok-text.ensures) (appends-kept _ _ _ _ c.in_ok-write_text.ensures.bytes c.flush.ensures.bytes);
+    }

@@ -1,0 +1,151 @@
+-- An audit: from the bytes of its files to the auditor's verdict.
+use Rattle.std.specs.Prelude.{◌≡◌, ℕ, ◌+◌, Bool, true, ◌⊎◌, List, [], ◌∷◌, ◌++◌, length, ⊤, Option, Some}
+use Rattle.std.specs.List.Sorted.{IsPermutation, IsSorted}
+use Rattle.std.specs.Io.KnownBytes.{Appends}
+use Rattle.cmh_frames.specs.declared.edition.Edition.{Edition}
+use Rattle.cmh_frames.specs.Rows.{Row, IsFaultOf}
+use Rattle.cmh_frames.specs.declared.rows.TopologyFault.{TopologyFault}
+use Rattle.cmh_frames.specs.Topology.{Topology, IsTopologyOf}
+use Rattle.cmh_model.specs.Relation.{pair_cmp}
+use Rattle.cmh_journal.specs.declared.journal.JournalFault.{JournalFault}
+use Rattle.cmh_journal.specs.declared.tail.Tail.{Tail}
+use Rattle.cmh_journal.specs.declared.tail.Tail.TheVariants.{Whole, Cut}
+use Rattle.cmh_journal.specs.File.{IsFileOf, IsFault}
+use Rattle.cmh_journal.specs.Journal.{Journal}
+use Rattle.cmh_audit.specs.Set as set
+use Rattle.cmh_audit.specs.Set.{IsSet}
+use Rattle.cmh_audit.specs.declared.set.SetFault.{SetFault}
+use Rattle.cmh_audit.specs.Verdicts.{IsVerdictOn}
+use Rattle.cmh_audit.specs.declared.verdict.Verdict.{Verdict}
+use Rattle.cmh_audit.specs.declared.verdict.Verdict.TheVariants.{Accepted, Refused}
+use Rattle.cmh_files.specs.AuditTexts.{cuts_text, verdict_text}
+use Rattle.cmh_files.specs.Faults.{NamesFault}
+use Rattle.cmh_files.specs.Headline.{Headline}
+use Rattle.cmh_files.specs.TopologyFile.{Says, IsFaultOfFile}
+use Rattle.cmh_files.specs.declared.faults.Fault as faults
+use Rattle.cmh_files.specs.declared.faults.Fault.TheVariants.{Json, Topology as NoTopology, Journal as NoJournal, Set as NoSet, Output, Memory}
+use Rattle.cmh_files.specs.declared.topology_file.TopologyFileFault.TheVariants.{Json as NoJson}
+
+-- ---- the files
+
+-- each is the file of the journal at its place, with the tail at its place
+abbrev pub AreFilesOf : List Journal → List Tail → List (List ℕ) → Type 0
+AreFilesOf [] [] [] = ⊤
+AreFilesOf (j ∷ js) (t ∷ ts) (f ∷ fs) = IsFileOf j t f × AreFilesOf js ts fs
+AreFilesOf journals tails files = ⊥
+
+abbrev pub cut_of : ℕ → Tail → List (ℕ × ℕ)
+cut_of site Whole = []
+cut_of site (Cut bytes) = (site, bytes) ∷ []
+
+-- the sites whose journal was cut off, with how many bytes stand behind its last entry
+abbrev pub cuts_of : List Journal → List Tail → List (ℕ × ℕ)
+cuts_of [] tails = []
+cuts_of (j ∷ js) [] = []
+cuts_of (j ∷ js) (t ∷ ts) = cut_of j.site t ++ cuts_of js ts
+
+-- the files are those of the journals, of which just these were cut off, ascending by their sites
+pub record AreRead (files : List (List ℕ)) (journals : List Journal) (cuts : List (ℕ × ℕ)) : Type 0 where
+  pub tails : List Tail
+  pub are_files : AreFilesOf journals tails files
+  pub cuts_are : IsPermutation (cuts_of journals tails) cuts
+  pub ascending : IsSorted pair_cmp cuts
+
+-- ---- the audit
+
+-- The audit of a topology file and of the journals' files: what was read, and what the verdict says of those who wrote it.
+pub record Audits (topology : List ℕ) (files : List (List ℕ)) (edition : Edition) (cuts : List (ℕ × ℕ))
+    (verdict : Verdict) : Type 0 where
+  pub rows : List Row
+  pub world : Topology
+  pub journals : List Journal
+  pub says : Says topology edition rows
+  pub world_is : IsTopologyOf edition rows world
+  pub read : AreRead files journals cuts
+  pub set : IsSet world journals
+  pub verdict_is : IsVerdictOn world journals verdict
+  pub headline : Headline world files verdict
+
+-- 0 for accepted, 1 for refused
+abbrev pub status_of : Verdict → ℕ
+status_of (Accepted report) = 0
+status_of (Refused stops) = 1
+
+-- the status is that of an audit whose lines were written
+pub record WroteAudit (topology : List ℕ) (files : List (List ℕ)) (old new : Option (List ℕ))
+    (status : ℕ) : Type 0 where
+  pub edition : Edition
+  pub cuts : List (ℕ × ℕ)
+  pub verdict : Verdict
+  pub audits : Audits topology files edition cuts verdict
+  pub status_is : status ≡ status_of verdict
+  pub wrote : Appends old new (cuts_text cuts ++ verdict_text edition verdict)
+
+-- ---- faults; of want of memory nothing is said
+
+-- the file at this place, from 1, is the first at fault
+pub record IsFirstFaulty (files : List (List ℕ)) (place : ℕ) (fault : JournalFault) : Type 0 where
+  pub before : List (List ℕ)
+  pub bytes : List ℕ
+  pub behind : List (List ℕ)
+  pub files_are : files ≡ before ++ bytes ∷ behind
+  pub place_is : place ≡ length before + 1
+  pub journals : List Journal
+  pub tails : List Tail
+  pub are_files : AreFilesOf journals tails before
+  pub fault_is : IsFault bytes fault
+
+-- the first fault of the journals' files
+abbrev pub IsFaultOfFiles : List (List ℕ) → faults.Fault → Type 0
+IsFaultOfFiles files (NoJournal place fault) = IsFirstFaulty files place fault
+IsFaultOfFiles files Memory = ⊤
+IsFaultOfFiles files fault = ⊥
+
+-- the topology file is that of a topology, and of the files the one at this place is the first at fault
+pub record IsOfNoJournal (topology : List ℕ) (files : List (List ℕ)) (place : ℕ) (fault : JournalFault) : Type 0 where
+  pub edition : Edition
+  pub rows : List Row
+  pub world : Topology
+  pub says : Says topology edition rows
+  pub world_is : IsTopologyOf edition rows world
+  pub first : IsFirstFaulty files place fault
+
+-- the files are those of journals that are not of one world
+pub record IsOfNoWorld (topology : List ℕ) (files : List (List ℕ)) (fault : SetFault) : Type 0 where
+  pub edition : Edition
+  pub rows : List Row
+  pub world : Topology
+  pub journals : List Journal
+  pub cuts : List (ℕ × ℕ)
+  pub says : Says topology edition rows
+  pub world_is : IsTopologyOf edition rows world
+  pub read : AreRead files journals cuts
+  pub fault_is : set.fault_of world journals ≡ Some fault
+
+-- the topology file is that of no topology
+pub record IsOfNoTopology (topology : List ℕ) (fault : TopologyFault) : Type 0 where
+  pub edition : Edition
+  pub rows : List Row
+  pub says : Says topology edition rows
+  pub fault_is : IsFaultOf edition rows fault
+
+-- the first fault of an audit's files
+abbrev pub IsAuditFault : List ℕ → List (List ℕ) → faults.Fault → Type 0
+IsAuditFault topology files Json = IsFaultOfFile topology NoJson
+IsAuditFault topology files (NoTopology fault) = IsOfNoTopology topology fault
+IsAuditFault topology files (NoJournal place fault) = IsOfNoJournal topology files place fault
+IsAuditFault topology files (NoSet fault) = IsOfNoWorld topology files fault
+IsAuditFault topology files Memory = ⊤
+IsAuditFault topology files fault = ⊥
+
+-- Why an audit ends without a verdict. Nothing was written then, but where the writer failed.
+abbrev pub IsCause : List ℕ → List (List ℕ) → Option (List ℕ) → Option (List ℕ) → Bool → faults.Fault → Type 0
+IsCause topology files old new has_failed Output = has_failed ≡ true
+IsCause topology files old new has_failed fault = IsAuditFault topology files fault × (new ≡ old)
+
+-- an audit wrote its lines, flushed, and nothing else, or named why it couldn't
+abbrev pub AuditEnds : List ℕ → List (List ℕ) → Option (List ℕ) → Option (List ℕ) → Bool → Bool → Option (List ℕ)
+    → Option (List ℕ) → Bool → ℕ → Type 0
+AuditEnds topology files old new has_failed is_flushed err_old err_new err_failed status =
+    (WroteAudit topology files old new status × (is_flushed ≡ true) × (err_new ≡ err_old))
+    ⊎ NamesFault (IsCause topology files old new has_failed) status err_old err_new err_failed

@@ -1,0 +1,6 @@
+pub mod AuditTexts
+pub mod Audits
+pub mod Faults
+pub mod Status
+pub mod TopologyFile
+pub mod Headline

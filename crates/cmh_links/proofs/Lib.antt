@@ -1,0 +1,7 @@
+pub mod Known
+pub mod Writes
+pub mod Rows
+pub mod Stopping
+pub mod Beginnings
+pub mod Lents
+pub mod Batches

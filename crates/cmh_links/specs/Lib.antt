@@ -1,0 +1,4 @@
+pub mod Table
+pub mod Writing
+pub mod Reading
+pub mod Lent

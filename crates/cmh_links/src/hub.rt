@@ -1,0 +1,205 @@
+//! What the threads of a site share, and the two ways between its links and its station.
+
+ghost use Rattle.std.specs.Prelude.{◌≡◌, ◌≤◌, None, length};
+ghost use Rattle.cmh_station.specs.Batches.{batch_limit};
+
+use crate::batch::{arrivals, refusal_at_end};
+use crate::reading::Handover;
+use crate::table::{LinkTable, SharedLinks};
+use crate::writing::FrameSource;
+use cmh_controller::Refusal;
+use cmh_frames::{Edition, Frame, SiteId, Topology};
+use cmh_journal::Sink;
+use cmh_model::Event;
+use cmh_station::{BATCH_LIMIT, Listing, ParkingTap, SharedStation, StationRefusal};
+use std::alloc::{AllocError, Global};
+use std::sync::atomic::{AtomicBool, AtomicU16, Ordering};
+use std::sync::{Arc, Wait};
+
+/// What the threads of a site share.
+#[derive(Drop)]
+pub(crate) struct Hub<S: Sink, B: Listing> {
+    pub station: Arc<SharedStation<S, B>>,
+    pub links: SharedLinks,
+    pub edition: Edition,
+    pub site: SiteId,
+    /// The other sites.
+    pub others: Vec<SiteId>,
+    /// Its writing threads end once they have nothing left.
+    pub ending: AtomicBool,
+    /// Its reading threads end without waiting for their peers.
+    pub cutting: AtomicBool,
+    /// The site to which no writing thread could be started, or 0.
+    pub abandoned: AtomicU16,
+}
+
+impl<S: Sink, B: Listing> Hub<S, B> {
+    /// All links are new, and nothing ends.
+    pub fn open(
+        alloc: Global,
+        topology: &Topology,
+        site: SiteId,
+        station: Arc<SharedStation<S, B>>,
+    ) -> Result<Arc<Hub<S, B>>, AllocError> {
+        let mut others = Vec::new(alloc);
+        for other in topology.sites() {
+            if *other != site {
+                others.push(*other)?;
+            }
+        }
+        let table = LinkTable::new(alloc, topology, site)?;
+        let hub = Arc::new(
+            alloc,
+            Hub {
+                station,
+                links: SharedLinks::new(table),
+                edition: topology.edition(),
+                site,
+                others,
+                ending: AtomicBool::new(false),
+                cutting: AtomicBool::new(false),
+                abandoned: AtomicU16::new(0),
+            },
+        )?;
+        Ok(hub)
+    }
+}
+
+/// Where a reading thread hands its frames to the station that all share.
+#[derive(Drop)]
+pub(crate) struct Entrance<R: Wait + Drop, S: Sink, B: Listing> {
+    rt: R,
+    alloc: Global,
+    hub: Arc<Hub<S, B>>,
+    refused: Option<StationRefusal>,
+}
+
+impl<R: Wait + Drop, S: Sink, B: Listing> Entrance<R, S, B> {
+    /// It has refused nothing.
+    pub fn new(rt: R, alloc: Global, hub: Arc<Hub<S, B>>) -> Self
+        ensures { result.refused ≡ None }
+    {
+        Entrance {
+            rt,
+            alloc,
+            hub,
+            refused: None,
+        }
+    }
+
+    /// Takes a batch in one step of the lock, and then wakes the writing threads.
+    fn take(&self, from: SiteId, frames: &[Frame]) -> Result<(), StationRefusal>
+        requires { length frames.now ≤ batch_limit }
+    {
+        let Ok(events) = arrivals(self.alloc, from, frames) else {
+            return Err(StationRefusal::Rule(Refusal::Memory));
+        };
+        let answers = self
+            .hub
+            .station
+            .lock(&self.rt)
+            .step_until(&self.rt, &events);
+        self.hub.station.wake();
+        match refusal_at_end(&answers?) {
+            None => Ok(()),
+            Some(refusal) => Err(refusal),
+        }
+    }
+}
+
+impl<R: Wait + Drop, S: Sink, B: Listing> Handover for Entrance<R, S, B> {
+    ghost accepted = { λ _. None };
+
+    ghost refused = { λ s. s.refused };
+
+    fn hand(&mut self, from: SiteId, frame: Frame) -> Result<(), StationRefusal> {
+        let answer = self
+            .hub
+            .station
+            .lock(&self.rt)
+            .step(&self.rt, &Event::Got { from, frame });
+        self.hub.station.wake();
+        match answer {
+            Ok(_) => Ok(()),
+            Err(refusal) => {
+                self.refused = Some(refusal);
+                Err(refusal)
+            }
+        }
+    }
+
+    #[tactic(auto, using(crate::proofs::Batches::handed_untold, crate::proofs::Batches::has_members))]
+    fn hand_all(&mut self, from: SiteId, frames: &[Frame]) -> Result<(), StationRefusal> {
+        let mut rest = frames;
+        while !rest.is_empty() {
+            let (batch, behind) = rest.split_at(rest.len().min(BATCH_LIMIT));
+            if let Err(refusal) = self.take(from, batch) {
+                self.refused = Some(refusal);
+                return Err(refusal);
+            }
+            rest = behind;
+        }
+        Ok(())
+    }
+}
+
+/// Where a writing thread takes its frames from the tap of its link.
+#[derive(Drop)]
+pub(crate) struct Exit<R: Wait + Drop, S: Sink, B: Listing> {
+    rt: R,
+    hub: Arc<Hub<S, B>>,
+    tap: ParkingTap,
+    over: bool,
+}
+
+impl<R: Wait + Drop, S: Sink, B: Listing> Exit<R, S, B> {
+    pub fn new(rt: R, hub: Arc<Hub<S, B>>, tap: ParkingTap) -> Self {
+        Exit {
+            rt,
+            hub,
+            tap,
+            over: false,
+        }
+    }
+
+    /// The tap comes back.
+    pub fn into_tap(self) -> ParkingTap {
+        let Exit {
+            rt: _,
+            hub: _,
+            tap,
+            over: _,
+        } = self;
+        tap
+    }
+}
+
+impl<R: Wait + Drop, S: Sink, B: Listing> FrameSource for Exit<R, S, B> {
+    ghost given = { λ _. None };
+
+    ghost is_over = { λ s. s.over };
+
+    fn next(&mut self) -> Option<Frame> {
+        for _ in self.rt.forever() {
+            if let Some(frame) = self.tap.take() {
+                return Some(frame);
+            }
+            // Read before the last look, so that no frame that was there at the end is left.
+            let ending = self.hub.ending.load(Ordering::SeqCst);
+            self.hub.station.lock(&self.rt).release();
+            if let Some(frame) = self.tap.take() {
+                return Some(frame);
+            }
+            if ending {
+                self.over = true;
+                return None;
+            }
+            self.tap.park(&self.rt);
+        }
+        unreachable!()
+    }
+
+    fn try_next(&mut self) -> Option<Frame> {
+        self.tap.take()
+    }
+}

@@ -1,0 +1,17 @@
+//! The links of a site: their states, the loops that read and write them, and the threads that run these.
+#![tactic(auto)]
+
+mod accepting;
+mod batch;
+mod hub;
+mod lent;
+mod reading;
+mod table;
+mod threads;
+mod writing;
+
+pub use crate::lent::{Lent, lent_law};
+pub use crate::reading::{Handover, ReaderEnd, run_reader};
+pub use crate::table::{LinkFault, LinkState, LinkTable, SharedLinks};
+pub use crate::threads::SiteThreads;
+pub use crate::writing::{FrameSource, run_writer};

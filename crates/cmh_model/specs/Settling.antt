@@ -1,0 +1,110 @@
+-- Deliveries: which of them a run can go on by, how many can follow it, and what holds when none can.
+use Rattle.std.specs.Prelude.{◌≡◌, ℕ, ◌+◌, ◌*◌, ◌≤◌, Bool, true, false, ◌↔◌, List, [], ◌∷◌, ◌++◌, length, Option}
+use Rattle.std.specs.List.{AllByRecursion, sum_by}
+use Rattle.cmh_frames.specs.declared.frame.Frame.{Frame}
+use Rattle.cmh_frames.specs.declared.frame.Frame.TheVariants.{Request, Reply as Reply_frame, Probe}
+use Rattle.cmh_frames.specs.Edition.{target_limit}
+use Rattle.cmh_frames.specs.Topology.{Topology, sites_of, members_of, all_members, site_of}
+use Rattle.cmh_model.specs.declared.event.Event.{Event}
+use Rattle.cmh_model.specs.declared.event.Event.TheVariants.{Ask, Reply, Start, Got}
+use Rattle.cmh_model.specs.declared.journal.WorldEvent.{WorldEvent}
+use Rattle.cmh_model.specs.State.{State}
+use Rattle.cmh_model.specs.Rules.{Accepts, Sends}
+use Rattle.cmh_model.specs.Runs.{state_of, under_way, IsRun, IsDrained}
+use Rattle.cmh_model.specs.Waits.{IsCycle, OnCycle, IsDeclared}
+use Rattle.cmh_model.specs.LastAsker.{AskedLast}
+use Rattle.cmh_model.specs.Laws.{count_of}
+
+-- Whatever the state, the rules give an outcome of each event.
+abbrev pub SomeOutcome : Topology → Type 0
+SomeOutcome t =
+    (s : ℕ) (v : State) (event : Event)
+    → (sent : List (ℕ × Frame)) × (declared : Option ℕ) × Sends t s v event sent declared
+
+-- ---- one delivery
+
+-- The first frame that is under way on a link is accepted where the link ends.
+abbrev pub FirstFramesAccepted : Topology → List WorldEvent → Type 0
+FirstFramesAccepted t events =
+    (a b : ℕ) (frame : Frame) (behind : List Frame) → under_way a b events ≡ frame ∷ behind
+    → Accepts t b (state_of t b events) (Got a frame)
+
+-- And an entry that gets it makes the run one longer.
+abbrev pub FirstFramesDeliverable : Topology → List WorldEvent → Type 0
+FirstFramesDeliverable t events =
+    (a b : ℕ) (frame : Frame) (behind : List Frame) → under_way a b events ≡ frame ∷ behind
+    → (e : WorldEvent) × (e.site ≡ b) × (e.entry.event ≡ Got a frame) × IsRun t (events ++ e ∷ [])
+
+-- ---- deliveries alone
+
+-- a frame came from another site
+abbrev pub is_delivery : Event → Bool
+is_delivery (Ask asker targets) = false
+is_delivery (Reply holder asker) = false
+is_delivery (Start i) = false
+is_delivery (Got from frame) = true
+
+-- The run goes on by these entries, and each of them is a delivery.
+pub record GoesOn (t : Topology) (events more : List WorldEvent) : Type 0 where
+  pub run : IsRun t (events ++ more)
+  pub deliveries : AllByRecursion (λ (e : WorldEvent). is_delivery e.entry.event ≡ true) more
+
+-- No frame can be delivered any more.
+abbrev pub IsSettled : Topology → List WorldEvent → Type 0
+IsSettled t events = (e : WorldEvent) → is_delivery e.entry.event ≡ true → IsRun t (events ++ e ∷ []) → ⊥
+
+-- ---- how many deliveries there can be
+
+-- a reply of any process to any
+abbrev pub is_any_reply : Frame → Bool
+is_any_reply (Request (asker, holder)) = false
+is_any_reply (Reply_frame (holder, asker)) = true
+is_any_reply (Probe (origin, from, to)) = false
+
+-- the frames that are under way and pass the test, over all links between sites of the topology
+abbrev pub under_way_in_all : (Frame → Bool) → Topology → List WorldEvent → ℕ
+under_way_in_all test t events =
+    sum_by (λ a. sum_by (λ b. count_of test (under_way a b events)) (sites_of t)) (sites_of t)
+
+-- how many waits the processes at the home of k may have
+abbrev pub waits_beside : Topology → ℕ → ℕ
+waits_beside t k = length (members_of t (site_of t k)) * target_limit t.edition
+
+-- Probes go on from each process once for each origin, along the waits of the processes at its home, until dependents
+-- are forgotten.
+abbrev pub most_probes : Topology → ℕ
+most_probes t = length (all_members t.rows) * sum_by (waits_beside t) (all_members t.rows)
+
+-- Each frame under way, and the probes that can follow: from now on, and again after each reply that comes, by which
+-- dependents may be forgotten.
+abbrev pub most_deliveries : Topology → List WorldEvent → ℕ
+most_deliveries t events =
+    under_way_in_all (λ f. true) t events + (under_way_in_all is_any_reply t events + 1) * most_probes t
+
+-- ---- the laws
+
+-- What deliveries after these events come to, in whatever order they are made.
+pub record ComesToRest (t : Topology) (events : List WorldEvent) : Type 0 where
+  -- so many can follow at most
+  pub soon : (more : List WorldEvent) → GoesOn t events more → length more ≤ most_deliveries t events
+  -- no further one can follow exactly where every frame has come
+  pub drained : (more : List WorldEvent) → GoesOn t events more
+      → IsSettled t (events ++ more) ↔ IsDrained (events ++ more)
+  -- and some lead there
+  pub reached : (more : List WorldEvent) × GoesOn t events more × IsDrained (events ++ more)
+
+abbrev pub EachRunComesToRest : Topology → Type 0
+EachRunComesToRest t = (events : List WorldEvent) → IsRun t events → ComesToRest t events
+
+-- Once no further delivery can follow, each cycle that stood before them has its last asker declared.
+abbrev pub EachDeadlockFound : Topology → Type 0
+EachDeadlockFound t =
+    (events more : List WorldEvent) → GoesOn t events more → IsSettled t (events ++ more)
+    → (i : ℕ) (members : List ℕ) → IsCycle events i members
+    → (d : ℕ) × AskedLast events members d × IsDeclared (events ++ more) d
+
+-- Where no delivery can follow, some process is deadlocked exactly where some process is declared.
+abbrev pub RestTells : Topology → Type 0
+RestTells t =
+    (events : List WorldEvent) → IsRun t events → IsSettled t events
+    → ((i : ℕ) × OnCycle events i) ↔ ((i : ℕ) × IsDeclared events i)

@@ -1,0 +1,9 @@
+pub mod Deliveries
+pub mod Fresh
+pub mod Homes
+pub mod LinkSteps
+pub mod Seats
+pub mod Sendings
+pub mod Takings
+pub mod Worlds
+pub mod PlayedRuns

@@ -1,0 +1,74 @@
+-- The sites of a world that is played.
+use Rattle.std.specs.Prelude.{◌≡◌, ℕ, ◌<◌, List, [], ◌∷◌, ◌++◌, length, map, All}
+use Rattle.cmh_frames.specs.declared.frame.Frame.{Frame}
+use Rattle.cmh_frames.specs.Topology.{Topology, sites_of}
+use Rattle.cmh_model.specs.declared.event.Event.{Event}
+use Rattle.cmh_model.specs.declared.journal.Entry.{Entry}
+use Rattle.cmh_model.specs.Journals.{IsLawful, value}
+use Rattle.cmh_model.specs.Rules.{Accepts, Sends}
+use Rattle.cmh_controller.specs.Controller.{Controller}
+use Rattle.cmh_controller.specs.Refusals.{Refuses, number_of as refusal_number}
+use Rattle.cmh_journal.specs.Journal.{Journal, entry_limit}
+use Rattle.cmh_audit.specs.Journals.{journal_of}
+use Rattle.cmh_playground.specs.Links.{Row, link_of, link_after}
+use Rattle.cmh_playground.specs.declared.site.Done.{Done}
+use Rattle.cmh_playground.specs.declared.site.Refused.{Refused}
+use Rattle.cmh_playground.specs.declared.site.Refused.TheVariants.{Full, Rule}
+use Rattle.cmh_playground.specs.declared.site.Step.{Step}
+use Rattle.cmh_playground.specs.declared.site.Step.TheVariants.{Taken, Refused as StepRefused}
+
+-- the controller that wrote a journal
+abbrev pub controller_of : Topology → Journal → Controller
+controller_of t j = record { topology = t; site = j.site; state = value t j.site j.entries }
+
+-- A controller and the journal that it wrote.
+pub record IsStanding (t : Topology) (c : Controller) (j : Journal) : Type 0 where
+  pub edition : j.edition ≡ t.edition
+  pub lawful : ∥ IsLawful t j.site j.entries ∥₁
+  pub wrote : c ≡ controller_of t j
+
+-- ---- of all sites
+
+-- there is one journal for each site, in the order of the sites
+abbrev pub ArePlaced : Topology → List Journal → Type 0
+ArePlaced t js = map (λ (j : Journal). j.site) js ≡ sites_of t
+
+abbrev pub AreOfEdition : Topology → List Journal → Type 0
+AreOfEdition t js = All (λ (j : Journal). j.edition ≡ t.edition) js
+
+-- each is a journal of its site's written controller
+abbrev pub AreLawful : Topology → List Journal → Type 0
+AreLawful t js = (s : ℕ) → ∥ IsLawful t s (journal_of js s) ∥₁
+
+-- each controller wrote the journal at its place
+abbrev pub ArePlayed : Topology → List Controller → List Journal → Type 0
+ArePlayed t cs js = cs ≡ map (controller_of t) js
+
+-- ---- a step of one site
+
+-- why a site with these entries takes no step: its journal is full, or else its controller refuses the event
+abbrev pub IsReasonOf : Topology → ℕ → List Entry → Event → Refused → Type 0
+IsReasonOf t s entries event Full = length entries ≡ entry_limit
+IsReasonOf t s entries event (Rule refusal) =
+    (length entries < entry_limit) × Refuses t s (value t s entries) event refusal
+
+-- the controller took the event by the rules, its journal has the entry behind the others, its frames are on the links
+pub record Takes (t : Topology) (s : ℕ) (before later : List Entry) (links after : List Row) (event : Event)
+    (done : Done) : Type 0 where
+  pub sent : List (ℕ × Frame)
+  pub accepted : Accepts t s (value t s before) event
+  pub sends : Sends t s (value t s before) event sent done.declared
+  pub grows : later ≡ before ++ record { event = event; sent = sent; declared = done.declared } ∷ []
+  pub counted : done.sent ≡ length sent
+  pub links_are : (a b : ℕ) → link_of after a b ≡ link_after links s sent a b
+
+-- what came of an event
+abbrev pub IsTaken : Topology → ℕ → List Entry → List Entry → List Row → List Row → Event → Step → Type 0
+IsTaken t s before later links after event (Taken done) = Takes t s before later links after event done
+IsTaken t s before later links after event (StepRefused refused) =
+    (later ≡ before) × (after ≡ links) × IsReasonOf t s before event refused
+
+-- the number that stands for it in texts
+abbrev pub number_of : Refused → ℕ
+number_of Full = 12
+number_of (Rule refusal) = refusal_number refusal

@@ -1,0 +1,12 @@
+//! A world in memory: the controllers of all its sites with their journals, and the links between them.
+#![tactic(auto)]
+
+mod draft;
+mod links;
+mod playground;
+mod site;
+
+pub use crate::draft::Draft;
+pub use crate::links::Links;
+pub use crate::playground::{Delivery, Playground, Severance};
+pub use crate::site::{Done, Refused, Step, take};

@@ -1,0 +1,6 @@
+pub mod LinesSeen
+pub mod WordSplits
+pub mod Numerals
+pub mod Spellings
+pub mod Forms
+pub mod Events

@@ -1,0 +1,12 @@
+//! Scripts: the lines that a reader gives, and what they say.
+#![tactic(auto)]
+
+mod device;
+mod lines;
+mod script;
+mod words;
+
+pub use crate::device::{Device, ReadFault, WriteFault};
+pub use crate::lines::{LineFault, MAX_LINE, NextLine, read_line};
+pub use crate::script::{Command, Line, parse};
+pub use crate::words::{Words, number};

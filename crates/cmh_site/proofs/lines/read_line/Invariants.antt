@@ -1,9 +1,0 @@
-use Rattle.std.proofs.Common.{◌≡◌}
-use Rattle.cmh_site.proofs.LinesSeen.{HasSeen}
-use Rattle.cmh_site.proofs.lines.read_line.Given as goal
-
-abbrev pub invariant-loop-turn : goal.invariant-loop-turn
-invariant-loop-turn g l = record {
-  seen : HasSeen (g.R.Read.remaining l.initial.input.inner) (g.R.Read.remaining l.input.inner) l.line.items l.is_cut l.turn;
-  working : l.input.has_failed ≡ l.initial.input.has_failed;
-}

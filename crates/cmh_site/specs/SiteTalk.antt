@@ -1,0 +1,115 @@
+-- What running sites answer to a line.
+use Rattle.std.specs.Prelude.{◌≡◌, ℕ, Bool, true, ◌⊎◌, List, length, Option, None, Some, MatchBool, MatchOption, ⊤}
+use Rattle.cmh_frames.specs.declared.frame.Frame.{Frame}
+use Rattle.cmh_frames.specs.Topology.{Topology, home}
+use Rattle.cmh_model.specs.declared.event.Event.{Event}
+use Rattle.cmh_controller.specs.declared.refusal.Refusal.TheVariants.{NotHere, UnknownProcess}
+use Rattle.cmh_playground.specs.declared.site.Done.{Done}
+use Rattle.cmh_station.specs.Journaled.{Journaled}
+use Rattle.cmh_station.specs.Steps.{NotStepped, Stepped}
+use Rattle.cmh_station.specs.declared.refusal.StationRefusal.{StationRefusal}
+use Rattle.cmh_station.specs.declared.refusal.StationRefusal.TheVariants.{Rule}
+use Rattle.cmh_files.specs.Audits.{AuditEnds}
+use Rattle.cmh_site.specs.SiteReplies.{reply_text}
+use Rattle.cmh_site.specs.SiteScript.{SaysToCluster, SaysToSite}
+use Rattle.cmh_site.specs.declared.dialogue.Flow.{Flow}
+use Rattle.cmh_site.specs.declared.dialogue.Flow.TheVariants.{Awaits, Ends}
+use Rattle.cmh_site.specs.declared.site_reply.SiteReply.{SiteReply}
+use Rattle.cmh_site.specs.declared.site_reply.SiteReply.TheVariants.{Silent, BadLine, BadLink, Late, Taken, Refused, Declared, Connected, Links}
+use Rattle.cmh_site.specs.declared.site_script.ClusterLine.{ClusterLine}
+use Rattle.cmh_site.specs.declared.site_script.ClusterLine.TheVariants.{Declared as DeclaredOf, Event as ClusterEvent}
+use Rattle.cmh_site.specs.declared.site_script.EventLine.{EventLine}
+use Rattle.cmh_site.specs.declared.site_script.EventLine.TheVariants.{Silent as SilentEvent, Bad as BadEvent, Act as ActEvent}
+use Rattle.cmh_site.specs.declared.site_script.Order.TheVariants.{Declared as DeclaredOrder, Connect as ConnectOrder, Links as LinksOrder, Quit}
+use Rattle.cmh_site.specs.declared.site_script.SiteLine.{SiteLine}
+use Rattle.cmh_site.specs.declared.site_script.SiteLine.TheVariants.{Order as SiteOrder, Event as SiteEvent}
+
+-- A station took the event, by the rules, and its entry was kept. Which station it was is not told: what comes out of a lock
+-- is known by its type alone.
+pub record WasTaken (event : Event) (done : Done) : Type 0 where
+  pub before : Journaled
+  pub after : Journaled
+  pub sent : List (ℕ × Frame)
+  pub step : Stepped before event sent done.declared after
+  pub counted : done.sent ≡ length sent
+
+-- a station refused it
+pub record WasRefused (event : Event) (refusal : StationRefusal) : Type 0 where
+  pub before : Journaled
+  pub after : Journaled
+  pub step : NotStepped before event refusal after
+
+abbrev pub WasStepped : Event → SiteReply → Type 0
+WasStepped event (Taken done) = WasTaken event done
+WasStepped event (Refused refusal) = WasRefused event refusal
+WasStepped event reply = ⊥
+
+abbrev pub IsDeclared : ℕ → SiteReply → Type 0
+IsDeclared site (Declared named processes) = named ≡ site
+IsDeclared site reply = ⊥
+
+abbrev pub IsConnected : SiteReply → Type 0
+IsConnected (Connected connected failed) = ⊤
+IsConnected reply = ⊥
+
+abbrev pub IsLinks : SiteReply → Type 0
+IsLinks (Links links) = ⊤
+IsLinks reply = ⊥
+
+-- ---- one site
+
+-- whether the links were connected, before and after a line; what is answered, and whether the next line is awaited
+abbrev pub AnswersSite : ℕ → Bool → Bool → SiteLine → SiteReply → Flow → Type 0
+AnswersSite site was is (SiteEvent SilentEvent) reply flow = (reply ≡ Silent) × (is ≡ was) × (flow ≡ Awaits)
+AnswersSite site was is (SiteEvent BadEvent) reply flow = (reply ≡ BadLine) × (is ≡ was) × (flow ≡ Awaits)
+AnswersSite site was is (SiteEvent (ActEvent process event)) reply flow = WasStepped event reply × (is ≡ was) × (flow ≡ Awaits)
+AnswersSite site was is (SiteOrder DeclaredOrder) reply flow = IsDeclared site reply × (is ≡ was) × (flow ≡ Awaits)
+AnswersSite site was is (SiteOrder ConnectOrder) reply flow = MatchBool was (reply ≡ Late) (IsConnected reply) × (is ≡ true) × (flow ≡ Awaits)
+AnswersSite site was is (SiteOrder LinksOrder) reply flow = IsLinks reply × (is ≡ was) × (flow ≡ Awaits)
+AnswersSite site was is (SiteOrder Quit) reply flow = (reply ≡ Silent) × (is ≡ was) × (flow ≡ Ends)
+
+-- a line that is too long is no event
+abbrev pub WasSaidToSite : Option (List ℕ) → SiteLine → Type 0
+WasSaidToSite None said = said ≡ SiteEvent BadEvent
+WasSaidToSite (Some line) said = SaysToSite line said
+
+-- the line was answered by this text
+pub record IsTurnOfSite (site : ℕ) (was is : Bool) (line : Option (List ℕ)) (text : List ℕ) (flow : Flow) : Type 0 where
+  pub said : SiteLine
+  pub reply : SiteReply
+  pub says : WasSaidToSite line said
+  pub answers : AnswersSite site was is said reply flow
+  pub text_is : text ≡ reply_text reply
+
+-- ---- all sites
+
+-- A station took the event or refused it, or the process's home was not found among the sites that run. That it is found is
+-- tested alone.
+abbrev pub WasSteppedOrAway : Event → SiteReply → Type 0
+WasSteppedOrAway event reply = WasStepped event reply ⊎ (reply ≡ Refused (Rule NotHere))
+
+-- an event of a process without a home is refused; any other is given to a station
+abbrev pub AnswersCluster : Topology → ClusterLine → SiteReply → Type 0
+AnswersCluster t (ClusterEvent SilentEvent) reply = reply ≡ Silent
+AnswersCluster t (ClusterEvent BadEvent) reply = reply ≡ BadLine
+AnswersCluster t (ClusterEvent (ActEvent process event)) reply =
+    MatchOption (home t process) (reply ≡ Refused (Rule UnknownProcess)) (λ site. WasSteppedOrAway event reply)
+AnswersCluster t (DeclaredOf site) reply = IsDeclared site reply ⊎ (reply ≡ BadLink)
+
+abbrev pub WasSaidToCluster : Option (List ℕ) → ClusterLine → Type 0
+WasSaidToCluster None said = said ≡ ClusterEvent BadEvent
+WasSaidToCluster (Some line) said = SaysToCluster line said
+
+-- the line was answered by this text; where the sites did not settle after it, no other line is read
+pub record IsTurnOfCluster (t : Topology) (line : Option (List ℕ)) (text : List ℕ) : Type 0 where
+  pub said : ClusterLine
+  pub reply : SiteReply
+  pub says : WasSaidToCluster line said
+  pub answers : AnswersCluster t said reply
+  pub text_is : text ≡ reply_text reply
+
+-- some files were audited, behind what was written before: its text, or why there is none
+pub record AuditsSome (topology : List ℕ) (new : Option (List ℕ)) (has_failed is_flushed : Bool) (err_old err_new : Option (List ℕ)) (err_failed : Bool) (status : ℕ) : Type 0 where
+  pub files : List (List ℕ)
+  pub before : Option (List ℕ)
+  pub ends : AuditEnds topology files before new has_failed is_flushed err_old err_new err_failed status

@@ -1,0 +1,557 @@
+//! The command `cluster`: all sites of a topology as threads of one program, driven by a script.
+
+ghost use Rattle.std.specs.Prelude.{◌≡◌, ◌⊎◌, MatchOption, IfOk, IfErr, IfSome};
+ghost use Rattle.cmh_controller.specs.declared.refusal.Refusal.TheVariants.{UnknownProcess};
+ghost use Rattle.cmh_files.specs.Status.{IsStatus};
+ghost use Rattle.cmh_frames.specs.Topology.{home};
+ghost use Rattle.cmh_site.specs.Dialogue.{Conversed, HasAnswered, line_of};
+ghost use Rattle.cmh_site.specs.Play.{IsAnswerFault, IsPlayFault};
+ghost use Rattle.cmh_site.specs.declared.site_reply.SiteReply.TheVariants.{Refused};
+ghost use Rattle.cmh_station.specs.declared.refusal.StationRefusal.TheVariants.{Rule};
+ghost use Rattle.cmh_site.specs.SiteTalk.{AnswersCluster, AuditsSome, IsDeclared, IsTurnOfCluster, WasSaidToCluster, WasSteppedOrAway};
+
+use crate::dialogue::Flow;
+use crate::journal_file::{can_be_made, path_in};
+use crate::ports::Ports;
+use crate::settling::Tally;
+use crate::site_reply::{ClosedLink, SiteReply};
+use crate::site_script::{ClusterLine, EventLine, parse_for_cluster};
+use crate::starting::{FileStation, Opened, Running, declared, open_station, start_threads, step};
+use cmh_carriers::{Listen, TcpListen};
+use cmh_controller::Refusal;
+use cmh_files::{Fault, read_topology_file_with_ports, run_audit};
+use cmh_frames::{ProcId, SiteId, Topology};
+use cmh_links::{LinkFault, LinkState};
+use cmh_model::Event;
+use cmh_script::{Device, NextLine, read_line};
+use cmh_station::{BoardReader, StationRefusal};
+use std::alloc::{AllocError, Global};
+use std::fs::File;
+use std::io::{ErrorKind, Read, Write};
+use std::net::{Net, TcpListener, TcpStream};
+use std::rt::Files;
+use std::sync::{Arc, Wait};
+use std::thread::Threads;
+use std::{fs, thread};
+
+/// How often it is looked whether all frames have come, before the sites are said not to settle.
+const MOST_TURNS: u32 = 1_000_000;
+
+/// Runs all sites of a topology as threads, over TCP on 127.0.0.1, gives each line of the script to its site and waits
+/// until all frames have come, and then audits the journals that it wrote into the folder, as it reads them back.
+///
+/// The answer is the status of the program: 0 where the journals come from one run, 1 where they don't, where the sites
+/// don't settle or memory ran out, 3 at any other fault. A fault is named on `err`, and a write to it that fails is ignored.
+/// A journal of an earlier run in the folder is replaced.
+pub fn run_cluster<R, W: Write, E: Write>(
+    rt: R,
+    alloc: Global,
+    topology: &[u8],
+    script: &[u8],
+    dir: &str,
+    out: &mut Device<W>,
+    err: &mut Device<E>,
+) -> u8
+where
+    R: Wait
+        + Threads
+        + Net<Listener = TcpListener, Stream = TcpStream>
+        + Files<File = File>
+        + AllocGlobal
+        + Copy
+        + Send
+        + Drop
+        + 'static,
+    ensures status { IsStatus result }
+
+    // At status 0 the files that were read back were audited and accepted.
+    ensures audit { result ≡ 0 → AuditsSome topology.now (W.contents out.new.inner) out.new.has_failed out.new.is_flushed
+        (E.contents err.old.inner) (E.contents err.new.inner) err.new.has_failed result }
+{
+    match cluster_into(rt, alloc, topology, script, dir, out) {
+        Ok(Some(journals)) => run_audit(alloc, topology, &journals, out, err),
+        Ok(None) => 1,
+        Err(fault) => fault.name_on(err),
+    }
+}
+
+/// The journals as they were read back; none where the sites did not settle.
+fn cluster_into<R, W: Write>(
+    rt: R,
+    alloc: Global,
+    topology: &[u8],
+    script: &[u8],
+    dir: &str,
+    out: &mut Device<W>,
+) -> Result<Option<Vec<Vec<u8>>>, Fault>
+where
+    R: Wait
+        + Threads
+        + Net<Listener = TcpListener, Stream = TcpStream>
+        + Files<File = File>
+        + AllocGlobal
+        + Copy
+        + Send
+        + Drop
+        + 'static,
+{
+    let (file, ports) = read_topology_file_with_ports(alloc, topology)?;
+    let world = Topology::new(alloc, file.edition, &file.rows)?;
+    let ports = Ports::new(alloc, &file.rows, &ports)?;
+    let mut cluster = Cluster {
+        rt,
+        alloc,
+        topology: &world,
+        tally: Tally::new(alloc, world.sites())?,
+        members: Vec::with_capacity(alloc, world.sites().len())?,
+        running: Vec::with_capacity(alloc, world.sites().len())?,
+        is_settled: true,
+    };
+    let played = cluster.play(&ports, dir, script, out);
+    let Cluster {
+        rt: _,
+        alloc: _,
+        topology: _,
+        tally: _tally,
+        members: _members,
+        running,
+        is_settled,
+    } = cluster;
+    stop_all(running);
+    played?;
+    if is_settled {
+        Ok(Some(read_back(&rt, alloc, &world, dir)?))
+    } else {
+        out.write_line("not settled")?;
+        out.flush()?;
+        Ok(None)
+    }
+}
+
+/// The files of all journals, ascending by site.
+fn read_back<R: Files<File = File> + AllocGlobal>(
+    rt: &R,
+    alloc: Global,
+    world: &Topology,
+    dir: &str,
+) -> Result<Vec<Vec<u8>>, Fault> {
+    let mut journals = Vec::with_capacity(alloc, world.sites().len())?;
+    for site in world.sites() {
+        let path = path_in(alloc, dir, *site)?;
+        match fs::read(rt, path.as_str()) {
+            Ok(bytes) => journals.push(bytes)?,
+            Err(error) if error.kind() == ErrorKind::OutOfMemory => return Err(Fault::Memory),
+            Err(_) => return Err(Fault::OutFile),
+        }
+    }
+    Ok(journals)
+}
+
+/// Ends all threads. No frame is under way then on a link that is open, and a peer that is none of the sites is not waited
+/// for.
+fn stop_all<R>(mut running: Vec<Running<R>>)
+where
+    R: Wait
+        + Threads
+        + Net<Listener = TcpListener, Stream = TcpStream>
+        + Copy
+        + Send
+        + Drop
+        + 'static,
+{
+    cut_off_all(&running);
+    while let Some(threads) = running.pop() {
+        let _ = threads.stop();
+    }
+    running.destroy_empty();
+}
+
+fn cut_off_all<R>(running: &[Running<R>])
+where
+    R: Wait
+        + Threads
+        + Net<Listener = TcpListener, Stream = TcpStream>
+        + Copy
+        + Send
+        + Drop
+        + 'static,
+{
+    for threads in running {
+        threads.cut_off();
+    }
+}
+
+/// A site of a cluster: its station, and the reader of its board.
+#[derive(Drop)]
+struct Member<R: Wait + Drop> {
+    site: SiteId,
+    station: Arc<FileStation<R>>,
+    reader: BoardReader,
+}
+
+/// All sites of a topology, in the order of the topology. It isn't `Drop`: its threads have to be stopped.
+struct Cluster<'a, R>
+where
+    R: Wait
+        + Threads
+        + Net<Listener = TcpListener, Stream = TcpStream>
+        + Copy
+        + Send
+        + Drop
+        + 'static,
+{
+    rt: R,
+    alloc: Global,
+    topology: &'a Topology,
+    tally: Tally,
+    members: Vec<Member<R>>,
+    running: Vec<Running<R>>,
+    /// Whether all frames have come behind each line so far.
+    is_settled: bool,
+}
+
+impl<'a, R> Cluster<'a, R>
+where
+    R: Wait
+        + Threads
+        + Net<Listener = TcpListener, Stream = TcpStream>
+        + Files<File = File>
+        + Copy
+        + Send
+        + Drop
+        + 'static,
+{
+    /// Starts all sites, answers the script, and tells which links closed.
+    fn play<W: Write>(
+        &mut self,
+        ports: &Ports,
+        dir: &str,
+        script: &[u8],
+        out: &mut Device<W>,
+    ) -> Result<(), Fault> {
+        self.start_all(ports, dir)?;
+        for threads in self.running.iter_mut() {
+            let _ = threads.connect();
+        }
+        let mut input = Device::new(script);
+        match self.answer_all(&mut input, out) {
+            Ok(()) => {}
+            // A script that is in memory can be read, but for one that is too long to be counted.
+            Err(Fault::Input) => return Err(Fault::ScriptFile),
+            Err(fault) => return Err(fault),
+        }
+        if self.is_settled {
+            self.write_closed(out)?;
+        }
+        Ok(())
+    }
+
+    /// Every port is taken first, so that sites which run already keep their journals; then every journal is made, and
+    /// only then does any site start.
+    fn start_all(&mut self, ports: &Ports, dir: &str) -> Result<(), Fault> {
+        let listens = self.listen_all(ports, dir)?;
+        let opened = self.open_all(dir)?;
+        let sites = self.topology.sites();
+        for ((site, opened), listen) in sites.iter().zip(opened).zip(listens) {
+            self.start_one(*site, ports, opened, listen)?;
+        }
+        Ok(())
+    }
+
+    /// Starts a site, and keeps its threads, so that they are stopped.
+    fn start_one(
+        &mut self,
+        site: SiteId,
+        ports: &Ports,
+        opened: Opened<R>,
+        listen: TcpListen,
+    ) -> Result<(), Fault> {
+        if listen.faults() != 0 {
+            // Never so: nothing was asked of it yet.
+            return Err(Fault::Listen);
+        }
+        self.running.reserve(1)?;
+        self.members.reserve(1)?;
+        let (station, reader, threads) = start_threads(
+            self.rt,
+            self.alloc,
+            self.topology,
+            site,
+            ports,
+            opened,
+            listen,
+        )?;
+        self.members.push_reserved(Member {
+            site,
+            station,
+            reader,
+        });
+        self.running.push_reserved(threads);
+        Ok(())
+    }
+
+    /// Listens for all sites. Where a port is taken and a journal can't be made, the journal is named.
+    fn listen_all(&self, ports: &Ports, dir: &str) -> Result<Vec<TcpListen>, Fault> {
+        let mut listens = Vec::with_capacity(self.alloc, self.topology.sites().len())?;
+        let mut is_taken = false;
+        for site in self.topology.sites() {
+            match TcpListen::bind(&self.rt, self.alloc, ports.of(*site)) {
+                Ok(listen) => listens.push(listen)?,
+                Err(_) => is_taken = true,
+            }
+        }
+        if !is_taken {
+            return Ok(listens);
+        }
+        for site in self.topology.sites() {
+            let path = path_in(self.alloc, dir, *site)?;
+            if !can_be_made(&self.rt, path.as_str()) {
+                return Err(Fault::OutFile);
+            }
+        }
+        Err(Fault::Listen)
+    }
+
+    fn open_all(&self, dir: &str) -> Result<Vec<Opened<R>>, Fault> {
+        let mut opened = Vec::with_capacity(self.alloc, self.topology.sites().len())?;
+        for site in self.topology.sites() {
+            let path = path_in(self.alloc, dir, *site)?;
+            opened.push(open_station(
+                self.rt,
+                self.alloc,
+                self.topology,
+                *site,
+                path.as_str(),
+                Fault::OutFile,
+            )?)?;
+        }
+        Ok(opened)
+    }
+
+    /// Gives line after line to `answer`, until one ends it or none is left.
+    fn answer_all<I: Read, W: Write>(
+        &mut self,
+        input: &mut Device<I>,
+        out: &mut Device<W>,
+    ) -> Result<(), Fault>
+        ensures answers { IfSome (I.remaining input.old.inner) (λ bytes. Conversed (λ was is line text flow. IsTurnOfCluster self.old.topology.now line text) self.old.is_settled bytes
+            (W.contents out.old.inner) (W.contents out.new.inner) out.new.has_failed result) }
+        ensures fault { IfErr result (IsPlayFault (I.remaining input.old.inner) input.new.has_failed out.new.has_failed) }
+    {
+        let mut line = Vec::new(self.alloc);
+        for turn in 0..u64::MAX {
+            let next = read_line(input, &mut line)?;
+            if next.is_end() {
+                return Ok(());
+            }
+            let flow = self.answer(next, &line, out)?;
+            match flow {
+                Flow::Awaits => {}
+                Flow::Ends => return Ok(()),
+            }
+        }
+        Err(Fault::Input)
+    }
+
+    /// Answers a line and waits until all frames have come; where they don't, no other line is read.
+    fn answer<W: Write>(
+        &mut self,
+        next: NextLine,
+        line: &[u8],
+        out: &mut Device<W>,
+    ) -> Result<Flow, Fault>
+        ensures answers { IfOk result (λ flow. HasAnswered (λ said text. IsTurnOfCluster self.old.topology.now said text) (line_of next line.now)
+            (W.contents out.old.inner) (W.contents out.new.inner)) }
+        ensures topology { self.new.topology ≡ self.old.topology }
+        ensures fault { IfErr result (IsAnswerFault (W.contents out.old.inner) (W.contents out.new.inner) out.new.has_failed) }
+    {
+        let said = said_by(self.alloc, next, line)?;
+        let reply = self.reply(&said)?;
+        out.write_text(&reply)?;
+        out.flush()?;
+        self.is_settled = self.settle();
+        Ok(if self.is_settled {
+            Flow::Awaits
+        } else {
+            Flow::Ends
+        })
+    }
+
+    fn reply(&mut self, said: &ClusterLine) -> Result<SiteReply, AllocError>
+        ensures replies { IfOk result (AnswersCluster self.old.topology.now said.now) }
+        ensures topology { self.new.topology ≡ self.old.topology }
+    {
+        match said {
+            ClusterLine::Event(EventLine::Silent) => Ok(SiteReply::Silent),
+            ClusterLine::Event(EventLine::Bad) => Ok(SiteReply::BadLine),
+            ClusterLine::Event(EventLine::Act { process, event }) => Ok(self.act(*process, event)),
+            ClusterLine::Declared(number) => self.declared(*number),
+        }
+    }
+
+    /// Gives an event to the site of its process.
+    fn act(&self, process: ProcId, event: &Event) -> SiteReply
+        ensures { MatchOption (home self.now.topology.now process) (result ≡ Refused (Rule UnknownProcess)) (λ site. WasSteppedOrAway event.now result) }
+    {
+        match self.topology.home(process) {
+            Some(site) => self.step(site, event),
+            None => SiteReply::Refused(StationRefusal::Rule(Refusal::UnknownProcess)),
+        }
+    }
+
+    /// Gives an event to the station of a site.
+    fn step(&self, home: SiteId, event: &Event) -> SiteReply
+        ensures { WasSteppedOrAway event.now result }
+    {
+        for member in &self.members {
+            if member.site == home {
+                return step(&self.rt, &member.station, event);
+            }
+        }
+        // Never so: each site has its member.
+        SiteReply::Refused(StationRefusal::Rule(Refusal::NotHere))
+    }
+
+    fn declared(&mut self, number: u16) -> Result<SiteReply, AllocError>
+        ensures answered { IfOk result (λ reply. IsDeclared number reply ⊎ (reply ≡ SiteReply.BadLink)) }
+        ensures topology { self.new.topology ≡ self.old.topology }
+    {
+        for member in self.members.iter_mut() {
+            if member.site.get() == number {
+                return declared(&self.rt, member.site, &member.station, &mut member.reader);
+            }
+        }
+        Ok(SiteReply::BadLink)
+    }
+
+    /// Waits until all frames that were sent on open links have come, and answers whether they have.
+    fn settle(&mut self) -> bool
+        ensures { self.new.topology ≡ self.old.topology }
+    {
+        for turn in 0..MOST_TURNS {
+            if self.look() {
+                return true;
+            }
+            thread::yield_now();
+        }
+        false
+    }
+
+    /// Whether all frames that were sent on open links have come. It looks at what is new in each journal, one station's
+    /// lock at a time: at the receipts of all sites before any sending, so that what has come is counted among what was
+    /// sent.
+    fn look(&mut self) -> bool
+        ensures { self.new.topology ≡ self.old.topology }
+    {
+        look_at_receipts(&self.rt, &self.members, &mut self.tally);
+        look_at_sendings(&self.rt, &self.members, &mut self.tally);
+        self.have_come()
+    }
+
+    /// Whether, by the tally, all frames have come on the links that are open.
+    fn have_come(&self) -> bool {
+        for from in 0..self.members.len() {
+            if !self.have_come_from(from) {
+                return false;
+            }
+        }
+        true
+    }
+
+    fn have_come_from(&self, from: usize) -> bool {
+        for to in 0..self.members.len() {
+            if !self.tally.is_balanced(from, to) && self.fault_of(from, to).is_none() {
+                return false;
+            }
+        }
+        true
+    }
+
+    /// Why the link between two places is closed, at its sender or else at its receiver.
+    fn fault_of(&self, from: usize, to: usize) -> Option<LinkFault> {
+        let sender = self.members.get(from)?.site;
+        let receiver = self.members.get(to)?.site;
+        match closed_out(&self.rt, self.running.get(from)?, receiver) {
+            Some(fault) => Some(fault),
+            None => closed_in(&self.rt, self.running.get(to)?, sender),
+        }
+    }
+
+    /// A line for each link that is closed, ascending.
+    fn write_closed<W: Write>(&self, out: &mut Device<W>) -> Result<(), Fault> {
+        for (i, from) in self.topology.sites().iter().enumerate() {
+            for (k, to) in self.topology.sites().iter().enumerate() {
+                if let Some(fault) = self.fault_of(i, k) {
+                    out.write_line(ClosedLink {
+                        from: *from,
+                        to: *to,
+                        fault,
+                    })?;
+                }
+            }
+        }
+        Ok(())
+    }
+}
+
+/// Counts the receipts that are new in the journals of all sites.
+fn look_at_receipts<R: Wait + Drop>(rt: &R, members: &[Member<R>], tally: &mut Tally) {
+    for place in 0..members.len() {
+        let guard = members[place].station.lock(rt);
+        tally.count_receipts(place, guard.journal());
+    }
+}
+
+/// Counts the sendings that are new in the journals of all sites.
+fn look_at_sendings<R: Wait + Drop>(rt: &R, members: &[Member<R>], tally: &mut Tally) {
+    for place in 0..members.len() {
+        let guard = members[place].station.lock(rt);
+        tally.count_sendings(place, guard.journal());
+    }
+}
+
+/// Why the link to a site is closed, where it is.
+fn closed_out<R>(rt: &R, threads: &Running<R>, receiver: SiteId) -> Option<LinkFault>
+where
+    R: Wait
+        + Threads
+        + Net<Listener = TcpListener, Stream = TcpStream>
+        + Copy
+        + Send
+        + Drop
+        + 'static,
+{
+    why_closed(threads.links().lock(rt).state_out(receiver))
+}
+
+/// Why the link from a site is closed, where it is.
+fn closed_in<R>(rt: &R, threads: &Running<R>, sender: SiteId) -> Option<LinkFault>
+where
+    R: Wait
+        + Threads
+        + Net<Listener = TcpListener, Stream = TcpStream>
+        + Copy
+        + Send
+        + Drop
+        + 'static,
+{
+    why_closed(threads.links().lock(rt).state_in(sender))
+}
+
+fn why_closed(state: Option<LinkState>) -> Option<LinkFault> {
+    match state {
+        Some(LinkState::Closed(fault)) => Some(fault),
+        _ => None,
+    }
+}
+
+/// What a line says; one that is too long is a bad one.
+fn said_by(alloc: Global, next: NextLine, line: &[u8]) -> Result<ClusterLine, AllocError>
+    ensures { IfOk result (WasSaidToCluster (line_of next line.now)) }
+{
+    match next {
+        NextLine::Line => parse_for_cluster(alloc, line),
+        NextLine::TooLong => Ok(ClusterLine::Event(EventLine::Bad)),
+        NextLine::End => Ok(ClusterLine::Event(EventLine::Bad)),
+    }
+}

@@ -1,0 +1,276 @@
+//! The command `site`: one site, driven by the lines of an input.
+
+ghost use Rattle.std.specs.Prelude.{◌≡◌, true, IfOk, IfErr, IfSome, MatchBool};
+ghost use Rattle.cmh_files.specs.Status.{IsStatus};
+ghost use Rattle.cmh_site.specs.Dialogue.{Conversed, HasAnswered, line_of};
+ghost use Rattle.cmh_site.specs.Play.{IsAnswerFault, IsPlayFault};
+ghost use Rattle.cmh_site.specs.SiteTalk.{AnswersSite, IsConnected, IsTurnOfSite, WasSaidToSite};
+
+use crate::dialogue::Flow;
+use crate::journal_file::{NoFile, can_be_made, keep_old};
+use crate::ports::Ports;
+use crate::site_reply::SiteReply;
+use crate::site_script::{EventLine, Order, SiteLine, parse_for_site};
+use crate::starting::{
+    FileStation, Running, declared, link_ends, open_station, start_threads, step,
+};
+use cmh_carriers::TcpListen;
+use cmh_files::{Fault, read_topology_file_with_ports};
+use cmh_frames::{SiteId, Topology};
+use cmh_script::{Device, NextLine, read_line};
+use cmh_station::BoardReader;
+use std::alloc::{AllocError, Global};
+use std::fs::File;
+use std::io::{Read, Write};
+use std::net::{Net, TcpListener, TcpStream};
+use std::rt::Files;
+use std::sync::{Arc, Wait};
+use std::thread::Threads;
+
+/// Runs one site of a topology until `quit` or the end of its input, and answers the status of the program: 0 then, 1 where
+/// memory ran out, 3 at any other fault. A fault is named on `err`, and a write to it that fails is ignored.
+///
+/// Each line is answered, and the answer flushed, before the next one is awaited. The entry of a step is in the journal's
+/// file, and synced, before the step is answered. A file that stands at the journal's path and isn't empty is kept under
+/// the path with `.1` behind, or the first such name that is free.
+pub fn run_site<R, I: Read, W: Write, E: Write>(
+    rt: R,
+    alloc: Global,
+    topology: &[u8],
+    site: SiteId,
+    journal: &str,
+    input: &mut Device<I>,
+    out: &mut Device<W>,
+    err: &mut Device<E>,
+) -> u8
+where
+    R: Wait
+        + Threads
+        + Net<Listener = TcpListener, Stream = TcpStream>
+        + Files<File = File>
+        + Copy
+        + Send
+        + Drop
+        + 'static,
+    ensures status { IsStatus result }
+{
+    match site_into(rt, alloc, topology, site, journal, input, out) {
+        Ok(()) => 0,
+        Err(fault) => fault.name_on(err),
+    }
+}
+
+fn site_into<R, I: Read, W: Write>(
+    rt: R,
+    alloc: Global,
+    topology: &[u8],
+    site: SiteId,
+    journal: &str,
+    input: &mut Device<I>,
+    out: &mut Device<W>,
+) -> Result<(), Fault>
+where
+    R: Wait
+        + Threads
+        + Net<Listener = TcpListener, Stream = TcpStream>
+        + Files<File = File>
+        + Copy
+        + Send
+        + Drop
+        + 'static,
+{
+    let (file, ports) = read_topology_file_with_ports(alloc, topology)?;
+    let world = Topology::new(alloc, file.edition, &file.rows)?;
+    if !world.has_site(site) {
+        return Err(Fault::Site);
+    }
+    let ports = Ports::new(alloc, &file.rows, &ports)?;
+    let listen = listen_at(&rt, alloc, ports.of(site), journal)?;
+    match keep_old(&rt, alloc, journal) {
+        Ok(()) => {}
+        Err(NoFile::Memory) => return Err(Fault::Memory),
+        Err(NoFile::Disk) => return Err(Fault::JournalDisk),
+    }
+    let opened = open_station(rt, alloc, &world, site, journal, Fault::JournalDisk)?;
+    let (station, reader, threads) = start_threads(
+        rt, alloc, &world, site, &ports, opened, listen,
+    )?;
+    let mut host = SiteHost {
+        rt,
+        alloc,
+        topology: &world,
+        site,
+        station,
+        reader,
+        threads,
+        has_connected: false,
+    };
+    let answered = host.serve(input, out);
+    let SiteHost {
+        rt: _,
+        alloc: _,
+        topology: _,
+        site: _,
+        station: _station,
+        reader: _reader,
+        threads,
+        has_connected: _,
+    } = host;
+    threads.cut_off();
+    let _ = threads.stop();
+    answered?;
+    out.write_line("stopped")?;
+    out.flush()?;
+    Ok(())
+}
+
+/// Listens on a port before the journal is made, so that a site which runs already keeps its journal. Where both the
+/// journal can't be made and the port is taken, the journal is named.
+fn listen_at<R>(rt: &R, alloc: Global, port: u16, journal: &str) -> Result<TcpListen, Fault>
+where
+    R: Net<Listener = TcpListener, Stream = TcpStream> + Files<File = File>,
+    ensures { IfOk result (λ listen. listen.faults ≡ 0) }
+{
+    match TcpListen::bind(rt, alloc, port) {
+        Ok(listen) => Ok(listen),
+        Err(_) if can_be_made(rt, journal) => Err(Fault::Listen),
+        Err(_) => Err(Fault::JournalDisk),
+    }
+}
+
+/// A running site, as the lines of its input know it.
+struct SiteHost<'a, R>
+where
+    R: Wait
+        + Threads
+        + Net<Listener = TcpListener, Stream = TcpStream>
+        + Copy
+        + Send
+        + Drop
+        + 'static,
+{
+    rt: R,
+    alloc: Global,
+    topology: &'a Topology,
+    site: SiteId,
+    station: Arc<FileStation<R>>,
+    reader: BoardReader,
+    threads: Running<R>,
+    has_connected: bool,
+}
+
+impl<'a, R> SiteHost<'a, R>
+where
+    R: Wait
+        + Threads
+        + Net<Listener = TcpListener, Stream = TcpStream>
+        + Copy
+        + Send
+        + Drop
+        + 'static,
+{
+    /// Says that it listens, and answers line after line.
+    fn serve<I: Read, W: Write>(
+        &mut self,
+        input: &mut Device<I>,
+        out: &mut Device<W>,
+    ) -> Result<(), Fault> {
+        out.write_line("listening")?;
+        out.flush()?;
+        self.answer_all(input, out)
+    }
+
+    /// Gives line after line to `answer`, until one ends it or none is left.
+    fn answer_all<I: Read, W: Write>(
+        &mut self,
+        input: &mut Device<I>,
+        out: &mut Device<W>,
+    ) -> Result<(), Fault>
+        ensures answers { IfSome (I.remaining input.old.inner) (λ bytes.
+            Conversed (IsTurnOfSite self.old.site) self.old.has_connected bytes
+            (W.contents out.old.inner) (W.contents out.new.inner) out.new.has_failed result) }
+        ensures fault { IfErr result (IsPlayFault (I.remaining input.old.inner) input.new.has_failed out.new.has_failed) }
+    {
+        let mut line = Vec::new(self.alloc);
+        for turn in 0..u64::MAX {
+            let next = read_line(input, &mut line)?;
+            if next.is_end() {
+                return Ok(());
+            }
+            let flow = self.answer(next, &line, out)?;
+            match flow {
+                Flow::Awaits => {}
+                Flow::Ends => return Ok(()),
+            }
+        }
+        Err(Fault::Input)
+    }
+
+    /// Answers a line.
+    fn answer<W: Write>(
+        &mut self,
+        next: NextLine,
+        line: &[u8],
+        out: &mut Device<W>,
+    ) -> Result<Flow, Fault>
+        ensures answers { IfOk result (λ flow.
+            HasAnswered (λ said text. IsTurnOfSite self.old.site self.old.has_connected self.new.has_connected said text flow)
+            (line_of next line.now) (W.contents out.old.inner) (W.contents out.new.inner)) }
+        ensures site { self.new.site ≡ self.old.site }
+        ensures fault { IfErr result (IsAnswerFault (W.contents out.old.inner) (W.contents out.new.inner) out.new.has_failed) }
+    {
+        let said = said_by(self.alloc, next, line)?;
+        let (reply, flow) = self.reply(said)?;
+        out.write_text(&reply)?;
+        out.flush()?;
+        Ok(flow)
+    }
+
+    fn reply(&mut self, said: SiteLine) -> Result<(SiteReply, Flow), AllocError>
+        ensures replies { IfOk result (λ replied. AnswersSite self.old.site self.old.has_connected self.new.has_connected said replied.0 replied.1) }
+        ensures site { self.new.site ≡ self.old.site }
+    {
+        match said {
+            SiteLine::Event(EventLine::Silent) => Ok((SiteReply::Silent, Flow::Awaits)),
+            SiteLine::Event(EventLine::Bad) => Ok((SiteReply::BadLine, Flow::Awaits)),
+            SiteLine::Event(EventLine::Act { process: _, event }) => {
+                Ok((step(&self.rt, &self.station, &event), Flow::Awaits))
+            }
+            SiteLine::Order(Order::Declared) => {
+                let reply = declared(&self.rt, self.site, &self.station, &mut self.reader)?;
+                Ok((reply, Flow::Awaits))
+            }
+            SiteLine::Order(Order::Connect) => Ok((self.connect(), Flow::Awaits)),
+            SiteLine::Order(Order::Links) => {
+                let reply = link_ends(&self.rt, self.alloc, self.topology, &self.threads)?;
+                Ok((reply, Flow::Awaits))
+            }
+            SiteLine::Order(Order::Quit) => Ok((SiteReply::Silent, Flow::Ends)),
+        }
+    }
+
+    /// Opens the outgoing links, once.
+    fn connect(&mut self) -> SiteReply
+        ensures replies { MatchBool self.old.has_connected (result ≡ SiteReply.Late) (IsConnected result) }
+        ensures connected { self.new.has_connected ≡ true }
+        ensures site { self.new.site ≡ self.old.site }
+    {
+        if self.has_connected {
+            return SiteReply::Late;
+        }
+        self.has_connected = true;
+        let (connected, failed) = self.threads.connect();
+        SiteReply::Connected(connected, failed)
+    }
+}
+
+/// What a line says; one that is too long is a bad one.
+fn said_by(alloc: Global, next: NextLine, line: &[u8]) -> Result<SiteLine, AllocError>
+    ensures { IfOk result (WasSaidToSite (line_of next line.now)) }
+{
+    match next {
+        NextLine::Line => parse_for_site(alloc, line),
+        NextLine::TooLong => Ok(SiteLine::Event(EventLine::Bad)),
+        NextLine::End => Ok(SiteLine::Event(EventLine::Bad)),
+    }
+}

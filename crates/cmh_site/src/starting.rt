@@ -1,0 +1,174 @@
+//! A running site: its station over a file, its threads, and the calls that lines make.
+
+ghost use Rattle.std.specs.Prelude.{◌≡◌, IfOk, IfErr};
+ghost use Rattle.cmh_site.specs.SiteTalk.{IsDeclared, IsLinks, WasStepped};
+
+use crate::ports::Ports;
+use crate::site_reply::{LinkEnds, SiteReply};
+use cmh_carriers::{TcpDial, TcpListen};
+use cmh_files::Fault;
+use cmh_frames::{SiteId, Topology};
+use cmh_journal::FileSink;
+use cmh_links::SiteThreads;
+use cmh_model::Event;
+use cmh_playground::Done;
+use cmh_station::{BoardReader, KeptBoard, LinkTap, SharedStation, Station, StationRefusal};
+use std::alloc::{AllocError, Global};
+use std::fs::File;
+use std::net::{Net, TcpListener, TcpStream};
+use std::rt::Files;
+use std::sync::{Arc, Wait};
+use std::thread::Threads;
+
+/// A station whose journal is a file, with the lock round it.
+pub(crate) type FileStation<R> = SharedStation<FileSink<File>, KeptBoard<R>>;
+
+/// The threads of a site over TCP.
+pub(crate) type Running<R> = SiteThreads<R, FileSink<File>, KeptBoard<R>, TcpDial<R>>;
+
+/// A station that no thread has yet, the taps of its links, and the reader of its board.
+#[derive(Drop)]
+pub(crate) struct Opened<R: Wait + Drop> {
+    station: Station<FileSink<File>, KeptBoard<R>>,
+    taps: Vec<LinkTap>,
+    reader: BoardReader,
+}
+
+/// Makes the journal of a site at this path, and its station. Where the disk refuses it, the given fault is answered.
+pub(crate) fn open_station<R>(
+    rt: R,
+    alloc: Global,
+    topology: &Topology,
+    site: SiteId,
+    path: &str,
+    disk: Fault,
+) -> Result<Opened<R>, Fault>
+where
+    R: Wait + Files<File = File> + Copy + Drop,
+{
+    let Ok(sink) = FileSink::create(&rt, path) else {
+        return Err(disk);
+    };
+    let (station, taps, mut readers) = match Station::new(rt, alloc, topology, site, sink, 1) {
+        Ok(opened) => opened,
+        Err((StationRefusal::Rule(_), _)) => return Err(Fault::Memory),
+        Err(_) => return Err(disk),
+    };
+    match readers.pop() {
+        Some(reader) => Ok(Opened {
+            station,
+            taps,
+            reader,
+        }),
+        None => Err(Fault::Memory),
+    }
+}
+
+/// A site that runs: its station, the reader of its board, and its threads.
+pub(crate) type Started<R> = (Arc<FileStation<R>>, BoardReader, Running<R>);
+
+/// Starts the threads of a station, which listen.
+pub(crate) fn start_threads<R>(
+    rt: R,
+    alloc: Global,
+    topology: &Topology,
+    site: SiteId,
+    ports: &Ports,
+    opened: Opened<R>,
+    listen: TcpListen,
+) -> Result<Started<R>, Fault>
+where
+    R: Wait
+        + Threads
+        + Net<Listener = TcpListener, Stream = TcpStream>
+        + Copy
+        + Send
+        + Drop
+        + 'static,
+    requires { listen.faults ≡ 0 }
+{
+    let Opened {
+        station,
+        taps,
+        reader,
+    } = opened;
+    let Ok((shared, taps)) = SharedStation::new(alloc, station, taps) else {
+        return Err(Fault::Memory);
+    };
+    let station = Arc::new(alloc, shared)?;
+    let theirs = Arc::try_clone(&station)?;
+    let dial = TcpDial::new(rt, ports.pairs(alloc)?);
+    match SiteThreads::start(rt, alloc, topology, site, theirs, taps, listen, dial) {
+        Ok(threads) => Ok((station, reader, threads)),
+        Err(_) => Err(Fault::Memory),
+    }
+}
+
+/// Gives an event to a station, and wakes the threads that write what it sent once the lock is given back.
+pub(crate) fn step<R: Wait + Drop>(rt: &R, station: &FileStation<R>, event: &Event) -> SiteReply
+    ensures { WasStepped event.now result }
+{
+    let answer = station.lock(rt).step(rt, event);
+    station.wake();
+    match answer {
+        Ok(outcome) => SiteReply::Taken(Done {
+            sent: outcome.sent.as_slice().len(),
+            declared: outcome.declared,
+        }),
+        Err(refusal) => SiteReply::Refused(refusal),
+    }
+}
+
+/// The processes that a site declared, in their order in time: the board is told under the lock, and read once that is
+/// given back. The only error is want of memory.
+pub(crate) fn declared<R: Wait + Drop>(
+    rt: &R,
+    site: SiteId,
+    station: &FileStation<R>,
+    reader: &mut BoardReader,
+) -> Result<SiteReply, AllocError>
+    ensures { IfOk result (IsDeclared site) }
+{
+    let told = station.lock(rt).tell(rt);
+    if told.is_err() {
+        return Err(AllocError);
+    }
+    match reader.read() {
+        Some(processes) => Ok(SiteReply::Declared(site, processes)),
+        None => Err(AllocError),
+    }
+}
+
+/// The states of a site's links, each look under the lock of the table alone.
+pub(crate) fn link_ends<R>(
+    rt: &R,
+    alloc: Global,
+    topology: &Topology,
+    threads: &Running<R>,
+) -> Result<SiteReply, AllocError>
+where
+    R: Wait
+        + Threads
+        + Net<Listener = TcpListener, Stream = TcpStream>
+        + Copy
+        + Send
+        + Drop
+        + 'static,
+    ensures { IfOk result IsLinks }
+{
+    let mut links = Vec::with_capacity(alloc, topology.sites().len())?;
+    for other in topology.sites() {
+        let table = threads.links().lock(rt);
+        if let (Some(outgoing), Some(incoming)) = (
+            table.state_out(*other),
+            table.state_in(*other),
+        ) {
+            links.push(LinkEnds {
+                site: *other,
+                outgoing,
+                incoming,
+            })?;
+        }
+    }
+    Ok(SiteReply::Links(links))
+}

@@ -1,0 +1,5 @@
+pub mod Keeping
+pub mod Batching
+pub mod Stops
+pub mod Ends
+pub mod Declarations

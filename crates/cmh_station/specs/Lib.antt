@@ -1,0 +1,5 @@
+pub mod Journaled
+pub mod Steps
+pub mod Batches
+pub mod Stopped
+pub mod Stations

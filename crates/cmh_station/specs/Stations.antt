@@ -1,0 +1,27 @@
+-- What a contract sees of a station: a controller with its journal, and a board of what the journal declares.
+use Rattle.std.specs.Prelude.{ℕ, ◌≡◌, ◌≤◌, List, length, take}
+use Rattle.cmh_model.specs.declared.journal.Entry.{Entry}
+use Rattle.cmh_model.specs.Declarations.{declarations}
+use Rattle.cmh_model.specs.Runs.{IsBeginningOf}
+use Rattle.cmh_board.specs.Boards.{Listed}
+use Rattle.cmh_station.specs.Journaled.{Journaled}
+
+pub record Station : Type 0 where
+  pub core : Journaled
+  pub board : Listed
+
+-- The board lists what the first so many entries declare, and what it has published begins its list.
+pub record IsFed (entries' : List Entry) (count : ℕ) (board : Listed) : Type 0 where
+  pub within : count ≤ length entries'
+  pub listed : board.list ≡ declarations (take count entries')
+  pub shown : IsBeginningOf board.shown board.list
+
+-- the same board, which has published no less
+pub record GoesOn (a b : Listed) : Type 0 where
+  pub book : b.book ≡ a.book
+  pub shown : IsBeginningOf a.shown b.shown
+
+-- what the entries declare is listed, or a beginning of it, and nothing that was published is gone
+pub record KeepsUp (entries' : List Entry) (count : ℕ) (a b : Listed) : Type 0 where
+  pub fed : IsFed entries' count b
+  pub goes_on : GoesOn a b

@@ -1,0 +1,21 @@
+//! A site's station: its controller with a journal that a sink keeps, its ends of the links to the other sites, and a board
+//! of what it has declared; and the lock under which threads share it.
+#![tactic(auto)]
+
+mod batch;
+mod feeding;
+mod journaled;
+pub mod laws;
+mod parking_tap;
+mod refusal;
+mod shared;
+mod station;
+
+pub use crate::batch::BATCH_LIMIT;
+pub use crate::journaled::JournaledController;
+pub use crate::parking_tap::ParkingTap;
+pub use crate::refusal::StationRefusal;
+pub use crate::shared::SharedStation;
+pub use crate::station::Station;
+pub use cmh_board::{BoardReader, Declared, KeptBoard, Listing, Told};
+pub use cmh_ring::LinkTap;
