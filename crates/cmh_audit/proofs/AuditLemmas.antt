@@ -6,10 +6,11 @@ use Rattle.cmh_frames.specs.Topology.{Topology, sites_of}
 use Rattle.cmh_model.specs.Journals.{sendings_of, receipts_of}
 use Rattle.cmh_journal.specs.Journal.{Journal}
 use Rattle.cmh_audit.specs.Journals.{journal_of}
-use Rattle.cmh_audit.specs.Links.{Links, waiting}
-use Rattle.cmh_audit.specs.Merging.{taken_of, IsStuck, AreLeft, AreAllLeft}
+use Rattle.cmh_audit.specs.Inner.Links.{Links, waiting}
+use Rattle.cmh_audit.specs.Inner.Merging.{taken_of, IsStuck, AreLeft, AreAllLeft}
 use Rattle.cmh_audit.specs.Set.{IsSet}
-use Rattle.cmh_audit.specs.Stops.{before_stop, stops_at}
+use Rattle.cmh_audit.specs.Stops.{before_stop}
+use Rattle.cmh_audit.specs.Inner.FoundStops.{stops_at}
 use Rattle.cmh_audit.proofs.CountingLemmas.{few_journals}
 use Rattle.cmh_audit.proofs.StopLemmas.{before_is}
 

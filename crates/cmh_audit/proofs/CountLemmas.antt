@@ -7,7 +7,7 @@ use Rattle.cmh_model.specs.declared.journal.Entry.{Entry}
 use Rattle.cmh_model.specs.Runs.{IsBeginningOf}
 use Rattle.cmh_journal.specs.Journal.{Journal}
 use Rattle.cmh_audit.specs.Journals.{journal_of, NoneAt, OneEach, entry_count}
-use Rattle.cmh_audit.specs.Merging.{taken_of, IsLawfulLength, AreLawfulLengths, total}
+use Rattle.cmh_audit.specs.Inner.Merging.{taken_of, IsLawfulLength, AreLawfulLengths, total}
 
 pub none_at : (site : ℕ) (js : List Journal) (k : ℕ) (j : Journal) → NoneAt site js → k < length js → j ≡ get_or js k j → site ≢ j.site
 none_at site [] k j none l here e = absurd (omega arith)

@@ -16,7 +16,8 @@ use Rattle.cmh_model.specs.Journals.{frames_to, sendings_of}
 use Rattle.cmh_journal.specs.Journal.{Journal}
 use Rattle.cmh_journal.specs.Entries.{event_spelling, sendings_spelling, declaration_spelling, length_bytes, IsWhole}
 use Rattle.cmh_audit.specs.Journals.{journal_of, entry_count, NoneAt, OneEach}
-use Rattle.cmh_audit.specs.Sums.{in_entries, in_journals}
+use Rattle.cmh_audit.specs.Sums.{in_entries}
+use Rattle.cmh_audit.specs.Inner.AllSums.{in_journals}
 use Rattle.cmh_audit.specs.Transit.{sum_over, sent_count}
 use Rattle.cmh_audit.proofs.Members.{contains_rest}
 use Rattle.cmh_audit.proofs.Sums.{journals_more}

@@ -5,11 +5,12 @@ use Rattle.std.specs.List.{AllByRecursion}
 use Rattle.std.proofs.lemmas.Bool.{cases_lt}
 use Rattle.std.proofs.lemmas.List.{get_or_default}
 use Rattle.std.proofs.lemmas.List.Kept.{AllPairs-from_increasing}
-use Rattle.cmh_model.specs.Paths.{IsPath}
+use Rattle.cmh_model.specs.Paths.{IsPath, IsCycleOf}
 use Rattle.cmh_model.proofs.Beginnings.{empty_list}
-use Rattle.cmh_audit.specs.Cycles.{WaitsIn, IsCycleOf, IsCycleIn, NotAbove, IsFirstCycleOf}
-use Rattle.cmh_audit.specs.Graphs.{WaitsAt, AreAskers}
-use Rattle.cmh_audit.specs.Levels.{IsIn, LeadBack}
+use Rattle.cmh_audit.specs.Inner.FoundCycles.{WaitsIn, IsCycleIn}
+use Rattle.cmh_audit.specs.Cycles.{NotAbove, IsFirstCycleOf}
+use Rattle.cmh_audit.specs.Inner.Graphs.{WaitsAt, AreAskers}
+use Rattle.cmh_audit.specs.Inner.Levels.{IsIn, LeadBack}
 use Rattle.cmh_audit.proofs.LevelLemmas.{in_level}
 
 -- ---- a list that is below another within its length

@@ -17,8 +17,8 @@ use Rattle.cmh_model.specs.Runs.{ComesFrom}
 use Rattle.cmh_model.specs.Waits.{IsDeclared}
 use Rattle.cmh_journal.specs.Journal.{Journal}
 use Rattle.cmh_audit.specs.Journals.{journal_of, OneEach}
-use Rattle.cmh_audit.specs.Sums.{in_journals, in_run}
-use Rattle.cmh_audit.specs.Declarations.{declares, is_positive, Adds}
+use Rattle.cmh_audit.specs.Inner.AllSums.{in_journals, in_run}
+use Rattle.cmh_audit.specs.Inner.Declarations.{declares, is_positive, Adds}
 use Rattle.cmh_audit.proofs.LinkLemmas.{is_eq-nat_cmp}
 use Rattle.cmh_audit.proofs.Sums.{in_run-in_journals}
 
@@ -41,10 +41,6 @@ pub adds_more : (a b c : BTreeSet ℕ) (f g h : ℕ → ℕ) → Adds a b f → 
 adds_more a b c f g h p q e i =
     q i ∙ ap (λ x. x || is_positive (g i)) (p i) ∙ or_assoc (contains nat_cmp a i) (is_positive (f i)) (is_positive (g i))
     ∙ ap (λ x. contains nat_cmp a i || x) (sym (positive-plus (f i) (g i)) ∙ ap (is_positive) (sym (e i)))
-
-or_false : (b : Bool) → (b || false) ≡ b
-or_false true = refl
-or_false false = refl
 
 pub adds_one : (old new : BTreeSet ℕ) (e : Entry) (p : ℕ) → e.declared ≡ Some p → ((q : ℕ) → contains nat_cmp new q ≡ cond (is_at (nat_cmp p) q) true (contains nat_cmp old q)) → Adds old new (λ i. declares i e)
 adds_one old new e p is sets i =

@@ -1,5 +1,5 @@
 -- Tables of waits.
-use Rattle.std.proofs.Common.{◌≡◌, ℕ, zero, suc, ◌+◌, ◌/◌, ◌<◌, ◌≤◌, ◌==◌, ◌&&◌, ◌||◌, ◌↔◌, true, false, not, true≢false, List, [], ◌∷◌, ◌++◌, length, take, get_or, Option, Some, None, Err, ◌⊎◌, inl, inr, ⊎_elim, sym, ap, subst, refl, ◌∙◌, arith, length-append}
+use Rattle.std.proofs.Common.{◌≡◌, ℕ, zero, suc, ◌+◌, ◌/◌, ◌<◌, ◌≤◌, ◌==◌, ◌&&◌, ◌||◌, ◌↔◌, true, false, not, true≢false, List, [], ◌∷◌, ◌++◌, length, take, get_or, Option, Some, None, Err, ◌⊎◌, inl, inr, ⊎_elim, sym, ap, subst, refl, ◌∙◌, arith}
 use Rattle.std.specs.Prelude.{Contains, nat_eq}
 use Rattle.std.specs.Option.{option_eq}
 use Rattle.std.specs.declared.cmp.Ordering.TheVariants.{Less, Greater}
@@ -7,17 +7,17 @@ use Rattle.std.specs.Ordering.{nat_cmp, ordering_then}
 use Rattle.std.specs.Cmp.{nat_cmp_is}
 use Rattle.std.specs.List.{AllByRecursion}
 use Rattle.std.specs.List.Sorted.{IsStrictlyIncreasing, IsStrictlySortedBy, IsBinarySearchResult}
-use Rattle.std.proofs.Math.Seq.{get_or-append_seam}
 use Rattle.std.proofs.lemmas.Bool.{cases_Bool, cases_eq, cases_lt, eq-eqb, eqb-true, and_parts, or_cases, or_left, or_right}
-use Rattle.std.proofs.lemmas.List.{get_or_default, get_or_append_left}
+use Rattle.std.proofs.lemmas.List.{get_or_default}
 use Rattle.std.proofs.lemmas.List.Kept.{AllPairs-from_increasing}
 use Rattle.cmh_model.specs.Relation.{pair_cmp}
 use Rattle.cmh_model.proofs.Choices.{some_eq}
 use Rattle.std.proofs.lemmas.List.Sorted.{searched}
 use Rattle.cmh_model.proofs.Members.{no_member, not_decreasing}
-use Rattle.cmh_audit.specs.Graphs.{WaitsAt, AreAskers}
-use Rattle.cmh_audit.specs.Rows.{has_place, row_at, IsTable}
+use Rattle.cmh_audit.specs.Inner.Graphs.{WaitsAt, AreAskers}
+use Rattle.cmh_audit.specs.Inner.Rows.{has_place, row_at, IsTable}
 use Rattle.cmh_audit.proofs.Members.{contains_left, contains_last, contains_push, looked_at, looked_before, looked_now, looked_all, looked_within}
+use Rattle.cmh_dependents.proofs.Marked.{IsStrictlyIncreasing-push}
 
 -- ---- the askers
 
@@ -63,19 +63,6 @@ askers_start waits processes empty = record {
     none_some : (t : ℕ) → None ≡ Some t → ⊥
     none_some t e = cc e
 
-increasing_push : (xs : List ℕ) (x : ℕ) → IsStrictlyIncreasing xs → ((p : ℕ) → Contains xs p → p < x) → IsStrictlyIncreasing (xs ++ x ∷ [])
-increasing_push xs x up above = λ k l.
-    let long = length-append xs (x ∷ []) in
-    elim (cases_lt (k + 1) (length xs)) [
-      | inl inside ↦ let step = up k inside in let here = get_or_append_left xs (x ∷ []) 0 k (omega arith) in let next = get_or_append_left xs (x ∷ []) 0 (k + 1) inside in omega (arith, step, here, next)
-      | inr past ↦
-          let e : k + 1 ≡ length xs = omega (arith, l, long, past) in
-          let here = get_or_append_left xs (x ∷ []) 0 k (omega (arith, e)) in
-          let next : get_or (xs ++ x ∷ []) (k + 1) 0 ≡ x = ap (λ q. get_or (xs ++ x ∷ []) q 0) e ∙ get_or-append_seam xs x [] 0 in
-          let less = above (get_or xs k 0) (k, omega (arith, e), get_or_default xs k (get_or xs k 0) 0 (omega (arith, e))) in
-          omega (arith, here, next, less)
-    ]
-
 module _ (waits : List (ℕ × ℕ)) (i : ℕ) (w : ℕ × ℕ) (l : i < length waits) (here : w ≡ get_or waits i w) (up : IsStrictlySortedBy pair_cmp waits) (processes : List ℕ) (last : Option ℕ) (is : AreAskersSoFar waits i processes last) where
   pub askers_pass : last ≡ Some w.0 → AreAskersSoFar waits (i + 1) processes last
   askers_pass same = record {
@@ -88,7 +75,7 @@ module _ (waits : List (ℕ × ℕ)) (i : ℕ) (w : ℕ × ℕ) (l : i < length 
 
   pub askers_push : (last ≡ Some w.0 → ⊥) → AreAskersSoFar waits (i + 1) (processes ++ w.0 ∷ []) (Some w.0)
   askers_push other = record {
-    ascending = increasing_push processes w.0 is.ascending (λ p c. below p (is.top p c));
+    ascending = IsStrictlyIncreasing-push processes w.0 is.ascending (λ p c. below p (is.top p c));
     all = λ j k c. ⊎_elim (λ b. contains_left processes (w.0 ∷ []) j (is.all j k b)) (λ (e : (j, k) ≡ w). subst (Contains (processes ++ w.0 ∷ [])) (ap (λ (p : ℕ × ℕ). p.0) (sym e)) (contains_last processes w.0)) (looked_at waits i w l here (j, k) c);
     top = λ p c. (w.0, refl, ⊎_elim (λ b. at_most p (is.top p b)) (λ (e : p ≡ w.0). omega (arith, e)) (contains_push processes w.0 p c));
     low = λ t k d e le inside.

@@ -4,12 +4,11 @@ use Rattle.std.specs.Prelude.{IfSome, IfNone}
 use Rattle.std.proofs.Math.Seq.{get_or-append_seam}
 use Rattle.std.proofs.lemmas.Bool.{cases_eq, cases_lt, cases_Bool, eq-eqb, eqb-true, or_cases, or_left, or_right}
 use Rattle.std.proofs.lemmas.List.{get_or_append_left, get_or_past, get_or_default}
-use Rattle.cmh_model.specs.Paths.{IsPath}
+use Rattle.cmh_model.specs.Paths.{IsPath, IsCycleOf}
 use Rattle.cmh_model.proofs.Beginnings.{empty_list}
-use Rattle.cmh_audit.specs.Cycles.{IsCycleOf}
-use Rattle.cmh_audit.specs.Levels.{IsIn, AreLevels, LeadBack}
-use Rattle.cmh_audit.specs.Rows.{has_place, row_at}
-use Rattle.cmh_audit.proofs.BitLemmas.{no_bit}
+use Rattle.cmh_audit.specs.Inner.Levels.{IsIn, AreLevels, LeadBack}
+use Rattle.cmh_audit.specs.Inner.Rows.{has_place, row_at}
+use Rattle.cmh_waits.proofs.BitLemmas.{no_bit}
 
 -- ---- how many places are left
 

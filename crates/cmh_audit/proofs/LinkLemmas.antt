@@ -9,7 +9,7 @@ use Rattle.std.specs.Option.{option_to_list}
 use Rattle.std.proofs.lemmas.Bool.{cases_order, eq-eqb, ne_eqb, and_parts, eqb-true}
 use Rattle.cmh_frames.specs.declared.frame.Frame.{Frame}
 use Rattle.cmh_audit.specs.declared.links.Link.{Link}
-use Rattle.cmh_audit.specs.Links.{Links, waiting, frames_in, link_cmp, only_at, if_some_at}
+use Rattle.cmh_audit.specs.Inner.Links.{Links, waiting, frames_in, link_cmp, only_at, if_some_at}
 
 pub is_eq-nat_cmp : (a b : ℕ) → is_eq (nat_cmp a b) ≡ (a == b)
 is_eq-nat_cmp a b =

@@ -13,8 +13,8 @@ use Rattle.cmh_model.specs.Runs.{IsBeginningOf, ComeFromRun, entries_of}
 use Rattle.cmh_model.proofs.Journals.{sendings_of-append, receipts_of-append}
 use Rattle.cmh_journal.specs.Journal.{Journal}
 use Rattle.cmh_audit.specs.Journals.{journal_of, OneEach}
-use Rattle.cmh_audit.specs.Links.{Links, waiting, frames_in, link_cmp}
-use Rattle.cmh_audit.specs.Merging.{taken_of, CanGrow, IsNext, Moves, AreLawfulLengths, IsStuck, AreLeft}
+use Rattle.cmh_audit.specs.Inner.Links.{Links, waiting, frames_in, link_cmp}
+use Rattle.cmh_audit.specs.Inner.Merging.{taken_of, CanGrow, IsNextFrame, MovesFrames, AreLawfulLengths, IsStuck, AreLeft}
 use Rattle.cmh_model.proofs.Beginnings.{length-beginning, push_eq}
 use Rattle.cmh_model.proofs.LongerRuns.{run_first}
 use Rattle.cmh_audit.proofs.RunLemmas.{entries_of_same, entries_of_other, lawful_beginning, longer_run, receipts_of_push}
@@ -57,7 +57,7 @@ sendings_of_if b es e false = sendings_of-append b es []
 
 module _ (t : Topology) (js : List Journal) (limits counts : List ℕ) (old new : Links) (one : OneEach js) (are : AreLawfulLengths t js limits) (m : Merging t js limits counts old)
     (k : ℕ) (j : Journal) (l : k < length js) (here : j ≡ get_or js k j) (e : Entry) (room : get_or counts k 0 < get_or limits k 0) (is : e ≡ get_or j.entries (get_or counts k 0) e)
-    (next : IsNext old j.site e.event) (moves : Moves old new j.site e) where
+    (next : IsNextFrame old j.site e.event) (moves : MovesFrames old new j.site e) where
   longer : List ℕ
   longer = set counts k (get_or counts k 0 + 1)
 
@@ -176,7 +176,7 @@ module _ (t : Topology) (js : List Journal) (limits counts : List ℕ) (links : 
       (limit_here t js limits k j are l here).stops (subst (λ n. n < length j.entries) same f.0) (subst (λ n. IsLawful t j.site (take (n + 1) j.entries)) same lawful)
 
   -- the next entry got what is not the next frame
-  pub stuck_at_frame : (e : Entry) → get_or counts k 0 < get_or limits k 0 → e ≡ get_or j.entries (get_or counts k 0) e → (IsNext links j.site e.event → ⊥) → StuckAt t js counts j.site
+  pub stuck_at_frame : (e : Entry) → get_or counts k 0 < get_or limits k 0 → e ≡ get_or j.entries (get_or counts k 0) e → (IsNextFrame links j.site e.event → ⊥) → StuckAt t js counts j.site
   stuck_at_frame e room is not_next f p can = not_next (λ a. subst (λ x. IsBeginningOf (frame_from a x.event) (waiting links a j.site)) same (begins a))
     where
       same : f ≡ e

@@ -11,8 +11,8 @@ use Rattle.cmh_model.specs.declared.journal.Entry.{Entry}
 use Rattle.cmh_model.specs.Journals.{frames_to, frame_from}
 use Rattle.cmh_model.specs.Runs.{IsBeginningOf}
 use Rattle.cmh_model.proofs.Sent.{to-append}
-use Rattle.cmh_audit.specs.Links.{Links, waiting, only_at, if_some_at}
-use Rattle.cmh_audit.specs.Merging.{IsNext, Sends, Moves}
+use Rattle.cmh_audit.specs.Inner.Links.{Links, waiting, only_at, if_some_at}
+use Rattle.cmh_audit.specs.Inner.Merging.{IsNextFrame, SendsFrames, MovesFrames}
 use Rattle.cmh_audit.proofs.FrameLemmas.{frame_same, frame_eq_self}
 
 -- a list that begins with a frame
@@ -23,7 +23,7 @@ starts (f ∷ frames) frame h = (frames, ap (λ g. g ∷ frames) (sym (frame_sam
 starts_back : (frames : List Frame) (frame : Frame) → IsBeginningOf (frame ∷ []) frames → option_eq eq-value.it (slice_get frames 0) (Some frame) ≡ true
 starts_back frames frame p = subst (λ l. option_eq eq-value.it (slice_get l 0) (Some frame) ≡ true) p.1 (frame_eq_self frame)
 
-pub next_got : (links : Links) (site from : ℕ) (frame : Frame) → option_eq eq-value.it (slice_get (waiting links from site) 0) (Some frame) ≡ true → IsNext links site (Got from frame)
+pub next_got : (links : Links) (site from : ℕ) (frame : Frame) → option_eq eq-value.it (slice_get (waiting links from site) 0) (Some frame) ≡ true → IsNextFrame links site (Got from frame)
 next_got links site from frame h a =
     ⊎_elim
     (λ e. let P : ℕ → Type 0 = λ s. IsBeginningOf (if from == s then frame ∷ [] else []) (waiting links s site) in
@@ -31,11 +31,11 @@ next_got links site from frame h a =
     (λ e. subst (λ t. IsBeginningOf (if t then frame ∷ [] else []) (waiting links a site)) (sym (ne_eqb from a e)) (waiting links a site, refl))
     (cases_eq from a)
 
-pub next_got_back : (links : Links) (site from : ℕ) (frame : Frame) → IsNext links site (Got from frame) → option_eq eq-value.it (slice_get (waiting links from site) 0) (Some frame) ≡ true
+pub next_got_back : (links : Links) (site from : ℕ) (frame : Frame) → IsNextFrame links site (Got from frame) → option_eq eq-value.it (slice_get (waiting links from site) 0) (Some frame) ≡ true
 next_got_back links site from frame h =
     starts_back (waiting links from site) frame (subst (λ t. IsBeginningOf (if t then frame ∷ [] else []) (waiting links from site)) (eq-eqb from from refl) (h from))
 
-pub next_other : (links : Links) (site : ℕ) (event : Event) → ((from : ℕ) (frame : Frame) → event ≡ Got from frame → ⊥) → IsNext links site event
+pub next_other : (links : Links) (site : ℕ) (event : Event) → ((from : ℕ) (frame : Frame) → event ≡ Got from frame → ⊥) → IsNextFrame links site event
 next_other links site (Ask asker targets) h a = (waiting links a site, refl)
 next_other links site (Reply holder asker) h a = (waiting links a site, refl)
 next_other links site (Start of) h a = (waiting links a site, refl)
@@ -43,7 +43,7 @@ next_other links site (Got from frame) h a = absurd (h from frame refl)
 
 -- one more frame was sent
 pub sends_more : (first old new : Links) (site : ℕ) (sent : List (ℕ × Frame)) (i : ℕ) (s : ℕ × Frame) → i < length sent → s ≡ get_or sent i s →
-    Sends first old site (take i sent) → ((a b : ℕ) → waiting new a b ≡ waiting old a b ++ only_at site s.0 s.1 a b) → Sends first new site (take (i + 1) sent)
+    SendsFrames first old site (take i sent) → ((a b : ℕ) → waiting new a b ≡ waiting old a b ++ only_at site s.0 s.1 a b) → SendsFrames first new site (take (i + 1) sent)
 sends_more first old new site sent i s l here so_far step a b =
     step a b ∙ ap (λ w. w ++ only_at site s.0 s.1 a b) (so_far a b) ∙ append_assoc (waiting first a b) _ _ ∙ ap (λ w. waiting first a b ++ w) (join (site == a))
   where
@@ -55,8 +55,8 @@ sends_more first old new site sent i s l here so_far step a b =
     join false = refl
 
 -- the frame that was got is gone, and those sent came in
-pub moves_got : (old mid new : Links) (site from : ℕ) (frame : Frame) (first : Option Frame) (entry : Entry) → entry.event ≡ Got from frame → IsNext old site entry.event → first ≡ slice_get (waiting old from site) 0 →
-    ((a b : ℕ) → waiting old a b ≡ if_some_at from site first a b ++ waiting mid a b) → Sends mid new site entry.sent → Moves old new site entry
+pub moves_got : (old mid new : Links) (site from : ℕ) (frame : Frame) (first : Option Frame) (entry : Entry) → entry.event ≡ Got from frame → IsNextFrame old site entry.event → first ≡ slice_get (waiting old from site) 0 →
+    ((a b : ℕ) → waiting old a b ≡ if_some_at from site first a b ++ waiting mid a b) → SendsFrames mid new site entry.sent → MovesFrames old new site entry
 moves_got old mid new site from frame first entry is next head pop sends a b =
     ap (λ l. part l ++ waiting new a b) is
     ∙ ap (λ l. part (Got from frame) ++ l) (sends a b)
@@ -68,7 +68,7 @@ moves_got old mid new site from frame first entry is next head pop sends a b =
 
     begins : IsBeginningOf (frame ∷ []) (waiting old from site)
     begins =
-        let N : Event → Type 0 = λ event. IsNext old site event in
+        let N : Event → Type 0 = λ event. IsNextFrame old site event in
         let n : N (Got from frame) = subst N is next in
         subst (λ t. IsBeginningOf (if t then frame ∷ [] else []) (waiting old from site)) (eq-eqb from from refl) (n from)
 
@@ -83,7 +83,7 @@ moves_got old mid new site from frame first entry is next head pop sends a b =
     popped : waiting old a b ≡ part (Got from frame) ++ waiting mid a b
     popped = pop a b ∙ ap (λ o. if_some_at from site o a b ++ waiting mid a b) is_frame ∙ ap (λ l. l ++ waiting mid a b) (swapped (from == a) (site == b))
 
-pub moves_other : (old new : Links) (site : ℕ) (entry : Entry) → ((from : ℕ) (frame : Frame) → entry.event ≡ Got from frame → ⊥) → Sends old new site entry.sent → Moves old new site entry
+pub moves_other : (old new : Links) (site : ℕ) (entry : Entry) → ((from : ℕ) (frame : Frame) → entry.event ≡ Got from frame → ⊥) → SendsFrames old new site entry.sent → MovesFrames old new site entry
 moves_other old new site entry h sends a b = ap (λ l. l ++ waiting new a b) (none entry.event h (site == b)) ∙ sends a b
   where
     none : (event : Event) → ((from : ℕ) (frame : Frame) → event ≡ Got from frame → ⊥) → (t : Bool) → (if t then frame_from a event else []) ≡ []

@@ -14,9 +14,9 @@ use Rattle.cmh_model.specs.Journals.{frames_to, frame_from}
 use Rattle.cmh_model.specs.Runs.{IsBeginningOf}
 use Rattle.cmh_journal.specs.Journal.{Journal}
 use Rattle.cmh_audit.specs.Journals.{NoneAt, OneEach, entry_count}
-use Rattle.cmh_audit.specs.Links.{Links, waiting}
-use Rattle.cmh_audit.specs.Merging.{AreLawfulLengths, IsStuck, IsNext, Moves, total, AreTried}
-use Rattle.cmh_audit.specs.Ready.{Wakes, ArePlaces, parked_count}
+use Rattle.cmh_audit.specs.Inner.Links.{Links, waiting}
+use Rattle.cmh_audit.specs.Inner.Merging.{AreLawfulLengths, IsStuck, IsNextFrame, MovesFrames, total, AreTried}
+use Rattle.cmh_audit.specs.Inner.Ready.{Wakes, ArePlaces, parked_count}
 use Rattle.cmh_audit.proofs.CountLemmas.{total-set, total-none, total-le, none_at, limit_here, length-limits}
 use Rattle.cmh_audit.proofs.Members.{contains_left, contains_last, contains_push}
 use Rattle.cmh_audit.proofs.TryLemmas.{tried_start, tried_failed, tried_whole, tried_took}
@@ -135,7 +135,7 @@ module _ (js : List Journal) (one : OneEach js) (sent : List (ℕ × Frame)) (fi
 -- the site waits for a frame of another that isn't there
 abbrev pub IsParked : List Journal → List ℕ → List ℕ → Links → ℕ → Journal → Option ℕ → Type 0
 IsParked js limits counts links k j o =
-    (a : ℕ) × (frame : Frame) × (e : Entry) × (o ≡ Some a) × (get_or counts k 0 < get_or limits k 0) × (e ≡ get_or j.entries (get_or counts k 0) e) × (e.event ≡ Got a frame) × (IsNext links j.site e.event → ⊥)
+    (a : ℕ) × (frame : Frame) × (e : Entry) × (o ≡ Some a) × (get_or counts k 0 < get_or limits k 0) × (e ≡ get_or j.entries (get_or counts k 0) e) × (e.event ≡ Got a frame) × (IsNextFrame links j.site e.event → ⊥)
 
 -- each site is on the list, has no lawful entry left, or waits for a frame
 pub record Listed (t : Topology) (js : List Journal) (limits counts : List ℕ) (links : Links) (lacks : List (Option ℕ)) (ready : List ℕ) (tries : ℕ) : Type 0 where
@@ -178,7 +178,7 @@ listed_done t js limits counts links lacks ready tries more i le tried s past = 
 
 -- the site was taken from the list and lacks a frame of a
 pub listed_parked : (t : Topology) (js : List Journal) (limits counts : List ℕ) (links : Links) (lacks : List (Option ℕ)) (ready : List ℕ) (tries i : ℕ) (j : Journal) (a : ℕ) (frame : Frame) (e : Entry) →
-    Listed t js limits counts links lacks (ready ++ i ∷ []) tries → i < length js → j ≡ get_or js i j → get_or counts i 0 < get_or limits i 0 → e ≡ get_or j.entries (get_or counts i 0) e → e.event ≡ Got a frame → (IsNext links j.site e.event → ⊥) → get_or counts i 0 < length j.entries →
+    Listed t js limits counts links lacks (ready ++ i ∷ []) tries → i < length js → j ≡ get_or js i j → get_or counts i 0 < get_or limits i 0 → e ≡ get_or j.entries (get_or counts i 0) e → e.event ≡ Got a frame → (IsNextFrame links j.site e.event → ⊥) → get_or counts i 0 < length j.entries →
     Listed t js limits counts links (set lacks i (Some a)) ready (tries + 1)
 listed_parked t js limits counts links lacks ready tries i j a frame e s l here room is got not_next inside = record {
   merging = s.merging;
@@ -204,10 +204,10 @@ listed_parked t js limits counts links lacks ready tries i j a frame e s l here 
         subst Q (sym q) (subst P same (a, frame, e, get_or-set_same lacks i (Some a) None (subst (λ n. i < n) (sym s.long) l), room, is, got, not_next))
 
 -- an entry of another site that sends nothing here, where it is the sender, changes nothing for a frame that is lacked
-still_lacked : (old new : Links) (own site a : ℕ) (frame : Frame) (taken waiting_for : Entry) → Moves old new own taken → (own ≡ a → frames_to site taken.sent ≡ []) → own ≢ site → waiting_for.event ≡ Got a frame → IsNext new site waiting_for.event → IsNext old site waiting_for.event
+still_lacked : (old new : Links) (own site a : ℕ) (frame : Frame) (taken waiting_for : Entry) → MovesFrames old new own taken → (own ≡ a → frames_to site taken.sent ≡ []) → own ≢ site → waiting_for.event ≡ Got a frame → IsNextFrame new site waiting_for.event → IsNextFrame old site waiting_for.event
 still_lacked old new own site a frame taken waiting_for moves sender receiver is next =
-    let N : Event → Type 0 = λ event. IsNext old site event in
-    let M : Event → Type 0 = λ event. IsNext new site event in
+    let N : Event → Type 0 = λ event. IsNextFrame old site event in
+    let M : Event → Type 0 = λ event. IsNextFrame new site event in
     let g : M (Got a frame) = subst M is next in
     subst N (sym is) (λ b. ⊎_elim
     (λ (e : a ≡ b). let P : ℕ → Type 0 = λ s. IsBeginningOf (frame_from s (Got a frame)) (waiting old s site) in
@@ -230,7 +230,7 @@ still_lacked old new own site a frame taken waiting_for moves sender receiver is
 
 -- the site was taken from the list and took an entry
 pub listed_took : (t : Topology) (js : List Journal) (limits counts : List ℕ) (old new : Links) (before lacks : List (Option ℕ)) (first ready : List ℕ) (tries i : ℕ) (j : Journal) (e : Entry) → OneEach js → AreLawfulLengths t js limits →
-    Listed t js limits counts old before (first ++ i ∷ []) tries → i < length js → j ≡ get_or js i j → get_or counts i 0 < get_or limits i 0 → e ≡ get_or j.entries (get_or counts i 0) e → IsNext old j.site e.event → Moves old new j.site e →
+    Listed t js limits counts old before (first ++ i ∷ []) tries → i < length js → j ≡ get_or js i j → get_or counts i 0 < get_or limits i 0 → e ≡ get_or j.entries (get_or counts i 0) e → IsNextFrame old j.site e.event → MovesFrames old new j.site e →
     Wakes js e.sent first ready before lacks j.site (length e.sent) → Listed t js limits (set counts i (get_or counts i 0 + 1)) new lacks (ready ++ i ∷ []) (tries + 1)
 listed_took t js limits counts old new before lacks first ready tries i j e one are s l here room is next moves w = record {
   merging = merging_more t js limits counts old new one are s.merging i j l here e room is next moves;
@@ -320,7 +320,7 @@ done_step t js limits counts links lacks first ready tries more i at s e read le
     (subst (λ n. get_or limits i 0 ≤ n) (get_or_read counts i at (subst (λ n. i < n) (sym s.merging.each) (place_in t js limits counts links lacks first ready tries i s e)) read 0) past)
 
 pub parked_step : (t : Topology) (js : List Journal) (limits counts : List ℕ) (links : Links) (lacks : List (Option ℕ)) (first ready : List ℕ) (tries i at : ℕ) (j : Journal) (a : ℕ) (frame : Frame) (e : Entry) →
-    Listed t js limits counts links lacks first tries → first ≡ ready ++ i ∷ [] → at ≡ get_or counts i at → j ≡ get_or js i j → at < get_or limits i 0 → e ≡ get_or j.entries at e → e.event ≡ Got a frame → (IsNext links j.site e.event → ⊥) → get_or limits i 0 ≤ length j.entries →
+    Listed t js limits counts links lacks first tries → first ≡ ready ++ i ∷ [] → at ≡ get_or counts i at → j ≡ get_or js i j → at < get_or limits i 0 → e ≡ get_or j.entries at e → e.event ≡ Got a frame → (IsNextFrame links j.site e.event → ⊥) → get_or limits i 0 ≤ length j.entries →
     Listed t js limits counts links (set lacks i (Some a)) ready (tries + 1)
 parked_step t js limits counts links lacks first ready tries i at j a frame e s p read here room is got not_next fits =
     let inside = place_in t js limits counts links lacks first ready tries i s p in
@@ -332,7 +332,7 @@ refilled : (n : ℕ) (xs ys : List (Option ℕ)) → length xs ≡ length ys →
 refilled n xs ys e f = ap (λ l. take n (xs ++ l)) (drop_all (length xs) ys (omega (arith, e))) ∙ ap (take n) (append-nil xs) ∙ take_all n xs (omega (arith, e, f))
 
 pub took_step : (t : Topology) (js : List Journal) (limits counts : List ℕ) (old new : Links) (before lent lacks : List (Option ℕ)) (first ready next_ready : List ℕ) (tries i at n : ℕ) (j : Journal) (e : Entry) → OneEach js → AreLawfulLengths t js limits →
-    Listed t js limits counts old before first tries → first ≡ ready ++ i ∷ [] → at ≡ get_or counts i at → j ≡ get_or js i j → at < get_or limits i 0 → e ≡ get_or j.entries at e → IsNext old j.site e.event → Moves old new j.site e →
+    Listed t js limits counts old before first tries → first ≡ ready ++ i ∷ [] → at ≡ get_or counts i at → j ≡ get_or js i j → at < get_or limits i 0 → e ≡ get_or j.entries at e → IsNextFrame old j.site e.event → MovesFrames old new j.site e →
     Wakes js e.sent ready next_ready lent lacks j.site (length e.sent) → lent ≡ before → n ≡ length before →
     Listed t js limits (set counts i (at + 1)) new (take n (lacks ++ drop (length lacks) before)) (next_ready ++ i ∷ []) (tries + 1)
 took_step t js limits counts old new before lent lacks first ready next_ready tries i at n j e one are s p read here room is next moves w same_lent long_n =
@@ -388,20 +388,20 @@ looked_past t js limits counts links lacks first ready tries i at j es are s p r
 -- the next entry got a frame that isn't the next one
 pub looked_parked : (t : Topology) (js : List Journal) (limits counts : List ℕ) (links : Links) (lacks : List (Option ℕ)) (first ready : List ℕ) (tries i at limit site : ℕ) (j : Journal) (es : List Entry) (a : ℕ) (frame : Frame) (e : Entry) → AreLawfulLengths t js limits →
     Listed t js limits counts links lacks first tries → first ≡ ready ++ i ∷ [] → at ≡ get_or counts i at → limit ≡ get_or limits i limit → j ≡ get_or js i j → site ≡ j.site → es ≡ j.entries →
-    at < limit → e ≡ get_or es at e → e.event ≡ Got a frame → (IsNext links site e.event → ⊥) → Listed t js limits counts links (set lacks i (Some a)) ready (tries + 1)
+    at < limit → e ≡ get_or es at e → e.event ≡ Got a frame → (IsNextFrame links site e.event → ⊥) → Listed t js limits counts links (set lacks i (Some a)) ready (tries + 1)
 looked_parked t js limits counts links lacks first ready tries i at limit site j es a frame e are s p read limit_read here site_is entries room is got not_next =
     parked_step t js limits counts links lacks first ready tries i at j a frame e s p read here
     (subst (λ n. at < n) (read_limit t js limits i limit are (place_in t js limits counts links lacks first ready tries i s p) limit_read) room)
-    (subst (λ l. e ≡ get_or l at e) entries is) got (subst (λ q. IsNext links q e.event → ⊥) site_is not_next)
+    (subst (λ l. e ≡ get_or l at e) entries is) got (subst (λ q. IsNextFrame links q e.event → ⊥) site_is not_next)
     (limit_here t js limits i j are (place_in t js limits counts links lacks first ready tries i s p) here).within
 
 -- the next entry was taken
 pub looked_took : (t : Topology) (js : List Journal) (limits counts : List ℕ) (old new : Links) (before lent lacks : List (Option ℕ)) (first ready next_ready : List ℕ) (tries i at limit site n : ℕ) (j : Journal) (es : List Entry) (e : Entry) (sent : List (ℕ × Frame)) → OneEach js → AreLawfulLengths t js limits →
     Listed t js limits counts old before first tries → first ≡ ready ++ i ∷ [] → at ≡ get_or counts i at → limit ≡ get_or limits i limit → j ≡ get_or js i j → site ≡ j.site → es ≡ j.entries →
-    at < limit → e ≡ get_or es at e → IsNext old site e.event → Moves old new site e → sent ≡ e.sent → Wakes js sent ready next_ready lent lacks site (length sent) → lent ≡ before → n ≡ length before →
+    at < limit → e ≡ get_or es at e → IsNextFrame old site e.event → MovesFrames old new site e → sent ≡ e.sent → Wakes js sent ready next_ready lent lacks site (length sent) → lent ≡ before → n ≡ length before →
     Listed t js limits (set counts i (at + 1)) new (take n (lacks ++ drop (length lacks) before)) (next_ready ++ i ∷ []) (tries + 1)
 looked_took t js limits counts old new before lent lacks first ready next_ready tries i at limit site n j es e sent one are s p read limit_read here site_is entries room is next moves sent_is w same_lent long_n =
-    let P : ℕ → Type 0 = λ q. IsNext old q e.event → Moves old new q e → Wakes js e.sent ready next_ready lent lacks q (length e.sent) → Listed t js limits (set counts i (at + 1)) new (take n (lacks ++ drop (length lacks) before)) (next_ready ++ i ∷ []) (tries + 1) in
+    let P : ℕ → Type 0 = λ q. IsNextFrame old q e.event → MovesFrames old new q e → Wakes js e.sent ready next_ready lent lacks q (length e.sent) → Listed t js limits (set counts i (at + 1)) new (take n (lacks ++ drop (length lacks) before)) (next_ready ++ i ∷ []) (tries + 1) in
     subst P (sym site_is) (λ next moves w. took_step t js limits counts old new before lent lacks first ready next_ready tries i at n j e one are s p read here
     (subst (λ q. at < q) (read_limit t js limits i limit are (place_in t js limits counts old before first ready tries i s p) limit_read) room)
     (subst (λ l. e ≡ get_or l at e) entries is) next moves w same_lent long_n) next moves (subst (λ xs. Wakes js xs ready next_ready lent lacks site (length xs)) sent_is w)

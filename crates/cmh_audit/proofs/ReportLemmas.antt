@@ -15,18 +15,20 @@ use Rattle.cmh_model.proofs.Members.{increasing_tail}
 use Rattle.cmh_model.proofs.PathLemmas.{path_map}
 use Rattle.cmh_model.specs.Laws.{DarkPath, AsksAndReplies}
 use Rattle.cmh_journal.specs.Journal.{Journal}
-use Rattle.cmh_audit.specs.Declarations.{declares}
+use Rattle.cmh_audit.specs.Inner.Declarations.{declares}
 use Rattle.cmh_audit.specs.Journals.{journal_of, OneEach}
-use Rattle.cmh_audit.specs.Links.{Links, waiting}
-use Rattle.cmh_audit.specs.Sums.{in_journals}
+use Rattle.cmh_audit.specs.Inner.Links.{Links, waiting}
+use Rattle.cmh_audit.specs.Inner.AllSums.{in_journals}
 use Rattle.cmh_audit.specs.Transit.{sum_over, in_transit}
-use Rattle.cmh_audit.specs.Turns.{turned, turns}
-use Rattle.cmh_audit.specs.Cycles.{WaitsIn, IsCycleIn, IsFirstCycleOf}
-use Rattle.cmh_audit.specs.Reports.{beside, IsFirstCycle, AreFirstCycles, AreOnCycles}
+use Rattle.cmh_audit.specs.Inner.Turns.{turned, turns}
+use Rattle.cmh_audit.specs.Inner.FoundCycles.{WaitsIn, IsCycleIn}
+use Rattle.cmh_audit.specs.Reports.{beside, IsFirstCycle}
+use Rattle.cmh_audit.specs.Inner.FoundCycles.{AreFirstCycles, AreOnCycles}
 use Rattle.cmh_audit.proofs.Members.{contains_rest}
 use Rattle.cmh_audit.proofs.CountingLemmas.{sum_same}
 use Rattle.cmh_audit.proofs.DeclarationLemmas.{declared_at_end}
 use Rattle.cmh_audit.proofs.TurnLemmas.{waits_at_end}
+use Rattle.cmh_audit.specs.Cycles.{IsFirstCycleOf}
 
 later : (i d : ℕ) (is : List ℕ) → Contains is i → Contains (d ∷ is) i
 later i d is c = (suc c.0, let l = c.1 in omega (arith, l), c.2)

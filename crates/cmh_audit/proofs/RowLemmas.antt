@@ -3,8 +3,10 @@ use Rattle.std.proofs.Common.{inl, inr, ◌≡◌, ◌↔◌, ℕ, ◌+◌, ◌*
 use Rattle.std.specs.Int.Bits.{bit_and, bit_or}
 use Rattle.std.proofs.lemmas.Bool.{eq-eqb, ne_eqb, cases_eq, cases_lt, and_parts, and_from, or_cases, or_left, or_right}
 use Rattle.std.proofs.lemmas.List.{get_or_default, get_or_past, get_or-set_same, get_or-set_other, length-set}
-use Rattle.cmh_audit.specs.Rows.{is_set, has_place, row_at}
-use Rattle.cmh_audit.proofs.BitLemmas.{both_bit, no_bit, set_bit}
+use Rattle.cmh_audit.specs.Inner.Rows.{has_place, row_at}
+use Rattle.cmh_waits.specs.Rows.{is_set}
+use Rattle.cmh_audit.proofs.BitLemmas.{both_bit}
+use Rattle.cmh_waits.proofs.BitLemmas.{no_bit, set_bit}
 
 pub word_at : (xs : List ℕ) (i x : ℕ) → i < length xs → x ≡ get_or xs i x → get_or xs i 0 ≡ x
 word_at xs i x l here = sym (here ∙ get_or_default xs i x 0 l)

@@ -13,7 +13,7 @@ use Rattle.cmh_model.proofs.Effects.{none_from_own}
 use Rattle.cmh_model.proofs.Journals.{entries_here, entries_elsewhere, entries_of-append, lawful_front, lawful_rest, receipts_of-append}
 use Rattle.cmh_model.proofs.LongerRuns.{run_longer}
 use Rattle.std.proofs.Math.Seq.{drop-append_seam}
-use Rattle.cmh_audit.specs.Merging.{CanGrow}
+use Rattle.cmh_audit.specs.Inner.Merging.{CanGrow}
 use Rattle.cmh_model.proofs.Beginnings.{beginning_nil, beginning_trans, beginning_more, grow, sendings_of-beginning}
 
 pub entries_of-beginning : (site : ℕ) (xs ys : List WorldEvent) → IsBeginningOf xs ys → IsBeginningOf (entries_of site xs) (entries_of site ys)

@@ -1,17 +1,17 @@
 -- The tests of a set of journals, and what they test.
-use Rattle.std.proofs.Common.{◌≡◌, ◌↔◌, ℕ, ◌==◌, ◌||◌, not, Bool, true, false, true≢false, List, [], ◌∷◌, map, sym, ap, refl, ◌∙◌, arith}
+use Rattle.std.proofs.Common.{◌≡◌, ◌↔◌, ℕ, ◌==◌, ◌||◌, not, Bool, true, false, true≢false, List, [], ◌∷◌, map, sym, ap, refl, ◌∙◌}
 use Rattle.std.specs.Prelude.{Contains, All}
 use Rattle.std.specs.List.{list_any, AllByRecursion}
 use Rattle.std.proofs.lemmas.Bool.{eq-eqb, ne_eqb, eqb-true}
 use Rattle.std.proofs.lemmas.List.Elements.{All-from_recursion, recursion_from_All}
 use Rattle.cmh_frames.specs.declared.edition.Edition.{Edition}
-use Rattle.cmh_frames.specs.declared.edition.Edition.TheVariants.{One, Two}
 use Rattle.cmh_frames.specs.Edition.{number_of}
 use Rattle.cmh_frames.specs.Topology.{Topology, sites_of, is_site}
 use Rattle.cmh_model.proofs.Members.{found_at, found_from}
 use Rattle.cmh_journal.specs.Journal.{Journal}
 use Rattle.cmh_audit.specs.Journals.{NoneAt, OneEach}
 use Rattle.cmh_audit.specs.Set.{is_stranger, is_of_other_edition, has_journal, repeats_site, lacks_site}
+use Rattle.cmh_journal.proofs.Readings.{same_edition}
 
 -- ---- tests of lists
 
@@ -43,15 +43,9 @@ known_iff t js =
       λ all. any_none (is_stranger t) (λ (j : Journal). Contains (sites_of t) j.site) js (λ j c. ap not (found_from (sites_of t) j.site c)) (recursion_from_All (λ (j : Journal). Contains (sites_of t) j.site) js all),
     )
 
-same_number : (e f : Edition) → number_of e ≡ number_of f → e ≡ f
-same_number One One h = refl
-same_number One Two h = absurd (omega arith)
-same_number Two One h = absurd (omega arith)
-same_number Two Two h = refl
-
 pub edition_iff : (e : Edition) (js : List Journal) → (list_any (is_of_other_edition e) js ≡ false) ↔ All (λ (j : Journal). j.edition ≡ e) js
 edition_iff e js = (
-  λ h. All-from_recursion (λ (j : Journal). j.edition ≡ e) js (none_any (is_of_other_edition e) (λ (j : Journal). j.edition ≡ e) js (λ j n. same_number j.edition e (eqb-true (number_of j.edition) (number_of e) (not_false (number_of j.edition == number_of e) n))) h),
+  λ h. All-from_recursion (λ (j : Journal). j.edition ≡ e) js (none_any (is_of_other_edition e) (λ (j : Journal). j.edition ≡ e) js (λ j n. same_edition j.edition e (eqb-true (number_of j.edition) (number_of e) (not_false (number_of j.edition == number_of e) n))) h),
   λ all. any_none (is_of_other_edition e) (λ (j : Journal). j.edition ≡ e) js (λ j is. ap not (eq-eqb (number_of j.edition) (number_of e) (ap number_of is))) (recursion_from_All (λ (j : Journal). j.edition ≡ e) js all),
 )
 

@@ -12,9 +12,10 @@ use Rattle.cmh_model.specs.declared.journal.Entry.{Entry}
 use Rattle.cmh_model.specs.Runs.{IsBeginningOf, ComeFromRun, entries_of}
 use Rattle.cmh_journal.specs.Journal.{Journal}
 use Rattle.cmh_audit.specs.Journals.{journal_of, NoneAt, OneEach}
-use Rattle.cmh_audit.specs.Merging.{taken_of, IsStuck}
+use Rattle.cmh_audit.specs.Inner.Merging.{taken_of, IsStuck}
 use Rattle.cmh_audit.specs.Set.{IsSet}
-use Rattle.cmh_audit.specs.Stops.{AreStops, before_stop, stops_at}
+use Rattle.cmh_audit.specs.Stops.{AreStops, before_stop}
+use Rattle.cmh_audit.specs.Inner.FoundStops.{stops_at}
 use Rattle.cmh_model.proofs.Beginnings.{length-beginning}
 use Rattle.cmh_audit.proofs.RunLemmas.{confluence}
 use Rattle.cmh_audit.proofs.Sums.{journal_none}

@@ -8,7 +8,8 @@ use Rattle.cmh_model.specs.Runs.{entries_of, ComesFrom}
 use Rattle.cmh_model.proofs.Journals.{entries_here, entries_elsewhere}
 use Rattle.cmh_journal.specs.Journal.{Journal}
 use Rattle.cmh_audit.specs.Journals.{journal_of, NoneAt, OneEach}
-use Rattle.cmh_audit.specs.Sums.{in_entries, in_journals, in_run}
+use Rattle.cmh_audit.specs.Sums.{in_entries}
+use Rattle.cmh_audit.specs.Inner.AllSums.{in_journals, in_run}
 
 in_entries-append : (f : Entry → ℕ) (xs ys : List Entry) → in_entries f (xs ++ ys) ≡ in_entries f xs + in_entries f ys
 in_entries-append f [] ys = omega arith

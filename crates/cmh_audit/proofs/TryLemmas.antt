@@ -10,12 +10,13 @@ use Rattle.cmh_frames.specs.Topology.{Topology, sites_of}
 use Rattle.cmh_model.specs.declared.journal.Entry.{Entry}
 use Rattle.cmh_journal.specs.Journal.{Journal}
 use Rattle.cmh_audit.specs.Journals.{journal_of, OneEach, entry_count}
-use Rattle.cmh_audit.specs.Merging.{taken_of, IsStuck, total, sent_by, AreTried}
+use Rattle.cmh_audit.specs.Inner.Merging.{taken_of, IsStuck, total, sent_by, AreTried}
 use Rattle.cmh_audit.specs.Sums.{in_entries}
 use Rattle.cmh_audit.specs.Transit.{sent_count}
-use Rattle.cmh_audit.specs.Ready.{ArePlaces}
+use Rattle.cmh_audit.specs.Inner.Ready.{ArePlaces}
 use Rattle.cmh_audit.specs.Set.{IsSet}
-use Rattle.cmh_audit.specs.Stops.{before_stop, stops_at}
+use Rattle.cmh_audit.specs.Stops.{before_stop}
+use Rattle.cmh_audit.specs.Inner.FoundStops.{stops_at}
 use Rattle.cmh_audit.specs.Verdicts.{entries_before, sent_before}
 use Rattle.cmh_audit.proofs.CountLemmas.{total-set, total-none, taken_here, journal_here, found}
 use Rattle.cmh_audit.proofs.CountingLemmas.{Fresh, Apart, without, without_length, without_keeps, few_journals}

@@ -25,8 +25,9 @@ use Rattle.cmh_model.specs.Laws.{bit, count_of, AsksAndReplies}
 use Rattle.cmh_model.proofs.Pairs.{pair_cmp_total}
 use Rattle.cmh_journal.specs.Journal.{Journal}
 use Rattle.cmh_audit.specs.Journals.{journal_of, OneEach}
-use Rattle.cmh_audit.specs.Sums.{in_entries, in_journals, in_run}
-use Rattle.cmh_audit.specs.Turns.{turned, turns_of, turns, is_open, Turns, one_at}
+use Rattle.cmh_audit.specs.Sums.{in_entries}
+use Rattle.cmh_audit.specs.Inner.AllSums.{in_journals, in_run}
+use Rattle.cmh_audit.specs.Inner.Turns.{turned, turns_of, turns, is_open, Turns, one_at}
 use Rattle.cmh_audit.proofs.LinkLemmas.{is_eq-nat_cmp, is_eq-then, and_eq}
 use Rattle.cmh_audit.proofs.Sums.{in_run-in_journals}
 

@@ -1,16 +1,9 @@
 pub mod Journals
-pub mod Links
-pub mod Merging
-pub mod Ready
 pub mod Set
 pub mod Stops
 pub mod Sums
-pub mod Turns
-pub mod Declarations
 pub mod Cycles
-pub mod Graphs
-pub mod Levels
 pub mod Transit
-pub mod Rows
 pub mod Reports
 pub mod Verdicts
+pub mod Inner

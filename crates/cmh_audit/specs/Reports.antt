@@ -5,8 +5,8 @@ use Rattle.cmh_frames.specs.Topology.{Topology}
 use Rattle.cmh_model.specs.declared.journal.WorldEvent.{WorldEvent}
 use Rattle.cmh_model.specs.Relation.{pair_cmp}
 use Rattle.cmh_model.specs.Runs.{IsDrained}
-use Rattle.cmh_model.specs.Waits.{Waits, IsCycle, IsDeclared}
-use Rattle.cmh_audit.specs.Cycles.{WaitsIn, IsCycleIn, ComesFirst, IsFirstCycleOf}
+use Rattle.cmh_model.specs.Waits.{Waits, IsDeclared}
+use Rattle.cmh_audit.specs.Cycles.{IsFirstCycleOf}
 use Rattle.cmh_audit.specs.Transit.{in_transit}
 
 pub record Report : Type 0 where
@@ -27,16 +27,16 @@ beside (d ∷ declared) (members ∷ cycles) i = if d == i then Some members els
 abbrev pub cycle_of : Report → ℕ → Option (List ℕ)
 cycle_of report i = beside report.declared report.cycles i
 
--- a shortest cycle through i, and of those the least by comparing them number by number
-pub record IsFirstCycle (events : List WorldEvent) (i : ℕ) (members : List ℕ) : Type 0 where
-  pub cycle : IsCycle events i members
-  pub first : (other : List ℕ) → IsCycle events i other → ComesFirst members other
+-- of the cycles of waits through i at the end of the list it is the first
+abbrev pub IsFirstCycle : List WorldEvent → ℕ → List ℕ → Type 0
+IsFirstCycle events i members = IsFirstCycleOf (Waits events) i members
 
 -- what a report says of a run, of which it has the number of events besides
 pub record Reports (t : Topology) (events : List WorldEvent) (report : Report) : Type 0 where
   pub waits : (j k : ℕ) → Contains report.waits (j, k) ↔ Waits events j k
   pub declared : (i : ℕ) → Contains report.declared i ↔ IsDeclared events i
-  pub cycles : (i : ℕ) → MatchOption (cycle_of report i) (IsDeclared events i → ⊥) (λ members. IsDeclared events i × IsFirstCycle events i members)
+  pub cycles : (i : ℕ) → MatchOption (cycle_of report i) (IsDeclared events i → ⊥)
+      (λ members. IsDeclared events i × IsFirstCycle events i members)
   pub in_transit : report.in_transit ≡ in_transit t events
   pub drained : (report.in_transit ≡ 0) ↔ IsDrained events
 
@@ -44,16 +44,3 @@ pub record Reports (t : Topology) (events : List WorldEvent) (report : Report) :
 pub record IsInOrder (report : Report) : Type 0 where
   pub waits : IsStrictlySortedBy pair_cmp report.waits
   pub declared : IsStrictlyIncreasing report.declared
-
--- ---- cycles in a list of waits
-
--- one for each of these processes
-abbrev pub AreFirstCycles : List (ℕ × ℕ) → List ℕ → List (List ℕ) → Type 0
-AreFirstCycles waits [] [] = Unit {0}
-AreFirstCycles waits [] (members ∷ cycles) = ⊥
-AreFirstCycles waits (i ∷ processes) [] = ⊥
-AreFirstCycles waits (i ∷ processes) (members ∷ cycles) = IsFirstCycleOf (λ j k. WaitsIn waits j k) i members × AreFirstCycles waits processes cycles
-
--- each of them is on a cycle
-abbrev pub AreOnCycles : List (ℕ × ℕ) → List ℕ → Type 0
-AreOnCycles waits processes = (i : ℕ) → Contains processes i → (members : List ℕ) × IsCycleIn waits i members

@@ -43,7 +43,8 @@ looks_due journals (Refused stops) = entries_before stops.rows journals + length
 -- how many frames the entries before the stops sent
 abbrev pub sent_before : List (ℕ × ℕ) → List Journal → ℕ
 sent_before stops [] = 0
-sent_before stops (j ∷ journals) = in_entries sent_count (before_stop stops j.site j.entries) + sent_before stops journals
+sent_before stops (j ∷ journals) =
+    in_entries sent_count (before_stop stops j.site j.entries) + sent_before stops journals
 
 -- a look more for each frame that an entry sent that was taken: it may be that for which a site is looked at again
 abbrev pub looks_caused : List Journal → Verdict → ℕ
@@ -52,7 +53,8 @@ looks_caused journals (Refused stops) = looks_due journals (Refused stops) + sen
 
 -- ---- the whole verdict
 
--- the verdict is the auditor's: accepted exactly where the journals come from one run; the report holds of every such run
+-- the verdict is the auditor's: accepted exactly where the journals come from one run;
+-- the report holds of every such run
 pub record IsVerdictOn (t : Topology) (journals : List Journal) (verdict : Verdict) : Type 0 where
   pub accepted : IsAccepted verdict ↔ ComeFromRun t (journal_of journals)
   pub report : IfAccepted verdict (λ report. (events : List WorldEvent) → IsRun t events

@@ -2,8 +2,8 @@
 
 ghost use Rattle.std.specs.Prelude.{◌≡◌, ℕ, ◌*◌, ◌<◌, ◌≤◌, ◌^◌, length};
 ghost use Rattle.cmh_audit.specs.Journals.{entry_count};
-ghost use Rattle.cmh_audit.specs.Links.{waiting};
-ghost use Rattle.cmh_audit.specs.Sums.{in_journals};
+ghost use Rattle.cmh_audit.specs.Inner.Links.{waiting};
+ghost use Rattle.cmh_audit.specs.Inner.AllSums.{in_journals};
 ghost use Rattle.cmh_audit.specs.Transit.{sum_over, sent_count};
 
 use crate::links::{Links, frames_on};

@@ -1,20 +1,24 @@
 //! The shortest cycle of waits through a process, and of those the least.
 //!
-//! First come the levels of the places that lead to the process's, by how many waits it takes, up to the first level with
-//! one of its holders; then the cycle goes, from the process on, each time to the least holder in the level that is left.
+//! First come the levels of the places that lead to the process's, by how many waits it takes, up to the first level
+//! with one of its holders; then the cycle goes, from the process on, each time to the least holder in the level that
+//! is left.
 
 ghost use Rattle.std.specs.Prelude.{◌≡◌, ◌↔◌, ℕ, ◌+◌, ◌<◌, ◌≤◌, ◌/◌, ◌^◌, true, false, List, length, map, slice_index, IfOk, IfSome, IfNone};
-ghost use Rattle.cmh_audit.specs.Cycles.{IsCycleIn, IsCycleOf, ComesFirst, IsFirstCycleOf};
-ghost use Rattle.cmh_audit.specs.Graphs.{IsGraph, WaitsAt};
-ghost use Rattle.cmh_audit.specs.Levels.{LeadBack};
-ghost use Rattle.cmh_audit.specs.Rows.{has_place, row_at};
+ghost use Rattle.cmh_audit.specs.Inner.FoundCycles.{IsCycleIn};
+ghost use Rattle.cmh_audit.specs.Cycles.{ComesFirst, IsFirstCycleOf};
+ghost use Rattle.cmh_audit.specs.Inner.Graphs.{IsGraph, WaitsAt};
+ghost use Rattle.cmh_audit.specs.Inner.Levels.{LeadBack};
+ghost use Rattle.cmh_audit.specs.Inner.Rows.{has_place, row_at};
+ghost use Rattle.cmh_model.specs.Paths.{IsCycleOf};
 
 use crate::graph::{Graph, place_of};
 use crate::row::Row;
 use cmh_frames::ProcId;
 use std::alloc::{AllocError, Global};
 
-/// The shortest cycle of waits through a process, and of those the least by comparing them number by number, if there is one.
+/// The shortest cycle of waits through a process, and of those the least by comparing them number by number, if there
+/// is one.
 pub fn shortest_cycle(
     alloc: Global,
     graph: &Graph,
@@ -24,7 +28,8 @@ pub fn shortest_cycle(
     ensures cycle { IfOk result (λ found. IfSome found (λ members. IsCycleIn graph.now.waits.items of members.items)) }
     ensures first { IfOk result (λ found. IfSome found (λ members.
         (other : List ℕ) → IsCycleIn graph.now.waits.items of other → ComesFirst members.items other)) }
-    ensures none { IfOk result (λ found. IfNone found ((other : List ℕ) → IsCycleIn graph.now.waits.items of other → ⊥)) }
+    ensures none { IfOk result (λ found. IfNone found
+        ((other : List ℕ) → IsCycleIn graph.now.waits.items of other → ⊥)) }
 {
     let Some(place) = place_of(&graph.processes, of) else {
         return Ok(None);
@@ -36,8 +41,8 @@ pub fn shortest_cycle(
     Ok(Some(members))
 }
 
-/// The levels of the places that lead to this one, up to the first with a holder of it. Where no level has one, there are
-/// none.
+/// The levels of the places that lead to this one, up to the first with a holder of it. Where no level has one, there
+/// are none.
 fn levels_to(alloc: Global, graph: &Graph, to: usize) -> Result<Option<Vec<Row>>, AllocError>
     requires graph { IsGraph graph.now graph.now.waits.items }
     requires place { to < length graph.now.processes.items }
@@ -70,12 +75,14 @@ fn levels_to(alloc: Global, graph: &Graph, to: usize) -> Result<Option<Vec<Row>>
 
 /// The askers of the level that were not seen yet.
 fn next_level(alloc: Global, askers: &[Row], level: &Row, seen: &Row) -> Result<Row, AllocError>
-    requires inside { (k : ℕ) → has_place level.now k ≡ true → (k < length askers.now) × (length (row_at askers.now k) ≡ length level.now) }
+    requires inside { (k : ℕ) → has_place level.now k ≡ true → (k < length askers.now)
+        × (length (row_at askers.now k) ≡ length level.now) }
     requires words { length seen.now ≡ length level.now }
     requires small { length level.now ≤ 2 ^ 57 }
     ensures words { IfOk result (λ row. length row ≡ length level.now) }
     ensures places { IfOk result (λ row. (v : ℕ) → has_place row v ≡ true
-        ↔ (((k : ℕ) × (has_place level.now k ≡ true) × (has_place (row_at askers.now k) v ≡ true)) × (has_place seen.now v ≡ false))) }
+        ↔ (((k : ℕ) × (has_place level.now k ≡ true) × (has_place (row_at askers.now k) v ≡ true))
+            × (has_place seen.now v ≡ false))) }
 {
     let mut next = level.union_of(alloc, askers)?;
     next.remove_all(seen);
@@ -92,8 +99,10 @@ fn walk(
     requires graph { IsGraph graph.now graph.now.waits.items }
     requires place { from < length graph.now.processes.items }
     requires back { LeadBack (λ a b. WaitsAt graph.now.processes.items graph.now.waits.items a b) from levels.now }
-    requires words { (d : ℕ) → d < length levels.now → length (row_at levels.now d) ≡ length graph.now.processes.items / 64 + 1 }
-    ensures { IfOk result (λ members. (places : List ℕ) × (members.items ≡ map (λ a. slice_index graph.now.processes.items a) places)
+    requires words { (d : ℕ) → d < length levels.now → length (row_at levels.now d)
+        ≡ length graph.now.processes.items / 64 + 1 }
+    ensures { IfOk result (λ members. (places : List ℕ)
+        × (members.items ≡ map (λ a. slice_index graph.now.processes.items a) places)
         × IsFirstCycleOf (λ a b. WaitsAt graph.now.processes.items graph.now.waits.items a b) from places) }
 {
     let mut members = Vec::new(alloc);

@@ -4,8 +4,9 @@ ghost use Rattle.std.specs.Prelude.{◌≡◌, ◌↔◌, ℕ, ◌<◌, OnOk, If
 ghost use Rattle.std.specs.BTreeSet.{keys, IsOrdered};
 ghost use Rattle.std.specs.List.Sorted.{IsStrictlyIncreasing};
 ghost use Rattle.std.specs.Ordering.{nat_cmp};
-ghost use Rattle.cmh_audit.specs.Sums.{in_entries, in_journals};
-ghost use Rattle.cmh_audit.specs.Declarations.{declares, Adds};
+ghost use Rattle.cmh_audit.specs.Sums.{in_entries};
+ghost use Rattle.cmh_audit.specs.Inner.AllSums.{in_journals};
+ghost use Rattle.cmh_audit.specs.Inner.Declarations.{declares, Adds};
 
 use cmh_frames::ProcId;
 use cmh_journal::Journal;
@@ -15,7 +16,8 @@ use std::collections::BTreeSet;
 
 /// The processes that the journals declare, ascending.
 pub fn declared_of(alloc: Global, journals: &[Journal]) -> Result<Vec<ProcId>, AllocError>
-    ensures declared { IfOk result (λ list. (i : ℕ) → Contains list.items i ↔ (0 < in_journals (declares i) journals.now)) }
+    ensures declared { IfOk result (λ list. (i : ℕ) → Contains list.items i
+        ↔ (0 < in_journals (declares i) journals.now)) }
     ensures ascending { IfOk result (λ list. IsStrictlyIncreasing list.items) }
 {
     let mut declared: BTreeSet<ProcId> = BTreeSet::new(alloc);

@@ -3,8 +3,8 @@
 ghost use Rattle.std.specs.Prelude.{◌≡◌, ◌⊎◌, ℕ, ◌+◌, ◌<◌, ◌/◌, ◌==◌, ◌||◌, ◌&&◌, length, slice_index, Contains, IfOk, MatchOption};
 ghost use Rattle.std.specs.List.Sorted.{IsStrictlyIncreasing, IsStrictlySortedBy};
 ghost use Rattle.cmh_model.specs.Relation.{pair_cmp};
-ghost use Rattle.cmh_audit.specs.Graphs.{AreAskers, IsGraph};
-ghost use Rattle.cmh_audit.specs.Rows.{IsTable, has_place, row_at};
+ghost use Rattle.cmh_audit.specs.Inner.Graphs.{AreAskers, IsGraph};
+ghost use Rattle.cmh_audit.specs.Inner.Rows.{IsTable, has_place, row_at};
 
 use crate::row::Row;
 use cmh_frames::ProcId;
@@ -93,7 +93,8 @@ fn relate(table: &mut Vec<Row>, a: usize, b: usize)
     requires words { b / 64 < length (row_at table.old.items a) }
     ensures long { length table.new.items ≡ length table.old.items }
     ensures wide { (k : ℕ) → length (row_at table.new.items k) ≡ length (row_at table.old.items k) }
-    ensures places { (k v : ℕ) → has_place (row_at table.new.items k) v ≡ (((k == a) && (v == b)) || has_place (row_at table.old.items k) v) }
+    ensures places { (k v : ℕ) → has_place (row_at table.new.items k) v
+        ≡ (((k == a) && (v == b)) || has_place (row_at table.old.items k) v) }
 {
     table[a].insert(b);
 }

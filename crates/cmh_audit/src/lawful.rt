@@ -1,7 +1,7 @@
 //! How far journals keep the rules of their own sites.
 
 ghost use Rattle.std.specs.Prelude.{IfOk};
-ghost use Rattle.cmh_audit.specs.Merging.{IsLawfulLength, AreLawfulLengths};
+ghost use Rattle.cmh_audit.specs.Inner.Merging.{IsLawfulLength, AreLawfulLengths};
 
 use cmh_controller::{Replayed, replay};
 use cmh_frames::{SiteId, Topology};

@@ -1,7 +1,7 @@
 //! The frames that are under way between the sites while journals are merged.
 
 ghost use Rattle.std.specs.Prelude.{◌≡◌, ℕ, ◌++◌, slice_get, OnOk, length};
-ghost use Rattle.cmh_audit.specs.Links.{waiting, only_at, if_some_at};
+ghost use Rattle.cmh_audit.specs.Inner.Links.{waiting, only_at, if_some_at};
 
 use cmh_frames::{Frame, SiteId};
 use std::alloc::{AllocError, Global};

@@ -2,8 +2,8 @@
 
 ghost use Rattle.std.specs.Prelude.{◌≡◌, ◌↔◌, ◌+◌, ◌*◌, ◌≤◌, ◌<◌, ◌^◌, length, OnOk, IfOk, IsTrue, []};
 ghost use Rattle.cmh_audit.specs.Journals.{OneEach, entry_count};
-ghost use Rattle.cmh_audit.specs.Merging.{IsNext, Sends, Moves, IsStuck, AreLeft, AreTried};
-ghost use Rattle.cmh_audit.specs.Ready.{Wakes, ArePlaces};
+ghost use Rattle.cmh_audit.specs.Inner.Merging.{IsNextFrame, SendsFrames, MovesFrames, IsStuck, AreLeft, AreTried};
+ghost use Rattle.cmh_audit.specs.Inner.Ready.{Wakes, ArePlaces};
 
 use crate::lawful::lawful_lengths;
 use crate::links::{Links, next_frame, receive, send};
@@ -24,7 +24,8 @@ pub struct Merged {
     pub tries: u64,
 }
 
-/// Takes entries while any can be taken. A site that lacks a frame is tried again only after the frame's sender sent it one.
+/// Takes entries while any can be taken. A site that lacks a frame is tried again only after the frame's sender sent
+/// it one.
 pub fn merge(alloc: Global, topology: &Topology, journals: &[Journal]) -> Result<Merged, AllocError>
     requires once { OneEach journals.now }
     requires few { length journals.now ≤ 65536 }
@@ -76,7 +77,7 @@ pub fn merge(alloc: Global, topology: &Topology, journals: &[Journal]) -> Result
 
 /// Whether the frame that the event got, if it got one, is the next of its link.
 fn is_next(links: &Links, site: SiteId, event: &Event) -> bool
-    ensures { IsTrue result ↔ IsNext links.now site event.now }
+    ensures { IsTrue result ↔ IsNextFrame links.now site event.now }
 {
     match event {
         Event::Got { from, frame } => next_frame(links, *from, site) == Some(*frame),
@@ -91,7 +92,7 @@ fn send_all(
     site: SiteId,
     sent: &[(SiteId, Frame)],
 ) -> Result<(), AllocError>
-    ensures { OnOk result (Sends links.old links.new site sent.now) }
+    ensures { OnOk result (SendsFrames links.old links.new site sent.now) }
 {
     for (to, frame) in sent {
         send(alloc, links, site, *to, *frame)?;
@@ -106,8 +107,8 @@ fn move_frames(
     site: SiteId,
     entry: &Entry,
 ) -> Result<(), AllocError>
-    requires { IsNext links.old site entry.now.event }
-    ensures { OnOk result (Moves links.old links.new site entry.now) }
+    requires { IsNextFrame links.old site entry.now.event }
+    ensures { OnOk result (MovesFrames links.old links.new site entry.now) }
 {
     if let Event::Got { from, .. } = &entry.event {
         receive(links, *from, site);
@@ -125,7 +126,8 @@ fn wake(
 ) -> Result<(), AllocError>
     requires once { OneEach journals.now }
     requires long { length lacks.old ≡ length journals.now }
-    ensures { OnOk result (Wakes journals.now sent.now ready.old.items ready.new.items lacks.old lacks.new from (length sent.now)) }
+    ensures { OnOk result (Wakes journals.now sent.now ready.old.items ready.new.items lacks.old lacks.new from
+        (length sent.now)) }
 {
     for (to, _) in sent {
         if let Some(k) = place_of(journals, *to) {

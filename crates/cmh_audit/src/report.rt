@@ -4,12 +4,13 @@ ghost use Rattle.std.specs.Prelude.{◌≡◌, ℕ, ◌<◌, ◌^◌, List, leng
 ghost use Rattle.std.specs.List.Sorted.{IsStrictlyIncreasing, IsStrictlySortedBy};
 ghost use Rattle.cmh_model.specs.declared.journal.WorldEvent.{WorldEvent};
 ghost use Rattle.cmh_model.specs.Runs.{ComeFromRun, ComesFrom, IsRun};
-ghost use Rattle.cmh_audit.specs.Graphs.{IsGraph};
+ghost use Rattle.cmh_audit.specs.Inner.Graphs.{IsGraph};
 ghost use Rattle.cmh_audit.specs.Journals.{journal_of, OneEach};
-ghost use Rattle.cmh_audit.specs.Merging.{AreAllLeft};
-ghost use Rattle.cmh_audit.specs.Sums.{in_journals};
+ghost use Rattle.cmh_audit.specs.Inner.Merging.{AreAllLeft};
+ghost use Rattle.cmh_audit.specs.Inner.AllSums.{in_journals};
 ghost use Rattle.cmh_audit.specs.Transit.{sent_count};
-ghost use Rattle.cmh_audit.specs.Reports.{beside, cycle_of, AreFirstCycles, AreOnCycles, IsInOrder, Reports};
+ghost use Rattle.cmh_audit.specs.Reports.{beside, cycle_of, IsInOrder, Reports};
+ghost use Rattle.cmh_audit.specs.Inner.FoundCycles.{AreFirstCycles, AreOnCycles};
 
 use crate::count::count_frames;
 use crate::cycle::shortest_cycle;
@@ -80,7 +81,8 @@ impl Model for Report {
       tries = r.tries;
     } };
 
-    ghost invariant = { λ r. (length r.cycles.items ≡ length r.declared.items) × IsStrictlyIncreasing r.declared.items };
+    ghost invariant = { λ r. (length r.cycles.items ≡ length r.declared.items)
+        × IsStrictlyIncreasing r.declared.items };
 }
 
 impl Report {

@@ -1,7 +1,8 @@
 //! Places as the bits of a row of words, so that a search looks at 64 of them at once.
 
 ghost use Rattle.std.specs.Prelude.{◌≡◌, ◌↔◌, ◌⊎◌, ℕ, ◌+◌, ◌<◌, ◌≤◌, ◌/◌, ◌^◌, ◌==◌, ◌||◌, ◌&&◌, not, true, false, length, IfOk, IfSome, IfNone, IsTrue};
-ghost use Rattle.cmh_audit.specs.Rows.{is_set, has_place, row_at};
+ghost use Rattle.cmh_audit.specs.Inner.Rows.{has_place, row_at};
+ghost use Rattle.cmh_waits.specs.Rows.{is_set};
 
 use std::alloc::{AllocError, Global};
 use std::marker::Model;
@@ -76,7 +77,8 @@ impl Row {
         requires words { length other.now ≡ length self.now }
         requires small { length self.now ≤ 2 ^ 57 }
         ensures some { IfSome result (λ place. (has_place self.now place ≡ true) × (has_place other.now place ≡ true)) }
-        ensures least { IfSome result (λ place. (k : ℕ) → has_place self.now k ≡ true → has_place other.now k ≡ true → place ≤ k) }
+        ensures least { IfSome result (λ place. (k : ℕ) → has_place self.now k ≡ true → has_place other.now k ≡ true
+            → place ≤ k) }
         ensures none { IfNone result ((k : ℕ) → has_place self.now k ≡ true → has_place other.now k ≡ true → ⊥) }
     {
         for at in 0..self.words.len() {
@@ -90,7 +92,8 @@ impl Row {
 
     /// All places of those rows of a table that stand at the places of this row.
     pub fn union_of(&self, alloc: Global, table: &[Row]) -> Result<Row, AllocError>
-        requires inside { (k : ℕ) → has_place self.now k ≡ true → (k < length table.now) × (length (row_at table.now k) ≡ length self.now) }
+        requires inside { (k : ℕ) → has_place self.now k ≡ true → (k < length table.now)
+            × (length (row_at table.now k) ≡ length self.now) }
         requires small { length self.now ≤ 2 ^ 57 }
         ensures words { IfOk result (λ row. length row ≡ length self.now) }
         ensures places { IfOk result (λ row. (v : ℕ) → has_place row v ≡ true
@@ -105,11 +108,14 @@ impl Row {
 
     /// Adds the rows of the table that stand at the bits of the word, the first of which stands for the row `start`.
     fn add_some(&mut self, table: &[Row], word: u64, start: usize)
-        requires inside { (p : ℕ) → p < 64 → is_set word p ≡ true → (start + p < length table.now) × (length (row_at table.now (start + p)) ≡ length self.old) }
+        requires inside { (p : ℕ) → p < 64 → is_set word p ≡ true → (start + p < length table.now)
+            × (length (row_at table.now (start + p)) ≡ length self.old) }
         requires small { start ≤ 2 ^ 63 }
         ensures words { length self.new ≡ length self.old }
         ensures places { (v : ℕ) → has_place self.new v ≡ true
-            ↔ ((has_place self.old v ≡ true) ⊎ ((p : ℕ) × (p < 64) × (is_set word p ≡ true) × (has_place (row_at table.now (start + p)) v ≡ true))) }
+            ↔ ((has_place self.old v ≡ true)
+                ⊎ ((p : ℕ) × (p < 64) × (is_set word p ≡ true)
+                × (has_place (row_at table.now (start + p)) v ≡ true))) }
     {
         let mut left = word;
         while left != 0 {

@@ -2,7 +2,7 @@
 
 ghost use Rattle.std.specs.Prelude.{◌≡◌, length, IfOk};
 ghost use Rattle.cmh_audit.specs.Journals.{OneEach};
-ghost use Rattle.cmh_audit.specs.Stops.{stops_at};
+ghost use Rattle.cmh_audit.specs.Inner.FoundStops.{stops_at};
 
 use crate::set::place_of;
 use cmh_frames::SiteId;

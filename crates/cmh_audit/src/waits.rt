@@ -7,8 +7,9 @@ ghost use Rattle.std.specs.BTreeSet.{keys, IsOrdered};
 ghost use Rattle.std.specs.List.Sorted.{IsStrictlySortedBy};
 ghost use Rattle.cmh_model.specs.Relation.{pair_cmp};
 ghost use Rattle.cmh_model.specs.Laws.{count_of};
-ghost use Rattle.cmh_audit.specs.Sums.{in_entries, in_journals};
-ghost use Rattle.cmh_audit.specs.Turns.{turned, turns, turns_of, Turns, one_at};
+ghost use Rattle.cmh_audit.specs.Sums.{in_entries};
+ghost use Rattle.cmh_audit.specs.Inner.AllSums.{in_journals};
+ghost use Rattle.cmh_audit.specs.Inner.Turns.{turned, turns, turns_of, Turns, one_at};
 
 use cmh_frames::ProcId;
 use cmh_journal::Journal;
@@ -21,7 +22,8 @@ type OpenWaits = BTreeSet<(ProcId, ProcId)>;
 
 /// The pairs of an asker and a holder that the journals leave open, ascending.
 pub fn waits_of(alloc: Global, journals: &[Journal]) -> Result<Vec<(ProcId, ProcId)>, AllocError>
-    ensures waits { IfOk result (λ waits. (j k : ℕ) → Contains waits.items (j, k) ↔ (turned (in_journals (turns j k) journals.now) false ≡ true)) }
+    ensures waits { IfOk result (λ waits. (j k : ℕ) → Contains waits.items (j, k)
+        ↔ (turned (in_journals (turns j k) journals.now) false ≡ true)) }
     ensures ascending { IfOk result (λ waits. IsStrictlySortedBy pair_cmp waits.items) }
 {
     let mut pairs: OpenWaits = BTreeSet::new(alloc);
@@ -45,7 +47,8 @@ fn turn(pairs: &mut OpenWaits, asker: ProcId, holder: ProcId) -> Result<(), Allo
 
 /// Turns the wait of the asker for each target.
 fn turn_all(pairs: &mut OpenWaits, asker: ProcId, targets: &[ProcId]) -> Result<(), AllocError>
-    ensures { OnOk result (Turns pairs.old pairs.new (λ j k. if asker == j then count_of (λ q. q == k) targets.now else 0)) }
+    ensures { OnOk result (Turns pairs.old pairs.new
+        (λ j k. if asker == j then count_of (λ q. q == k) targets.now else 0)) }
 {
     for target in targets {
         turn(pairs, asker, *target)?;

@@ -11,7 +11,8 @@ use Rattle.cmh_waits.proofs.BitLemmas.{cleared_bit}
 bit_cases : (x : ℕ) → x < 2 → (x ≡ 0) ⊎ (x ≡ 1)
 bit_cases x less = elim (cases_eq x 0) [ inl e ↦ inl e | inr n ↦ inr (omega arith) ]
 
-two_bits : (P : ℕ → ℕ → Type 0) → P 0 0 → P 0 1 → P 1 0 → P 1 1 → (x y : ℕ) → x < 2 → y < 2 → P x y
+-- what holds of the four pairs of bits holds of any two
+pub two_bits : (P : ℕ → ℕ → Type 0) → P 0 0 → P 0 1 → P 1 0 → P 1 1 → (x y : ℕ) → x < 2 → y < 2 → P x y
 two_bits P a b c d x y less below = elim (bit_cases x less) [
   | inl e ↦ elim (bit_cases y below) [ inl f ↦ subst (λ z. P z y) (sym e) (subst (P 0) (sym f) a) | inr f ↦ subst (λ z. P z y) (sym e) (subst (P 0) (sym f) b) ]
   | inr e ↦ elim (bit_cases y below) [ inl f ↦ subst (λ z. P z y) (sym e) (subst (P 1) (sym f) c) | inr f ↦ subst (λ z. P z y) (sym e) (subst (P 1) (sym f) d) ]

@@ -12,7 +12,7 @@ use Rattle.cmh_dependents.specs.Marks.{AreThose}
 use Rattle.cmh_waits.specs.Rows.{is_set}
 
 -- an ascending list stays so with a greater number at its end
-IsStrictlyIncreasing-push : (xs : List ℕ) (p : ℕ) → IsStrictlyIncreasing xs → ((q : ℕ) → Contains xs q → q < p) → IsStrictlyIncreasing (xs ++ p ∷ [])
+pub IsStrictlyIncreasing-push : (xs : List ℕ) (p : ℕ) → IsStrictlyIncreasing xs → ((q : ℕ) → Contains xs q → q < p) → IsStrictlyIncreasing (xs ++ p ∷ [])
 IsStrictlyIncreasing-push xs p up below k h =
     let len : length (xs ++ p ∷ []) ≡ length xs + 1 = length-append xs (p ∷ []) in
     let inside : k < length xs = omega arith in

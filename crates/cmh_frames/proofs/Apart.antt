@@ -1,12 +1,11 @@
 -- Rows in which nothing stands twice.
 use Rattle.std.proofs.Common.{inl, inr, ◌≡◌, ◌≢◌, ◌↔◌, ℕ, Bool, true, false, ◌||◌, true≢false, List, [], ◌∷◌, map, None, Some, cond, refl, sym, ap, ◌∙◌, subst, ◌==◌}
-use Rattle.std.specs.Option.{is_some}
 use Rattle.std.specs.List.{list_any, AllByRecursion, IsDistinct}
 use Rattle.std.proofs.lemmas.Bool.{cases_eq, cases_Bool, eqb-true, eq-eqb, ne_eqb, and_parts, and_from, or_cases, or_parts, or_left, or_right}
-use Rattle.std.proofs.lemmas.List.Folds.{list_any-append}
 use Rattle.std.proofs.lemmas.Map.Keys.{IsDistinct-cons}
 use Rattle.cmh_frames.specs.Rows.{Row, has_site, has_process, repeats_site, repeats_among, repeats_process}
-use Rattle.cmh_frames.specs.Topology.{home_in, members_in, AreApart, is_named}
+use Rattle.cmh_frames.specs.Topology.{home_in, members_in, is_named}
+use Rattle.cmh_frames.specs.Inner.Kept.{AreApart}
 
 pub none_some : {n : ℕ} → None ≡ Some n → ⊥
 none_some e = cc

@@ -1,18 +1,15 @@
 -- Rows that are built from given rows without a fault.
-use Rattle.std.proofs.Common.{inl, inr, ◌⊎◌, ◌≡◌, ◌≢◌, ℕ, ◌<◌, ◌≤◌, Bool, true, false, ◌||◌, List, [], ◌∷◌, length, map, get_or, Option, None, Some, unwrap_or, refl, sym, ap, ◌∙◌, subst, arith, ◌==◌}
+use Rattle.std.proofs.Common.{inl, inr, ◌⊎◌, ◌≡◌, ℕ, ◌<◌, ◌≤◌, Bool, true, false, ◌||◌, List, [], ◌∷◌, length, map, Option, None, Some, refl, sym, ap, ◌∙◌, subst, arith, ◌==◌}
 use Rattle.std.specs.Prelude.{nat_le, nat_lt, if◌then◌else◌}
-use Rattle.std.specs.Option.{is_some}
 use Rattle.std.specs.Ordering.{nat_cmp}
 use Rattle.std.specs.declared.cmp.Ordering.TheVariants.{Less}
 use Rattle.std.specs.Cmp.{nat_cmp_total}
-use Rattle.std.specs.List.{list_any, AllByRecursion, All, IsDistinct}
+use Rattle.std.specs.List.{list_any, AllByRecursion, IsDistinct}
 use Rattle.std.specs.List.Sorted.{IsSorted, IsPermutation, IsStrictlyIncreasing, IsStrictlySortedBy}
-use Rattle.std.proofs.lemmas.Bool.{cases_eq, cases_Bool, eqb-true, eq-eqb, ne_eqb, or_cases, or_parts, or_left, or_right, and_parts, not-false, leb-true, ltb-true, ltb-false}
+use Rattle.std.proofs.lemmas.Bool.{cases_eq, cases_Bool, eqb-true, ne_eqb, or_cases, or_parts, and_parts, not-false, leb-true, ltb-false}
 use Rattle.std.proofs.lemmas.Cmp.{ranked}
-use Rattle.std.proofs.lemmas.List.{length-map, get_or_default, get_or-map}
+use Rattle.std.proofs.lemmas.List.{length-map}
 use Rattle.std.proofs.lemmas.List.Sorted.{sorted_far, ranks_by, list_any-IsPermutation, length_permutation}
-use Rattle.std.proofs.lemmas.List.Folds.{list_any_at}
-use Rattle.std.proofs.lemmas.List.Elements.{All-from_recursion, recursion_from_All}
 use Rattle.std.proofs.lemmas.Map.Keys.{IsDistinct-IsPermutation, IsStrictlyIncreasing-from_distinct, ge_from_not_lt, sorted_from_strictly_increasing}
 use Rattle.cmh_frames.specs.declared.edition.Edition.{Edition}
 use Rattle.cmh_frames.specs.declared.edition.Edition.TheVariants.{One, Two}
@@ -21,7 +18,8 @@ use Rattle.cmh_frames.specs.declared.rows.TopologyFault.TheVariants.{Limit, Repe
 use Rattle.cmh_frames.specs.Edition.{site_limit, member_limit}
 use Rattle.cmh_frames.specs.Number.{IsNumber, is_number}
 use Rattle.cmh_frames.specs.Rows.{Row, is_bad, is_over_limit, has_site, repeats_site, repeats_process, has_bad_number, fault_of}
-use Rattle.cmh_frames.specs.Topology.{Topology, home_in, members_in, AreApart, IsTopologyOf, HasNumbers, AreTidy, AreInOrder, HasMembersOf}
+use Rattle.cmh_frames.specs.Topology.{Topology, home_in, members_in, IsTopologyOf}
+use Rattle.cmh_frames.specs.Inner.Kept.{AreApart, HasNumbers, AreTidy, AreInOrder, HasMembersOf}
 use Rattle.cmh_frames.proofs.Apart.{none_some, some_same, not_both, eqb_comm, home_first, home_later, members_first, members_later, home_has_row, apart, distinct_members, distinct_sites, any_site, named_at}
 use Rattle.cmh_frames.proofs.Homes.{at_home}
 

@@ -7,7 +7,8 @@ use Rattle.cmh_frames.specs.declared.edition.Edition.{Edition}
 use Rattle.cmh_frames.specs.Edition.{site_limit, member_limit}
 use Rattle.cmh_frames.specs.Number.{IsNumber}
 use Rattle.cmh_frames.specs.Rows.{Row}
-use Rattle.cmh_frames.specs.Topology.{home_in, HasNumbers, IsWellFormed, AreTidy}
+use Rattle.cmh_frames.specs.Topology.{home_in, IsWellFormed}
+use Rattle.cmh_frames.specs.Inner.Kept.{HasNumbers, AreTidy}
 use Rattle.cmh_frames.proofs.Apart.{none_some, some_same, not_both, home_first, home_later}
 use Rattle.cmh_frames.proofs.Built.{members_at_rise, members_at_few}
 use Rattle.cmh_frames.proofs.Homes.{at_home}

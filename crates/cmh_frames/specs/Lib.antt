@@ -4,3 +4,4 @@ pub mod Rows
 pub mod Topology
 pub mod Wire
 pub mod Texts
+pub mod Inner

@@ -8,4 +8,5 @@ use Rattle.cmh_frames.specs.declared.frame.Frame.TheVariants.{Request, Reply, Pr
 abbrev pub frame_text : Frame → List ℕ
 frame_text (Request (asker, holder)) = codes "request " ++ decimal asker ++ codes " " ++ decimal holder
 frame_text (Reply (holder, asker)) = codes "reply " ++ decimal holder ++ codes " " ++ decimal asker
-frame_text (Probe (origin, from, to)) = codes "probe " ++ decimal origin ++ codes " " ++ decimal from ++ codes " " ++ decimal to
+frame_text (Probe (origin, from, to)) =
+    codes "probe " ++ decimal origin ++ codes " " ++ decimal from ++ codes " " ++ decimal to

@@ -1,8 +1,8 @@
 -- Which process is at which site.
 use Rattle.std.specs.Prelude.{◌≡◌, ◌↔◌, ℕ, ◌≤◌, Bool, true, false, ◌&&◌, List, [], ◌∷◌, ◌++◌, length, ◌==◌, if◌then◌else◌}
-use Rattle.std.specs.Prelude.{Option, None, Some, unwrap_or, map, slice_index_or, IsTrue}
-use Rattle.std.specs.List.{list_any, AllByRecursion}
-use Rattle.std.specs.List.Sorted.{IsNonDecreasing, IsPermutation, IsStrictlyIncreasing}
+use Rattle.std.specs.Prelude.{Option, None, Some, unwrap_or, map, IsTrue}
+use Rattle.std.specs.List.{list_any}
+use Rattle.std.specs.List.Sorted.{IsStrictlyIncreasing}
 use Rattle.cmh_frames.specs.declared.edition.Edition.{Edition}
 use Rattle.cmh_frames.specs.Edition.{site_limit, member_limit}
 use Rattle.cmh_frames.specs.Number.{IsNumber}
@@ -52,12 +52,6 @@ sites_of t = map (λ (row : ℕ × List ℕ). row.0) t.rows
 abbrev pub is_site : Topology → ℕ → Bool
 is_site t s = list_any (λ q. q == s) (sites_of t)
 
--- no site and no process stands in two rows
-abbrev pub AreApart : List (ℕ × List ℕ) → Type 0
-AreApart [] = Unit {0}
-AreApart (row ∷ rows) =
-    ((p : ℕ) → list_any (λ q. q == p) row.1 ≡ true → home_in rows p ≡ None) × ((p : ℕ) → home_in rows p ≡ Some row.0 → ⊥) × AreApart rows
-
 -- ---- a topology and the rows that were given for it
 
 -- whether a row of the site names the process
@@ -86,33 +80,7 @@ pub record IsWellFormed (t : Topology) : Type 0 where
   pub few_sites : length (sites_of t) ≤ site_limit t.edition
   pub few_members : (s : ℕ) → length (members_of t s) ≤ member_limit t.edition
 
--- the site and the processes of a row have numbers
-abbrev pub HasNumbers : Row → Type 0
-HasNumbers row = IsNumber row.0 × AllByRecursion IsNumber row.1
-
--- rows within the limits of the edition, ascending, and with nothing twice
-pub record AreTidy (edition : Edition) (rows : List Row) : Type 0 where
-  pub apart : AreApart rows
-  pub sites_ascend : IsStrictlyIncreasing (map (λ (row : Row). row.0) rows)
-  pub members_ascend : AllByRecursion (λ (row : Row). IsStrictlyIncreasing row.1) rows
-  pub few_members : AllByRecursion (λ (row : Row). length row.1 ≤ member_limit edition) rows
-  pub few_sites : length rows ≤ site_limit edition
-  pub numbers : AllByRecursion HasNumbers rows
-
 -- all processes of the rows
 abbrev pub all_members : List Row → List ℕ
 all_members [] = []
 all_members (row ∷ rows) = row.1 ++ all_members rows
-
--- at the number of each process its site
-abbrev pub AreHomes : List Row → List (Option ℕ) → Type 0
-AreHomes rows homes = (p : ℕ) → slice_index_or homes p None ≡ home_in rows p
-
--- the same numbers in order
-pub record AreInOrder (numbers ordered : List ℕ) : Type 0 where
-  pub ascending : IsNonDecreasing ordered
-  pub same : IsPermutation numbers ordered
-
--- the site's processes in order
-abbrev pub HasMembersOf : List Row → Row → Type 0
-HasMembersOf given row = AreInOrder (members_in given row.0) row.1

@@ -49,10 +49,6 @@ IsFront bytes (Whole f n) = (n ≤ length bytes) × Spells (take n bytes) f
 IsFront bytes Short = IsShort bytes
 IsFront bytes Bad = ¬ IsShort bytes × BeginsNoFrame bytes
 
--- two numbers of processes that differ
-abbrev pub IsPair : ℕ → ℕ → Type 0
-IsPair a b = IsNumber a × IsNumber b × (a ≢ b)
-
 -- ---- a link's bytes
 
 -- "CMH", the edition, and the number of the site that sends

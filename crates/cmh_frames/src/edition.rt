@@ -28,7 +28,8 @@ impl Edition {
 
     /// The edition of a number.
     pub const fn of_number(number: u8) -> Option<Edition>
-        ensures { MatchOption result ((edition : Edition) → number ≢ spec.number_of edition) (λ edition. number ≡ spec.number_of edition) }
+        ensures { MatchOption result ((edition : Edition) → number ≢ spec.number_of edition)
+            (λ edition. number ≡ spec.number_of edition) }
     {
         match number {
             1 => Some(Edition::One),

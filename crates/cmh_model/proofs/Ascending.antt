@@ -41,7 +41,8 @@ ascending_where xs false h = (
 
 -- ---- the same of lists that strictly increase
 
-head_below : (x : ℕ) (xs : List ℕ) → IsStrictlyIncreasing (x ∷ xs) → AllByRecursion (λ y. x < y) xs
+-- all that follow are greater
+pub head_below : (x : ℕ) (xs : List ℕ) → IsStrictlyIncreasing (x ∷ xs) → AllByRecursion (λ y. x < y) xs
 head_below x [] up = tt
 head_below x (y ∷ ys) up =
     let first : x < y = up 0 (omega arith) in

@@ -1,5 +1,5 @@
 -- Whom an event declares, and that a site declares each of its processes once.
-use Rattle.std.proofs.Common.{◌≡◌, ◌≢◌, ◌≤◌, ℕ, Bool, true, false, ◌||◌, List, [], ◌∷◌, ◌++◌, length, if◌then◌else◌, Option, None, Some, is_some, inl, inr, sym, ap, subst, ◌∙◌, ◌==◌, refl, true≢false, nat_cmp, arith}
+use Rattle.std.proofs.Common.{◌≡◌, ◌≤◌, ℕ, true, false, ◌||◌, List, [], ◌∷◌, ◌++◌, length, if◌then◌else◌, Option, None, Some, is_some, inl, inr, sym, ap, subst, ◌∙◌, ◌==◌, refl, true≢false, arith}
 use Rattle.std.specs.FinSet as set
 use Rattle.std.specs.Cmp.{nat_cmp_total, nat_eq_equiv, unsigned_tied}
 use Rattle.std.specs.List.{AllByRecursion, IsDistinct, list_any}

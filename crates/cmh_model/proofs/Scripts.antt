@@ -244,11 +244,11 @@ probe_is_ignored = acts_is (value three_processes 2 granted_before_the_probe) 1 
 -- ---- a process that becomes active
 
 -- the probe acts while 2 waits for 3
-acts_here : probe_acts (state_with ((2, 3) ∷ []) ((2, 1) ∷ (3, 2) ∷ []) [] []) 1 1 2 ≡ true
+pub acts_here : probe_acts (state_with ((2, 3) ∷ []) ((2, 1) ∷ (3, 2) ∷ []) [] []) 1 1 2 ≡ true
 acts_here = acts_is (state_with ((2, 3) ∷ []) ((2, 1) ∷ (3, 2) ∷ []) [] []) 1 1 2 true false true (has_some-pairs ((2, 3) ∷ []) 2) (has-pairs [] 2 1) (has-pairs ((2, 1) ∷ (3, 2) ∷ []) 2 1)
 
 -- and leaves a mark
-value_is : value three_processes 2 marked_by_the_probe ≡ state_with ((2, 3) ∷ []) ((2, 1) ∷ (3, 2) ∷ []) ((2, 1) ∷ []) []
+pub value_is : value three_processes 2 marked_by_the_probe ≡ state_with ((2, 3) ∷ []) ((2, 1) ∷ (3, 2) ∷ []) ((2, 1) ∷ []) []
 value_is = ap (λ z. if z then state_with ((2, 3) ∷ []) ((2, 1) ∷ (3, 2) ∷ []) ((2, 1) ∷ []) [] else state_with ((2, 3) ∷ []) ((2, 1) ∷ (3, 2) ∷ []) [] []) acts_here
 
 -- 1 is known to depend on 2

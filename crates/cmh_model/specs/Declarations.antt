@@ -18,4 +18,6 @@ declarations entries = flat_map (λ (e : Entry). option_to_list e.declared) entr
 
 -- Of every lawful journal, the processes that the controller keeps as declared are those that an entry declares.
 abbrev pub DeclaredByEntries : Topology → Type 0
-DeclaredByEntries t = (s : ℕ) (journal : List Entry) → IsLawful t s journal → (i : ℕ) → (set.contains (value t s journal).declared i ≡ true) ↔ Declares journal i
+DeclaredByEntries t =
+    (s : ℕ) (journal : List Entry) → IsLawful t s journal
+    → (i : ℕ) → (set.contains (value t s journal).declared i ≡ true) ↔ Declares journal i

@@ -13,7 +13,8 @@ is_ask_of p (Reply holder asker) = false
 is_ask_of p (Start i) = false
 is_ask_of p (Got from frame) = false
 
--- Of these members d is the last that asked: it is one of them, some entry is an ask of it, and no later one is an ask of a member.
+-- Of these members d is the last that asked: it is one of them, some entry is an ask
+-- of it, and no later one is an ask of a member.
 pub record AskedLast (events : List WorldEvent) (members : List ℕ) (d : ℕ) : Type 0 where
   pub member : list_any (λ q. q == d) members ≡ true
   pub before : List WorldEvent
@@ -26,4 +27,5 @@ pub record AskedLast (events : List WorldEvent) (members : List ℕ) (d : ℕ) :
 -- Each cycle has a process that asked last of its members, and that one is declared.
 pub record LastAskerDeclared (events : List WorldEvent) : Type 0 where
   pub some : (i : ℕ) (members : List ℕ) → IsCycle events i members → (d : ℕ) × AskedLast events members d
-  pub declared : (i : ℕ) (members : List ℕ) → IsCycle events i members → (d : ℕ) → AskedLast events members d → IsDeclared events d
+  pub declared : (i : ℕ) (members : List ℕ) → IsCycle events i members
+      → (d : ℕ) → AskedLast events members d → IsDeclared events d

@@ -37,20 +37,29 @@ count_of p (x ∷ xs) = bit (p x) + count_of p xs
 -- The facts at one moment of a run.
 pub record Facts (t : Topology) (events : List WorldEvent) : Type 0 where
   -- a process that a site keeps as dependent on k is so, and k is a blocked process of the site
-  pub dependents : (b k i : ℕ) → has (state_of t b events).dependents k i ≡ true → At t k b × (is_blocked (state_of t b events) k ≡ true) × DependsOn events i k
-  -- a probe under way from the site of j to the site of k: where j waits for k and no newer request of j to k is behind the probe, its origin is j or dependent on j
-  pub probes : (a b i j k : ℕ) (earlier behind : List Frame) → under_way a b events ≡ earlier ++ Probe (i, j, k) ∷ behind
+  pub dependents : (b k i : ℕ) → has (state_of t b events).dependents k i ≡ true
+      → At t k b × (is_blocked (state_of t b events) k ≡ true) × DependsOn events i k
+  -- a probe under way from the site of j to the site of k: where j waits for k and no newer request of j to k
+  -- is behind the probe, its origin is j or dependent on j
+  pub probes : (a b i j k : ℕ) (earlier behind : List Frame)
+      → under_way a b events ≡ earlier ++ Probe (i, j, k) ∷ behind
       → (a ≢ b) × At t j a × At t k b × (Waits events j k → count_of (is_request j k) behind ≡ 0 → Reaches events i j)
-  -- for each wait that a site keeps, and for no other, just one of these is so, and once: its request is under way, it is owed, its reply is under way
+  -- for each wait that a site keeps, and for no other, just one of these is so, and once: its request
+  -- is under way, it is owed, its reply is under way
   pub each_wait : (a b j k : ℕ) → At t j a → At t k b
-      → count_of (is_request j k) (under_way a b events) + bit (has (state_of t b events).owed k j) + count_of (is_reply k j) (under_way b a events) ≡ bit (has (state_of t a events).waits j k)
+      → count_of (is_request j k) (under_way a b events)
+      + bit (has (state_of t b events).owed k j)
+      + count_of (is_reply k j) (under_way b a events) ≡ bit (has (state_of t a events).waits j k)
   -- a process on a cycle is blocked at its site
   pub blocked : (i : ℕ) → OnCycle events i → (a : ℕ) × At t i a × (is_blocked (state_of t a events) i ≡ true)
 
--- At every beginning of a run the facts hold, a cycle stays one from then on, and each declared process lies on a cycle.
+-- At every beginning of a run the facts hold, a cycle stays one from then on, and each declared process lies on a
+-- cycle. A wait that stands is called dark in the field, and so is a path of such waits: whatever probes have shown,
+-- there is a dark path behind it.
 pub record DarkPath (t : Topology) (events : List WorldEvent) : Type 0 where
   pub facts : (so_far : List WorldEvent) → IsBeginningOf so_far events → Facts t so_far
-  pub kept : (so_far : List WorldEvent) → IsBeginningOf so_far events → (i : ℕ) (members : List ℕ) → IsCycle so_far i members → IsCycle events i members
+  pub kept : (so_far : List WorldEvent) → IsBeginningOf so_far events → (i : ℕ) (members : List ℕ)
+      → IsCycle so_far i members → IsCycle events i members
   pub declared : (i : ℕ) → IsDeclared events i → OnCycle events i
 
 -- Two lists with the same entries of each site have the same waits.
@@ -66,16 +75,23 @@ StopsAnywhere t events = (stop : ℕ → ℕ) → IsConsistent stop events → C
 
 -- Each cycle has a declared process on it.
 abbrev pub EachCycleDeclared : List WorldEvent → Type 0
-EachCycleDeclared events = (i : ℕ) (members : List ℕ) → IsCycle events i members → (d : ℕ) × (list_any (λ q. q == d) members ≡ true) × IsDeclared events d
+EachCycleDeclared events =
+    (i : ℕ) (members : List ℕ) → IsCycle events i members
+    → (d : ℕ) × (list_any (λ q. q == d) members ≡ true) × IsDeclared events d
 
 -- An accepted event has one outcome.
 abbrev pub OneOutcome : Topology → Type 0
-OneOutcome t = (s : ℕ) (v : State) (event : Event) (sent others : List (ℕ × Frame)) (declared other : Option ℕ) → Sends t s v event sent declared → Sends t s v event others other → (sent ≡ others) × (declared ≡ other)
+OneOutcome t =
+    (s : ℕ) (v : State) (event : Event) (sent others : List (ℕ × Frame)) (declared other : Option ℕ)
+    → Sends t s v event sent declared → Sends t s v event others other
+    → (sent ≡ others) × (declared ≡ other)
 
 -- A wait in the other words: some ask of j names k, and no reply of k to j stands after it.
 abbrev pub StandsUnanswered : List WorldEvent → ℕ → ℕ → Type 0
 StandsUnanswered events j k =
-    (before : List WorldEvent) × (ask : WorldEvent) × (rest : List WorldEvent) × (events ≡ before ++ ask ∷ rest) × (asks_for j k ask.entry.event ≡ true) × AllByRecursion (λ (e : WorldEvent). grants k j e.entry.event ≡ false) rest
+    (before : List WorldEvent) × (ask : WorldEvent) × (rest : List WorldEvent)
+    × (events ≡ before ++ ask ∷ rest) × (asks_for j k ask.entry.event ≡ true)
+    × AllByRecursion (λ (e : WorldEvent). grants k j e.entry.event ≡ false) rest
 
 abbrev pub WaitsStandUnanswered : Type 0
 WaitsStandUnanswered = (events : List WorldEvent) (j k : ℕ) → Waits events j k ↔ StandsUnanswered events j k
@@ -99,7 +115,8 @@ LawfulStates t = (s : ℕ) (journal : List Entry) → IsLawful t s journal → J
 -- The asks of j that name k are as many as the replies of k to j, and one more where j waits for k.
 abbrev pub AsksAndReplies : List WorldEvent → Type 0
 AsksAndReplies events =
-    (j k : ℕ) → count_of (λ (e : WorldEvent). asks_for j k e.entry.event) events ≡ count_of (λ (e : WorldEvent). grants k j e.entry.event) events + bit (wait_after false j k events)
+    (j k : ℕ) → count_of (λ (e : WorldEvent). asks_for j k e.entry.event) events
+    ≡ count_of (λ (e : WorldEvent). grants k j e.entry.event) events + bit (wait_after false j k events)
 
 -- A site outside the topology does nothing: its only lawful journal is the empty one.
 abbrev pub StrangersSilent : Topology → Type 0

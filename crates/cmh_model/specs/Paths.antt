@@ -8,6 +8,12 @@ abbrev pub IsPath : (ℕ → ℕ → Type 0) → ℕ → List ℕ → ℕ → Ty
 IsPath R p [] q = p ≡ q
 IsPath R p (x ∷ xs) q = R p x × IsPath R x xs q
 
+-- a list of at least two members that begins and ends with p, in which each is in R to the next
+abbrev pub IsCycleOf : (ℕ → ℕ → Type 0) → ℕ → List ℕ → Type 0
+IsCycleOf R p [] = ⊥
+IsCycleOf R p (first ∷ []) = ⊥
+IsCycleOf R p (first ∷ second ∷ others) = (first ≡ p) × IsPath R first (second ∷ others) p
+
 -- ---- among the processes that are Here
 
 -- p waits for q, and both are here

@@ -30,10 +30,13 @@ pub record AreTargets (t : Topology) (asker : ℕ) (targets : List ℕ) : Type 0
 -- The events that the controller of a site accepts.
 abbrev pub Accepts : Topology → ℕ → State → Event → Type 0
 Accepts t s v (Ask asker targets) = At t asker s × (is_blocked v asker ≡ false) × AreTargets t asker targets
-Accepts t s v (Reply holder asker) = At t holder s × (is_blocked v holder ≡ false) × (has v.owed holder asker ≡ true) × IsSome (home t asker)
+Accepts t s v (Reply holder asker) =
+    At t holder s × (is_blocked v holder ≡ false) × (has v.owed holder asker ≡ true) × IsSome (home t asker)
 Accepts t s v (Start i) = At t i s × (is_blocked v i ≡ true) × (set.contains v.declared i ≡ false)
-Accepts t s v (Got a (Request (asker, holder))) = (a ≢ s) × At t asker a × At t holder s × (has v.owed holder asker ≡ false)
-Accepts t s v (Got a (Reply_frame (holder, asker))) = (a ≢ s) × At t holder a × At t asker s × (has v.waits asker holder ≡ true)
+Accepts t s v (Got a (Request (asker, holder))) =
+    (a ≢ s) × At t asker a × At t holder s × (has v.owed holder asker ≡ false)
+Accepts t s v (Got a (Reply_frame (holder, asker))) =
+    (a ≢ s) × At t holder a × At t asker s × (has v.waits asker holder ≡ true)
 Accepts t s v (Got a (Probe (origin, from, to))) = (a ≢ s) × At t from a × At t to s × IsSome (home t origin)
 
 -- A probe acts where its receiver is blocked, still owes the sender, and is not yet known to depend on the origin.
@@ -52,15 +55,20 @@ owed_after_ask is_here r asker [] = r
 owed_after_ask is_here r asker (k ∷ ks) =
     if is_here k then with_pair (owed_after_ask is_here r asker ks) k asker else owed_after_ask is_here r asker ks
 
--- the state with these waits: what was known to depend on a process that is no longer blocked is forgotten
+-- k was blocked by the waits before, and is not by these
+abbrev pub becomes_active : Relation → Relation → ℕ → Bool
+becomes_active before waits k = has_some before k && not (has_some waits k)
+
+-- the state with these waits: what was known to depend on a process that becomes active is forgotten
 abbrev pub with_fewer_waits : State → Relation → State
 with_fewer_waits v waits =
-    record v { waits = waits; dependents = only_firsts v.dependents (λ k. not (has_some v.waits k && not (has_some waits k))) }
+    record v { waits = waits; dependents = only_firsts v.dependents (λ k. not (becomes_active v.waits waits k)) }
 
 -- after an event, where the controller declared this process
 abbrev pub after : Topology → ℕ → State → Event → Option ℕ → State
 after t s v (Ask asker targets) declared =
-    record v { waits = with_each v.waits asker targets; owed = owed_after_ask (λ p. is_at t p s) v.owed asker targets; declared = declared_after v.declared declared }
+    record v { waits = with_each v.waits asker targets;
+      owed = owed_after_ask (λ p. is_at t p s) v.owed asker targets; declared = declared_after v.declared declared }
 after t s v (Reply holder asker) declared =
     let answered : State = record v { owed = without_pair v.owed holder asker } in
     if is_at t asker s then with_fewer_waits answered (without_pair v.waits asker holder) else answered
@@ -90,7 +98,8 @@ IsEdgeFrom t s waits from edge =
     ReachesLocally t s waits from edge.0 × (has waits edge.0 edge.1 ≡ true) × ((b : ℕ) × At t edge.1 b × (b ≢ s))
 
 -- the probes of `origin` along each wait that leaves the site from what `from` reaches locally
-pub record AreProbes (t : Topology) (s : ℕ) (waits : Relation) (origin from : ℕ) (sent : List (ℕ × Frame)) : Type 0 where
+pub record AreProbes (t : Topology) (s : ℕ) (waits : Relation) (origin from : ℕ)
+    (sent : List (ℕ × Frame)) : Type 0 where
   pub edges : List (ℕ × ℕ)
   pub ascending : IsStrictlySortedBy pair_cmp edges
   pub all : (edge : ℕ × ℕ) → Contains edges edge ↔ IsEdgeFrom t s waits from edge
@@ -112,7 +121,8 @@ Starts t s v i sent declared = DeclaresOrProbes t s v (DependsOnItself t s v.wai
 abbrev pub Sends : Topology → ℕ → State → Event → List (ℕ × Frame) → Option ℕ → Type 0
 Sends t s v (Ask asker targets) sent declared =
     MatchBool (starts_at_ask t.edition)
-    ((probes : List (ℕ × Frame)) × (sent ≡ requests t s asker targets ++ probes) × Starts t s (after t s v (Ask asker targets) None) asker probes declared)
+    ((probes : List (ℕ × Frame)) × (sent ≡ requests t s asker targets ++ probes)
+    × Starts t s (after t s v (Ask asker targets) None) asker probes declared)
     ((sent ≡ requests t s asker targets) × (declared ≡ None))
 Sends t s v (Reply holder asker) sent declared = (sent ≡ replies t s holder asker) × (declared ≡ None)
 Sends t s v (Start i) sent declared = Starts t s v i sent declared

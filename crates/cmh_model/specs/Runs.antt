@@ -33,7 +33,8 @@ IsBeginningOf {X} xs ys = (rest : List X) × (xs ++ rest ≡ ys)
 -- Each site's entries are lawful, and at every moment what came on a link is a beginning of what was sent on it.
 pub record IsRun (t : Topology) (events : List WorldEvent) : Type 0 where
   pub lawful : (s : ℕ) → IsLawful t s (entries_of s events)
-  pub in_order : (so_far : List WorldEvent) → IsBeginningOf so_far events → (a b : ℕ) → IsBeginningOf (receipts a b so_far) (sendings a b so_far)
+  pub in_order : (so_far : List WorldEvent) → IsBeginningOf so_far events
+      → (a b : ℕ) → IsBeginningOf (receipts a b so_far) (sendings a b so_far)
 
 -- The journals, given by site number, come from the list: each is what the list has of its site.
 abbrev pub ComesFrom : (ℕ → List Entry) → List WorldEvent → Type 0

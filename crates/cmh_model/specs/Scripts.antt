@@ -70,7 +70,8 @@ at_site s entry = record { site = s; entry = entry }
 -- the state with these waits, owed replies, dependents and declared processes
 abbrev pub state_with : List (ℕ × ℕ) → List (ℕ × ℕ) → List (ℕ × ℕ) → List ℕ → State
 state_with waits owed dependents declared =
-    record { waits = set.from_list waits; owed = set.from_list owed; dependents = set.from_list dependents; declared = set.from_list declared }
+    record { waits = set.from_list waits; owed = set.from_list owed;
+      dependents = set.from_list dependents; declared = set.from_list declared }
 
 -- what is under way on the links from 1 to 2 and from 2 to 1 after the first n events
 abbrev pub between : List WorldEvent → ℕ → List Frame × List Frame
@@ -79,13 +80,15 @@ between events n = (under_way 1 2 (take n events), under_way 2 1 (take n events)
 -- One site: `ask 1 2 / ask 2 1 / start 1`. The start declares 1.
 abbrev pub wait_for_each_other : List WorldEvent
 wait_for_each_other =
-    at_site 1 (silent (Ask 1 (2 ∷ []))) ∷ at_site 1 (silent (Ask 2 (1 ∷ []))) ∷ at_site 1 (outcome (Start 1) [] (Some 1)) ∷ []
+    at_site 1 (silent (Ask 1 (2 ∷ []))) ∷ at_site 1 (silent (Ask 2 (1 ∷ [])))
+    ∷ at_site 1 (outcome (Start 1) [] (Some 1)) ∷ []
 
 -- One site in edition 2: `ask 1 2 / ask 2 1`. The second ask declares 2.
 abbrev pub declared_at_ask : List WorldEvent
 declared_at_ask = at_site 1 (silent (Ask 1 (2 ∷ []))) ∷ at_site 1 (outcome (Ask 2 (1 ∷ [])) [] (Some 2)) ∷ []
 
--- Two sites: `ask 1 2 / ask 2 1 / deliver 1 2 / deliver 2 1`. Each process waits for the other, and both requests have come.
+-- Two sites: `ask 1 2 / ask 2 1 / deliver 1 2 / deliver 2 1`. Each process waits for the other, and
+-- both requests have come.
 abbrev pub ask_each_other : List WorldEvent
 ask_each_other =
     at_site 1 (outcome (Ask 1 (2 ∷ [])) ((2, Request (1, 2)) ∷ []) None)
@@ -107,7 +110,8 @@ probe_goes_round =
 abbrev pub ask_and_reply : List WorldEvent
 ask_and_reply = at_site 1 (silent (Ask 1 (2 ∷ []))) ∷ at_site 1 (silent (Reply 2 1)) ∷ []
 
--- The journal of site 2 where 1 asked 2 and 3, and 2 granted and then asked 1 itself. A probe of 1 along its old wait for 2 may come next.
+-- The journal of site 2 where 1 asked 2 and 3, and 2 granted and then asked 1 itself. A probe of 1 along its old
+-- wait for 2 may come next.
 abbrev pub granted_before_the_probe : List Entry
 granted_before_the_probe =
     silent (Got 1 (Request (1, 2)))
@@ -121,11 +125,15 @@ marked_by_the_probe = silent (Ask 2 (3 ∷ [])) ∷ silent (Got 1 (Request (1, 2
 
 -- 1 asks 2 and 3, and the later request comes first.
 abbrev pub overtaken : List WorldEvent
-overtaken = at_site 1 (outcome (Ask 1 (2 ∷ 3 ∷ [])) ((2, Request (1, 2)) ∷ (2, Request (1, 3)) ∷ []) None) ∷ at_site 2 (silent (Got 1 (Request (1, 3)))) ∷ []
+overtaken =
+    at_site 1 (outcome (Ask 1 (2 ∷ 3 ∷ [])) ((2, Request (1, 2)) ∷ (2, Request (1, 3)) ∷ []) None)
+    ∷ at_site 2 (silent (Got 1 (Request (1, 3)))) ∷ []
 
 -- A site that gets a frame before it was sent.
 abbrev pub got_before_sent : List WorldEvent
-got_before_sent = at_site 2 (silent (Got 1 (Request (1, 2)))) ∷ at_site 1 (outcome (Ask 1 (2 ∷ [])) ((2, Request (1, 2)) ∷ []) None) ∷ []
+got_before_sent =
+    at_site 2 (silent (Got 1 (Request (1, 2))))
+    ∷ at_site 1 (outcome (Ask 1 (2 ∷ [])) ((2, Request (1, 2)) ∷ []) None) ∷ []
 
 -- Two sites: `ask 1 2 / deliver 1 2 / reply 2 1 / deliver 2 1`. The wait has ended on both sites.
 abbrev pub asked_and_answered : List WorldEvent
@@ -135,7 +143,8 @@ asked_and_answered =
     ∷ at_site 2 (outcome (Reply 2 1) ((1, Reply_frame (2, 1)) ∷ []) None)
     ∷ at_site 1 (silent (Got 2 (Reply_frame (2, 1)))) ∷ []
 
--- Two processes beside one: `ask 1 2 / ask 3 1 / ask 2 3 / deliver 1 2 / deliver 2 1 / start 1 / deliver 1 2 / deliver 2 1`.
+-- Two processes beside one: `ask 1 2 / ask 3 1 / ask 2 3 / deliver 1 2 / deliver 2 1 / start 1 /
+-- deliver 1 2 / deliver 2 1`.
 -- The probe of 1 comes to 3, which waits for 1 at its own site, and declares 1.
 abbrev pub found_beside_it : List WorldEvent
 found_beside_it =
@@ -150,9 +159,12 @@ found_beside_it =
 
 -- One site: `ask 3 1 / ask 1 2 / ask 2 1`. 3 waits for a cycle and is on none.
 abbrev pub waits_for_a_cycle : List WorldEvent
-waits_for_a_cycle = at_site 1 (silent (Ask 3 (1 ∷ []))) ∷ at_site 1 (silent (Ask 1 (2 ∷ []))) ∷ at_site 1 (silent (Ask 2 (1 ∷ []))) ∷ []
+waits_for_a_cycle =
+    at_site 1 (silent (Ask 3 (1 ∷ []))) ∷ at_site 1 (silent (Ask 1 (2 ∷ [])))
+    ∷ at_site 1 (silent (Ask 2 (1 ∷ []))) ∷ []
 
--- Two sites in edition 2: `ask 1 2 / ask 2 1`, and each frame in turn: both requests, both probes, and the probes that they send.
+-- Two sites in edition 2: `ask 1 2 / ask 2 1`, and each frame in turn: both requests, both probes,
+-- and the probes that they send.
 abbrev pub probes_cross : List WorldEvent
 probes_cross =
     at_site 1 (outcome (Ask 1 (2 ∷ [])) ((2, Request (1, 2)) ∷ (2, Probe (1, 1, 2)) ∷ []) None)

@@ -4,7 +4,7 @@ use Rattle.std.specs.List.{list_any}
 use Rattle.cmh_model.specs.declared.event.Event.{Event}
 use Rattle.cmh_model.specs.declared.event.Event.TheVariants.{Ask, Reply, Start, Got}
 use Rattle.cmh_model.specs.declared.journal.WorldEvent.{WorldEvent}
-use Rattle.cmh_model.specs.Paths.{IsPath}
+use Rattle.cmh_model.specs.Paths.{IsPath, IsCycleOf}
 
 -- the event is an ask of j that names k
 abbrev pub asks_for : ℕ → ℕ → Event → Bool
@@ -39,9 +39,7 @@ DependsOn events i k = (next : ℕ) × (members : List ℕ) × Waits events i ne
 
 -- a list of at least two members that begins and ends with i, in which each waits for the next
 abbrev pub IsCycle : List WorldEvent → ℕ → List ℕ → Type 0
-IsCycle events i [] = ⊥
-IsCycle events i (first ∷ []) = ⊥
-IsCycle events i (first ∷ second ∷ others) = (first ≡ i) × IsPath (Waits events) first (second ∷ others) i
+IsCycle events i members = IsCycleOf (Waits events) i members
 
 abbrev pub OnCycle : List WorldEvent → ℕ → Type 0
 OnCycle events i = (members : List ℕ) × IsCycle events i members

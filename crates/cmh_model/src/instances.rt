@@ -37,15 +37,19 @@ pub fn frames_for_a_third_site()
 /// Edition 2, `1: 1 3`, `2: 2`: a declared process that asks starts a computation like any other: its probe goes out
 /// behind its request. Where it is locally dependent upon itself it is not declared again, and no probe goes out.
 pub fn declared_process_asks()
-    ensures probes { Sends (beside_in Two) 1 (state_with [] [] [] (3 ∷ [])) (Ask 3 (2 ∷ [])) ((2, Request (3, 2)) ∷ (2, Probe (3, 3, 2)) ∷ []) None }
-    ensures not_again { Sends (beside_in Two) 1 (state_with ((1, 3) ∷ []) ((3, 1) ∷ []) [] (3 ∷ [])) (Ask 3 (1 ∷ [])) [] None }
+    ensures probes { Sends (beside_in Two) 1 (state_with [] [] [] (3 ∷ [])) (Ask 3 (2 ∷ []))
+        ((2, Request (3, 2)) ∷ (2, Probe (3, 3, 2)) ∷ []) None }
+    ensures not_again { Sends (beside_in Two) 1 (state_with ((1, 3) ∷ []) ((3, 1) ∷ []) [] (3 ∷ [])) (Ask 3 (1 ∷ []))
+        [] None }
 {}
 
 /// After an ask of two the asker waits for both, and those at its site owe it. Where the ask declares, the asker is
 /// kept as declared.
 pub fn state_after_an_ask()
-    ensures both { after three_processes 1 empty_state (Ask 1 (2 ∷ 3 ∷ [])) None ≡ state_with ((1, 2) ∷ (1, 3) ∷ []) [] [] [] }
-    ensures local { after (beside_in One) 1 empty_state (Ask 1 (2 ∷ 3 ∷ [])) None ≡ state_with ((1, 2) ∷ (1, 3) ∷ []) ((3, 1) ∷ []) [] [] }
+    ensures both { after three_processes 1 empty_state (Ask 1 (2 ∷ 3 ∷ [])) None
+        ≡ state_with ((1, 2) ∷ (1, 3) ∷ []) [] [] [] }
+    ensures local { after (beside_in One) 1 empty_state (Ask 1 (2 ∷ 3 ∷ [])) None
+        ≡ state_with ((1, 2) ∷ (1, 3) ∷ []) ((3, 1) ∷ []) [] [] }
     ensures declared { after (one_site Two) 1 (state_with ((1, 2) ∷ []) ((2, 1) ∷ []) [] []) (Ask 2 (1 ∷ [])) (Some 2)
         ≡ state_with ((2, 1) ∷ (1, 2) ∷ []) ((1, 2) ∷ (2, 1) ∷ []) [] (2 ∷ []) }
 {}
@@ -53,8 +57,10 @@ pub fn state_after_an_ask()
 /// `1: 1`, `2: 2 3`: 2 is known to depend on 1, which waits for 2 and 3. As long as one reply is to come it stays so,
 /// and with the last it is forgotten.
 pub fn received_reply_forgets_dependents()
-    ensures kept { has (after three_processes 1 (state_with ((1, 2) ∷ (1, 3) ∷ []) [] ((1, 2) ∷ []) []) (Got 2 (Reply_frame (2, 1))) None).dependents 1 2 ≡ true }
-    ensures forgotten { has (after three_processes 1 (state_with ((1, 3) ∷ []) [] ((1, 2) ∷ []) []) (Got 2 (Reply_frame (3, 1))) None).dependents 1 2 ≡ false }
+    ensures kept { has (after three_processes 1 (state_with ((1, 2) ∷ (1, 3) ∷ []) [] ((1, 2) ∷ []) [])
+        (Got 2 (Reply_frame (2, 1))) None).dependents 1 2 ≡ true }
+    ensures forgotten { has (after three_processes 1 (state_with ((1, 3) ∷ []) [] ((1, 2) ∷ []) [])
+        (Got 2 (Reply_frame (3, 1))) None).dependents 1 2 ≡ false }
 {}
 
 /// `1: 1`, `2: 2`: 2 owes 1 and waits for nobody, so a probe of 1 is accepted and ignored: nothing changes and
@@ -62,7 +68,8 @@ pub fn received_reply_forgets_dependents()
 pub fn probe_to_an_active_process()
     ensures accepted { Accepts (two_sites One) 2 (state_with [] ((2, 1) ∷ []) [] []) (Got 1 (Probe (1, 1, 2))) }
     ensures ignored { probe_acts (state_with [] ((2, 1) ∷ []) [] []) 1 1 2 ≡ false }
-    ensures unchanged { after (two_sites One) 2 (state_with [] ((2, 1) ∷ []) [] []) (Got 1 (Probe (1, 1, 2))) None ≡ state_with [] ((2, 1) ∷ []) [] [] }
+    ensures unchanged { after (two_sites One) 2 (state_with [] ((2, 1) ∷ []) [] []) (Got 1 (Probe (1, 1, 2))) None
+        ≡ state_with [] ((2, 1) ∷ []) [] [] }
     ensures silent { Sends (two_sites One) 2 (state_with [] ((2, 1) ∷ []) [] []) (Got 1 (Probe (1, 1, 2))) [] None }
     ensures blocked { probe_acts (state_with ((2, 1) ∷ []) ((2, 1) ∷ []) [] []) 1 1 2 ≡ true }
 {}

@@ -1,6 +1,8 @@
-//! The model of site controllers: what happens at one, what comes of it, and the definitions that every contract above cites.
+//! The model of site controllers: what happens at one, what comes of it, and the definitions that every contract
+//! above cites.
 //!
-//! Hardly anything runs here. `specs/` is the part of the product that a reader has to believe; `docs/rules.md` explains it.
+//! Hardly anything runs here. `specs/` is the part of the product that a reader has to believe; `docs/rules.md`
+//! explains it.
 #![tactic(auto)]
 
 mod event;

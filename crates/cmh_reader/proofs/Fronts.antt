@@ -60,10 +60,6 @@ pub short_length : (rest : List ℕ) → IsShort rest → length rest < 7
 short_length [] short = omega arith
 short_length (k ∷ body) short = let few : length body + 1 < length_of_kind k = short.1 in omega (arith, kind_is_short k)
 
--- the bytes begin with the frame that a front part of them spells
-pub begins : (bytes : List ℕ) (n : ℕ) (f : Frame) → Spells (take n bytes) f → bytes ≡ spelling f ++ drop n bytes
-begins bytes n f s = sym (take-append-drop n bytes) ∙ ap (λ front. front ++ drop n bytes) s.bytes_are
-
 -- the front of bytes that begin with a spelling
 pub whole_front : (rest : List ℕ) (f : Frame) (behind : List ℕ) → IsFrame f → rest ≡ spelling f ++ behind → IsFront rest (Whole f (length (spelling f)))
 whole_front rest f behind frame same = (

@@ -10,7 +10,8 @@ use Rattle.cmh_frames.specs.Wire.{IsFrame, IsFront, IsShort, Spells, spelling, s
 use Rattle.cmh_reader.specs.declared.standing.Standing.{Standing}
 use Rattle.cmh_reader.specs.declared.standing.Standing.TheVariants.{Greeting, Open, Broken}
 use Rattle.cmh_reader.specs.Stream.{Splits, Reads, place_behind}
-use Rattle.cmh_reader.proofs.Fronts.{begins, bad_front, short_length, longer_than_begun}
+use Rattle.cmh_reader.proofs.Fronts.{bad_front, short_length, longer_than_begun}
+use Rattle.cmh_frames.proofs.Fronts.{begins}
 
 -- frames behind others are spelled behind them
 pub spelled-append : (xs ys : List Frame) → spelled (xs ++ ys) ≡ spelled xs ++ spelled ys

@@ -14,6 +14,8 @@ use Rattle.cmh_model.specs.Relation.{Relation, pair_cmp, has, has_some}
 use Rattle.cmh_model.proofs.PathLemmas.{path_ends_here}
 use Rattle.cmh_waits.specs.Held.{Held, is_member, IsMember}
 use Rattle.cmh_rules.specs.Verdicts.{AreProbesOf, AreProbesFrom, Reaches, acts}
+use Rattle.cmh_model.proofs.Fits.{all_append}
+use Rattle.cmh_model.proofs.Ascending.{head_below}
 
 -- the probe along a wait
 abbrev pub along : ℕ → ℕ × ℕ → Frame
@@ -30,10 +32,6 @@ none_yet v origin = record {
 
 -- ---- two lists in order, the first below the second
 
-all_append : {X : Type 0} (P : X → Type 0) (xs ys : List X) → AllByRecursion P xs → AllByRecursion P ys → AllByRecursion P (xs ++ ys)
-all_append P [] ys a b = b
-all_append P (x ∷ xs) ys a b = (a.0, all_append P xs ys a.1 b)
-
 sorted_append : (xs ys : List (ℕ × ℕ)) → IsStrictlySortedBy pair_cmp xs → IsStrictlySortedBy pair_cmp ys → ((x : ℕ × ℕ) → Contains xs x → AllByRecursion (λ y. pair_cmp x y ≡ Less) ys) → IsStrictlySortedBy pair_cmp (xs ++ ys)
 unfolding IsStrictlySortedBy
 sorted_append [] ys a b below = b
@@ -47,16 +45,6 @@ lesser_first x y h = ap (λ r. ordering_then r (nat_cmp x.1 y.1)) (sym (nat_cmp_
 
 lesser_second : (p a b : ℕ) → a < b → pair_cmp (p, a) (p, b) ≡ Less
 lesser_second p a b h = ap (λ r. ordering_then r (nat_cmp a b)) (tied_itself nat_cmp_total p) ∙ sym (nat_cmp_is a b Less h)
-
-head_below : (x : ℕ) (xs : List ℕ) → IsStrictlyIncreasing (x ∷ xs) → AllByRecursion (λ y. x < y) xs
-head_below x [] up = tt
-head_below x (y ∷ ys) up =
-    let first : x < y = up 0 (omega arith) in
-    (first, further ys (head_below y ys (increasing_tail x (y ∷ ys) up)) first)
-  where
-    further : (zs : List ℕ) → AllByRecursion (λ z. y < z) zs → x < y → AllByRecursion (λ z. x < z) zs
-    further [] all h = tt
-    further (z ∷ zs) all h = ((let above : y < z = all.0 in omega arith), further zs all.1 h)
 
 pairs_ascend : (p : ℕ) (xs : List ℕ) → IsStrictlyIncreasing xs → IsStrictlySortedBy pair_cmp (map (λ to. (p, to)) xs)
 unfolding IsStrictlySortedBy

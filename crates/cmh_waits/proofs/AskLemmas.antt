@@ -2,7 +2,7 @@
 use Rattle.std.proofs.Common.{◌≡◌, ◌≢◌, ◌+◌, ◌<◌, ℕ, suc, zero, Bool, true, false, not, ◌&&◌, ◌||◌, ◌==◌, List, [], ◌∷◌, length, get_or, nat_lt, refl, sym, ap, ◌∙◌, subst, inl, inr, true≢false, arith}
 use Rattle.std.specs.List.{filter}
 use Rattle.std.specs.List.Sorted.{IsStrictlyIncreasing}
-use Rattle.std.proofs.Math.Bool.{and-false, and-true}
+use Rattle.std.proofs.Math.Bool.{and-false, and-true, or-false}
 use Rattle.std.proofs.Math.ListN.{set}
 use Rattle.std.proofs.lemmas.Bool.{eqb-true, eq-eqb, ne_eqb, and_parts, not-true, cases_eq, lt-ltb, ltb-true}
 use Rattle.std.proofs.lemmas.List.{get_or-set_same, get_or-set_other, length-set}
@@ -29,10 +29,6 @@ pub increasing_from : (xs : List ℕ) → IsAscending xs → IsStrictlyIncreasin
 increasing_from [] up = λ k h. absurd (omega (arith, h))
 increasing_from (x ∷ []) up = λ k h. absurd (omega (arith, h))
 increasing_from (x ∷ y ∷ ys) up = increasing_cons x y ys up.0.0 (increasing_from (y ∷ ys) up.1)
-
-or_false : (b : Bool) → (b || false) ≡ b
-or_false true = refl
-or_false false = refl
 
 module _ (ms rows : List ℕ) (lists : List (List ℕ)) (up : IsStrictlyIncreasing ms) (are : AreRows ms rows lists) (p x : ℕ) (within : p < length ms) (e : get_or ms p 0 ≡ x) where
   first_is : (i : ℕ) → i < length ms → (get_or ms i 0 == x) ≡ (i == p)
@@ -128,7 +124,7 @@ module _ (ms rows : List ℕ) (lists : List (List ℕ)) (up : IsStrictlyIncreasi
         asks : (i y : ℕ) → i ≡ p → has (with_each (relation_of ms rows lists) x targets) (get_or ms i 0) y ≡ is_in targets y
         asks i y is =
             ap (λ z. has (with_each (relation_of ms rows lists) x targets) z y) (ap (λ k. get_or ms k 0) is ∙ e)
-            ∙ has-with_each (relation_of ms rows lists) x targets y ∙ ap (λ t. is_in targets y || t) (has-none (relation_of ms rows lists) x y active) ∙ or_false (is_in targets y)
+            ∙ has-with_each (relation_of ms rows lists) x targets y ∙ ap (λ t. is_in targets y || t) (has-none (relation_of ms rows lists) x y active) ∙ or-false (is_in targets y)
 
         apart : (i : ℕ) → i < length ms → i ≢ p → get_or ms i 0 ≢ x
         apart i a n h = true≢false (sym (eq-eqb (get_or ms i 0) x h) ∙ first_is i a ∙ ne_eqb i p n)
@@ -167,7 +163,7 @@ module _ (ms rows : List ℕ) (lists : List (List ℕ)) (up : IsStrictlyIncreasi
           ∙ sym (has-after_ask (λ q. is_in ms q) (relation_of ms rows lists) x targets (get_or ms i 0) y ∙ ap (λ t. t || has (relation_of ms rows lists) (get_or ms i 0) y) (since_away (get_or ms i 0) y away)))
           (λ z y away.
           has-after_ask (λ q. is_in ms q) (relation_of ms rows lists) x targets z y ∙ ap (λ t. owes_since (λ q. is_in ms q) x targets z y || t) (has_none ms rows lists up are z y away)
-          ∙ or_false (owes_since (λ q. is_in ms q) x targets z y) ∙ ap (λ t. (y == x) && (t && is_in targets z)) away ∙ and-false (y == x))
+          ∙ or-false (owes_since (λ q. is_in ms q) x targets z y) ∙ ap (λ t. (y == x) && (t && is_in targets z)) away ∙ and-false (y == x))
 
     module _ (bits : (a b : ℕ) → bit_of rows' a b ≡ (not ((b == p) && is_at_in ms targets a) && bit_of rows a b)) where
       pub rows_freed : AreRows ms rows' lists

@@ -1,6 +1,6 @@
 use Rattle.std.proofs.Common.{take_all, ap, arith}
 use Rattle.cmh_audit.specs.Journals.{entry_count}
-use Rattle.cmh_audit.specs.Sums.{in_journals}
+use Rattle.cmh_audit.specs.Inner.AllSums.{in_journals}
 use Rattle.cmh_audit.specs.Transit.{sent_count}
 use Rattle.cmh_audit.proofs.CountingLemmas.{counting_start, counting_more}
 use Rattle.cmh_audit.proofs.count.count_entries.Goals as goal

@@ -1,5 +1,5 @@
 use Rattle.std.proofs.Common.{◌+◌, length, arith}
-use Rattle.cmh_audit.specs.Links.{waiting}
+use Rattle.cmh_audit.specs.Inner.Links.{waiting}
 use Rattle.cmh_audit.proofs.CountingLemmas.{sum_more, sum_part}
 use Rattle.cmh_audit.proofs.count.count_from.Goals as goal
 

@@ -1,8 +1,8 @@
 use Rattle.std.proofs.Common.{◌≡◌, ℕ, ◌+◌, ◌-◌, ◌/◌, ◌<◌, ◌↔◌, ◌∙◌, ◌++◌, ◌∷◌, [], true, List, length, sym, ap, subst, arith}
 use Rattle.std.proofs.lemmas.Bool.{or_left, or_right}
 use Rattle.std.proofs.lemmas.List.{get_or_default}
-use Rattle.cmh_audit.specs.Graphs.{WaitsAt}
-use Rattle.cmh_audit.specs.Rows.{has_place, row_at}
+use Rattle.cmh_audit.specs.Inner.Graphs.{WaitsAt}
+use Rattle.cmh_audit.specs.Inner.Rows.{has_place, row_at}
 use Rattle.cmh_audit.proofs.LevelLemmas.{IsSearched, IsMet, search_start, search_more, search_end, no_cycle, lacking_less, met_from, met_end, unmet, next_from, only_place, words_small, last_pushed, one_last, last_read}
 use Rattle.cmh_audit.proofs.cycle.levels_to.Goals as goal
 

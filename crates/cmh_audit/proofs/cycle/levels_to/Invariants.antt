@@ -1,5 +1,5 @@
 use Rattle.std.proofs.Common.{◌+◌, ◌/◌, length}
-use Rattle.cmh_audit.specs.Graphs.{WaitsAt}
+use Rattle.cmh_audit.specs.Inner.Graphs.{WaitsAt}
 use Rattle.cmh_audit.proofs.LevelLemmas.{IsSearched, IsMet, lacking}
 use Rattle.cmh_audit.proofs.cycle.levels_to.Given as goal
 

@@ -1,12 +1,14 @@
 use Rattle.std.proofs.Common.{◌≡◌, ℕ, ◌+◌, ◌/◌, ◌<◌, List, Option, Vec, length, get_or, sym, subst, subst₂}
 use Rattle.std.specs.Global.{Global}
 use Rattle.std.specs.Prelude.{Contains, IfSome, IfNone}
-use Rattle.cmh_audit.specs.Cycles.{IsCycleIn, IsCycleOf, ComesFirst}
-use Rattle.cmh_audit.specs.Graphs.{WaitsAt}
-use Rattle.cmh_audit.specs.Levels.{LeadBack}
-use Rattle.cmh_audit.specs.Rows.{row_at}
+use Rattle.cmh_audit.specs.Inner.FoundCycles.{IsCycleIn}
+use Rattle.cmh_audit.specs.Cycles.{ComesFirst}
+use Rattle.cmh_audit.specs.Inner.Graphs.{WaitsAt}
+use Rattle.cmh_audit.specs.Inner.Levels.{LeadBack}
+use Rattle.cmh_audit.specs.Inner.Rows.{row_at}
 use Rattle.cmh_audit.proofs.CycleLemmas.{first_to, on_cycle_waits, none_to}
 use Rattle.cmh_audit.proofs.cycle.shortest_cycle.Goals as goal
+use Rattle.cmh_model.specs.Paths.{IsCycleOf}
 
 -- a process without a place is on no cycle
 pub returns-in_default-clause-none : goal.returns-in_default-clause-none

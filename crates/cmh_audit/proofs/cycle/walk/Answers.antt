@@ -1,7 +1,7 @@
 use Rattle.std.proofs.Common.{◌≡◌, ℕ, ◌+◌, ◌-◌, ◌∙◌, ◌++◌, ◌∷◌, [], List, length, map, get_or, sym, ap, subst, arith, refl}
 use Rattle.std.proofs.lemmas.List.{get_or_default}
-use Rattle.cmh_audit.specs.Graphs.{WaitsAt}
-use Rattle.cmh_audit.specs.Rows.{has_place, row_at}
+use Rattle.cmh_audit.specs.Inner.Graphs.{WaitsAt}
+use Rattle.cmh_audit.specs.Inner.Rows.{has_place, row_at}
 use Rattle.cmh_audit.proofs.LevelLemmas.{words_small}
 use Rattle.cmh_audit.proofs.CycleLemmas.{IsWalking, walk_start, walk_more, walk_goes_on, walk_end, map_push}
 use Rattle.cmh_audit.proofs.cycle.walk.Goals as goal

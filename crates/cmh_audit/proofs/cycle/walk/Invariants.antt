@@ -1,5 +1,5 @@
 use Rattle.std.proofs.Common.{◌≡◌, ◌<◌, ◌≤◌, ℕ, List, length, map, get_or}
-use Rattle.cmh_audit.specs.Graphs.{WaitsAt}
+use Rattle.cmh_audit.specs.Inner.Graphs.{WaitsAt}
 use Rattle.cmh_audit.proofs.CycleLemmas.{IsWalking}
 use Rattle.cmh_audit.proofs.cycle.walk.Given as goal
 

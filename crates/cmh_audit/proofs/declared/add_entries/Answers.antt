@@ -1,6 +1,6 @@
 use Rattle.std.proofs.Common.{◌+◌, take}
 use Rattle.cmh_audit.specs.Sums.{in_entries}
-use Rattle.cmh_audit.specs.Declarations.{declares}
+use Rattle.cmh_audit.specs.Inner.Declarations.{declares}
 use Rattle.cmh_audit.proofs.Sums.{entries_more}
 use Rattle.cmh_audit.proofs.DeclarationLemmas.{adds_more}
 use Rattle.cmh_audit.proofs.declared.add_entries.Goals as goal

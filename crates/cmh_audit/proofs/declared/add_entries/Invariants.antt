@@ -1,6 +1,6 @@
 use Rattle.std.proofs.Common.{take}
 use Rattle.cmh_audit.specs.Sums.{in_entries}
-use Rattle.cmh_audit.specs.Declarations.{Adds, declares}
+use Rattle.cmh_audit.specs.Inner.Declarations.{Adds, declares}
 use Rattle.cmh_audit.proofs.declared.add_entries.Given as goal
 
 abbrev pub invariant-loop-entry : goal.invariant-loop-entry

@@ -5,8 +5,9 @@ use Rattle.std.specs.Ordering.{nat_cmp}
 use Rattle.std.proofs.lemmas.Map.Keys.{IsStrictlyIncreasing-from_sorted}
 use Rattle.cmh_model.specs.declared.journal.Entry.{Entry}
 use Rattle.cmh_journal.specs.Journal.{Journal}
-use Rattle.cmh_audit.specs.Sums.{in_entries, in_journals}
-use Rattle.cmh_audit.specs.Declarations.{Adds, declares}
+use Rattle.cmh_audit.specs.Sums.{in_entries}
+use Rattle.cmh_audit.specs.Inner.AllSums.{in_journals}
+use Rattle.cmh_audit.specs.Inner.Declarations.{Adds, declares}
 use Rattle.cmh_audit.proofs.Sums.{journals_more}
 use Rattle.cmh_audit.proofs.DeclarationLemmas.{adds_more, added_iff}
 use Rattle.cmh_audit.proofs.declared.declared_of.Goals as goal

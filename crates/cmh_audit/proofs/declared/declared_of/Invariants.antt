@@ -1,6 +1,6 @@
 use Rattle.std.proofs.Common.{take}
-use Rattle.cmh_audit.specs.Sums.{in_journals}
-use Rattle.cmh_audit.specs.Declarations.{Adds, declares}
+use Rattle.cmh_audit.specs.Inner.AllSums.{in_journals}
+use Rattle.cmh_audit.specs.Inner.Declarations.{Adds, declares}
 use Rattle.cmh_audit.proofs.declared.declared_of.Given as goal
 
 abbrev pub invariant-loop-journal : goal.invariant-loop-journal

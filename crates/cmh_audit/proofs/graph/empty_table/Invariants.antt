@@ -1,5 +1,5 @@
 use Rattle.std.proofs.Common.{◌+◌, ◌/◌}
-use Rattle.cmh_audit.specs.Rows.{IsTable}
+use Rattle.cmh_audit.specs.Inner.Rows.{IsTable}
 use Rattle.cmh_audit.proofs.graph.empty_table.Given as goal
 
 abbrev pub invariant-loop-place : goal.invariant-loop-place

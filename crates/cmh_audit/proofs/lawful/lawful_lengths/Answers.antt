@@ -1,6 +1,6 @@
 use Rattle.std.proofs.Common.{ℕ, List, ◌+◌, take, subst, sym}
 use Rattle.cmh_model.specs.declared.journal.Entry.{Entry}
-use Rattle.cmh_audit.specs.Merging.{AreLawfulLengths, IsLawfulLength}
+use Rattle.cmh_audit.specs.Inner.Merging.{AreLawfulLengths, IsLawfulLength}
 use Rattle.cmh_audit.proofs.CountLemmas.{lengths_more}
 use Rattle.cmh_audit.proofs.lawful.lawful_lengths.Goals as goal
 

@@ -1,5 +1,5 @@
 use Rattle.std.proofs.Common.{take}
-use Rattle.cmh_audit.specs.Merging.{AreLawfulLengths}
+use Rattle.cmh_audit.specs.Inner.Merging.{AreLawfulLengths}
 use Rattle.cmh_audit.proofs.lawful.lawful_lengths.Given as goal
 
 abbrev pub invariant-loop-journal : goal.invariant-loop-journal

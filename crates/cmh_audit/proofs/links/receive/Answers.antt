@@ -1,5 +1,5 @@
 use Rattle.std.proofs.Common.{ap, sym, ◌∙◌, rules}
-use Rattle.cmh_audit.specs.Links.{frames_in}
+use Rattle.cmh_audit.specs.Inner.Links.{frames_in}
 use Rattle.cmh_audit.proofs.LinkLemmas.{waiting_pop}
 use Rattle.cmh_audit.proofs.links.receive.Goals as goal
 

@@ -1,6 +1,6 @@
 use Rattle.std.proofs.Common.{◌++◌, ◌∷◌, [], Some, cond, ap, ◌∙◌, rules}
 use Rattle.std.specs.BTreeMap.{get, is_at}
-use Rattle.cmh_audit.specs.Links.{frames_in, link_cmp}
+use Rattle.cmh_audit.specs.Inner.Links.{frames_in, link_cmp}
 use Rattle.cmh_audit.proofs.LinkLemmas.{waiting_push}
 use Rattle.cmh_audit.proofs.links.send.Goals as goal
 

@@ -1,5 +1,5 @@
 use Rattle.std.proofs.Common.{◌≡◌, ◌<◌, ◌+◌, ℕ, List, [], ◌∷◌, ◌++◌, take, drop, set, length, replicate, None, subst, sym, ap, ◌∙◌, refl, arith, true≢false, length-append, rules}
-use Rattle.cmh_audit.specs.Merging.{AreTried}
+use Rattle.cmh_audit.specs.Inner.Merging.{AreTried}
 use Rattle.cmh_model.proofs.Beginnings.{empty_list}
 use Rattle.cmh_audit.proofs.CountLemmas.{length-limits}
 use Rattle.cmh_audit.proofs.MoveLemmas.{next_other}

@@ -1,4 +1,4 @@
-use Rattle.cmh_audit.specs.Ready.{ArePlaces}
+use Rattle.cmh_audit.specs.Inner.Ready.{ArePlaces}
 use Rattle.cmh_audit.proofs.merge.places.Given as goal
 
 abbrev pub invariant-loop-k : goal.invariant-loop-k

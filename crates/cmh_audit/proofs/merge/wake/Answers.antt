@@ -2,7 +2,7 @@ use Rattle.std.proofs.Common.{ℕ, ◌+◌, ◌<◌, List, Vec, Option, None, le
 use Rattle.std.specs.Global.{Global}
 use Rattle.std.proofs.lemmas.List.{get_or_default}
 use Rattle.cmh_journal.specs.Journal.{Journal}
-use Rattle.cmh_audit.specs.Ready.{Wakes}
+use Rattle.cmh_audit.specs.Inner.Ready.{Wakes}
 use Rattle.cmh_audit.proofs.GraphLemmas.{eq_last}
 use Rattle.cmh_audit.proofs.ReadyLemmas.{wakes_start, wakes_one, wakes_none, wakes_past, journal_at, other_number}
 use Rattle.cmh_audit.proofs.merge.wake.Goals as goal

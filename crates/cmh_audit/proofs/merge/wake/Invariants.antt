@@ -1,4 +1,4 @@
-use Rattle.cmh_audit.specs.Ready.{Wakes}
+use Rattle.cmh_audit.specs.Inner.Ready.{Wakes}
 use Rattle.cmh_audit.proofs.merge.wake.Given as goal
 
 abbrev pub invariant-loop-to : goal.invariant-loop-to

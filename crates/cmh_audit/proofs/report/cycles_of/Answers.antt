@@ -1,7 +1,8 @@
 use Rattle.std.proofs.Common.{◌++◌, ◌∷◌, [], ◌+◌, ℕ, List, Vec, Option, take, take_all, subst, sym, ap, ◌∙◌, IfSome, IfNone}
 use Rattle.std.specs.Global.{Global}
-use Rattle.cmh_audit.specs.Cycles.{IsCycleIn, ComesFirst}
-use Rattle.cmh_audit.specs.Reports.{AreFirstCycles}
+use Rattle.cmh_audit.specs.Inner.FoundCycles.{IsCycleIn}
+use Rattle.cmh_audit.specs.Cycles.{ComesFirst}
+use Rattle.cmh_audit.specs.Inner.FoundCycles.{AreFirstCycles}
 use Rattle.cmh_audit.proofs.ReportLemmas.{firsts_more}
 use Rattle.cmh_audit.proofs.report.cycles_of.Goals as goal
 

@@ -1,5 +1,5 @@
 use Rattle.std.proofs.Common.{take}
-use Rattle.cmh_audit.specs.Reports.{AreFirstCycles}
+use Rattle.cmh_audit.specs.Inner.FoundCycles.{AreFirstCycles}
 use Rattle.cmh_audit.proofs.report.cycles_of.Given as goal
 
 abbrev pub invariant-loop-process : goal.invariant-loop-process

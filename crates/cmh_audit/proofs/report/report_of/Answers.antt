@@ -1,10 +1,11 @@
 use Rattle.std.proofs.Common.{◌≡◌, ◌↔◌, ◌<◌, ◌^◌, ℕ, List, true, false, length, sym, subst, ap, ◌∙◌, arith}
 use Rattle.std.specs.Prelude.{Contains}
-use Rattle.cmh_audit.specs.Links.{waiting}
-use Rattle.cmh_audit.specs.Reports.{beside, AreFirstCycles, AreOnCycles}
-use Rattle.cmh_audit.specs.Sums.{in_journals}
+use Rattle.cmh_audit.specs.Inner.Links.{waiting}
+use Rattle.cmh_audit.specs.Reports.{beside}
+use Rattle.cmh_audit.specs.Inner.FoundCycles.{AreFirstCycles, AreOnCycles}
+use Rattle.cmh_audit.specs.Inner.AllSums.{in_journals}
 use Rattle.cmh_audit.specs.Transit.{sum_over}
-use Rattle.cmh_audit.specs.Turns.{turned, turns}
+use Rattle.cmh_audit.specs.Inner.Turns.{turned, turns}
 use Rattle.cmh_audit.proofs.CountingLemmas.{ascending_apart, frames_bound}
 use Rattle.cmh_audit.proofs.ReportLemmas.{waits_same, declared_same, on_cycles, in_transit_is, left_within, firsts-length, beside_is, cycles_to}
 use Rattle.cmh_audit.proofs.TransitLemmas.{drained_iff}

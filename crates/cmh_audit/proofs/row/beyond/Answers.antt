@@ -1,4 +1,4 @@
-use Rattle.cmh_audit.proofs.BitLemmas.{beyond_bit}
+use Rattle.cmh_dependents.proofs.BitLemmas.{beyond_bit}
 use Rattle.cmh_audit.proofs.row.beyond.Goals as goal
 
 pub returns : goal.returns

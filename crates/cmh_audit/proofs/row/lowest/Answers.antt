@@ -1,4 +1,5 @@
-use Rattle.cmh_audit.proofs.BitLemmas.{lowest_bit, lowest_least}
+use Rattle.cmh_audit.proofs.BitLemmas.{lowest_least}
+use Rattle.cmh_dependents.proofs.BitLemmas.{lowest_bit}
 use Rattle.cmh_audit.proofs.row.lowest.Goals as goal
 
 pub returns-clause-set : goal.returns-clause-set

@@ -1,4 +1,5 @@
-use Rattle.cmh_audit.proofs.BitLemmas.{cleared_bit, less_without}
+use Rattle.cmh_waits.proofs.BitLemmas.{cleared_bit}
+use Rattle.cmh_dependents.proofs.BitLemmas.{less_without}
 use Rattle.cmh_audit.proofs.row.without.Goals as goal
 
 pub returns-clause-bits : goal.returns-clause-bits

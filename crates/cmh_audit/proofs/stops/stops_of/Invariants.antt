@@ -1,5 +1,5 @@
 use Rattle.std.proofs.Common.{◌≡◌, take}
-use Rattle.cmh_audit.specs.Stops.{stops_at}
+use Rattle.cmh_audit.specs.Inner.FoundStops.{stops_at}
 use Rattle.cmh_audit.proofs.stops.stops_of.Given as goal
 
 abbrev pub invariant-loop-site : goal.invariant-loop-site

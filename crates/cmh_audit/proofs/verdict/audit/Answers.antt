@@ -3,7 +3,8 @@ use Rattle.std.proofs.lemmas.Bool.{eqb-true, eqb-false}
 use Rattle.std.specs.List.Sorted.{IsStrictlyIncreasing}
 use Rattle.cmh_frames.specs.Topology.{sites_of}
 use Rattle.cmh_audit.specs.Journals.{entry_count}
-use Rattle.cmh_audit.specs.Stops.{stops_at, AreStops}
+use Rattle.cmh_audit.specs.Inner.FoundStops.{stops_at}
+use Rattle.cmh_audit.specs.Stops.{AreStops}
 use Rattle.cmh_audit.specs.Verdicts.{entries_before, sent_before}
 use Rattle.cmh_audit.proofs.AuditLemmas.{set_few, tries_fit, all_left}
 use Rattle.cmh_model.proofs.Beginnings.{empty_list, some_list}

@@ -1,6 +1,6 @@
 use Rattle.std.proofs.Common.{◌+◌, take}
 use Rattle.cmh_audit.specs.Sums.{in_entries}
-use Rattle.cmh_audit.specs.Turns.{turns, turns_of}
+use Rattle.cmh_audit.specs.Inner.Turns.{turns, turns_of}
 use Rattle.cmh_audit.proofs.Sums.{entries_more}
 use Rattle.cmh_audit.proofs.TurnLemmas.{turns_more}
 use Rattle.cmh_audit.proofs.waits.turn_entries.Goals as goal

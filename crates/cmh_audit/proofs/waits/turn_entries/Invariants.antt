@@ -1,6 +1,6 @@
 use Rattle.std.proofs.Common.{take}
 use Rattle.cmh_audit.specs.Sums.{in_entries}
-use Rattle.cmh_audit.specs.Turns.{Turns, turns}
+use Rattle.cmh_audit.specs.Inner.Turns.{Turns, turns}
 use Rattle.cmh_audit.proofs.waits.turn_entries.Given as goal
 
 abbrev pub invariant-loop-entry : goal.invariant-loop-entry

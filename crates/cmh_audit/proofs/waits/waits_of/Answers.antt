@@ -3,8 +3,9 @@ use Rattle.std.specs.Prelude.{Contains}
 use Rattle.std.specs.List.Sorted.{IsStrictlySortedBy}
 use Rattle.cmh_model.specs.declared.journal.Entry.{Entry}
 use Rattle.cmh_model.specs.Relation.{pair_cmp}
-use Rattle.cmh_audit.specs.Sums.{in_entries, in_journals}
-use Rattle.cmh_audit.specs.Turns.{turned, turns, Turns, is_open}
+use Rattle.cmh_audit.specs.Sums.{in_entries}
+use Rattle.cmh_audit.specs.Inner.AllSums.{in_journals}
+use Rattle.cmh_audit.specs.Inner.Turns.{turned, turns, Turns, is_open}
 use Rattle.cmh_audit.proofs.Sums.{journals_more}
 use Rattle.cmh_audit.proofs.TurnLemmas.{turns_more, open_iff, none_open}
 use Rattle.cmh_audit.proofs.waits.waits_of.Goals as goal

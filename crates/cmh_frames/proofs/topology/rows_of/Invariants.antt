@@ -1,7 +1,7 @@
 use Rattle.std.proofs.Common.{◌≡◌, take, map}
 use Rattle.std.specs.List.{AllByRecursion}
 use Rattle.cmh_frames.specs.Rows.{Row}
-use Rattle.cmh_frames.specs.Topology.{HasMembersOf}
+use Rattle.cmh_frames.specs.Inner.Kept.{HasMembersOf}
 use Rattle.cmh_frames.proofs.topology.rows_of.Given as goal
 
 -- the rows of the sites so far

@@ -1,7 +1,7 @@
 use Rattle.std.proofs.Common.{◌≡◌, ℕ, ◌+◌, ◌<◌, ◌≤◌, ◌∙◌, List, Vec, take, length, get_or, inl, inr, sym, ap, subst, subst₂, refl}
 use Rattle.std.specs.Global.{Global}
 use Rattle.std.specs.Prelude.{Contains}
-use Rattle.cmh_audit.specs.Graphs.{AreAskers}
+use Rattle.cmh_audit.specs.Inner.Graphs.{AreAskers}
 use Rattle.cmh_audit.proofs.GraphLemmas.{AreTables, tables_start, tables_pass, tables_more, tables_end}
 use Rattle.cmh_audit.proofs.graph.Graph.new.Goals as goal
 use Rattle.cmh_audit.proofs.graph.Graph.new.Goals.{in-Some+in-Some-place_of, in-Some+in_default-place_of, in_default}

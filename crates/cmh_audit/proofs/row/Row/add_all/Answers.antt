@@ -1,5 +1,5 @@
 use Rattle.std.proofs.Common.{◌≡◌, ◌∙◌, ℕ, List, length, get_or, refl, ap, subst, arith}
-use Rattle.cmh_audit.proofs.BitLemmas.{either_bit}
+use Rattle.cmh_dependents.proofs.BitLemmas.{either_bit}
 use Rattle.cmh_audit.proofs.RowLemmas.{either, changed_start, changed_more, changed_places}
 use Rattle.cmh_audit.proofs.row.Row.add_all.Goals as goal
 

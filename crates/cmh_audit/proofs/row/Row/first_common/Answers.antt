@@ -1,7 +1,7 @@
 use Rattle.std.proofs.Common.{◌≡◌, ◌≤◌, ◌*◌, ◌+◌, ◌∙◌, ℕ, List, length, get_or, true, inl, inr, ap, subst₂, arith}
 use Rattle.std.specs.Int.Bits.{bit_and}
 use Rattle.std.proofs.lemmas.Bool.{cases_eq}
-use Rattle.cmh_audit.specs.Rows.{has_place}
+use Rattle.cmh_audit.specs.Inner.Rows.{has_place}
 use Rattle.cmh_audit.proofs.RowLemmas.{word_at, common_here, common_least, none_common}
 use Rattle.cmh_audit.proofs.row.Row.first_common.Goals as goal
 

@@ -1,5 +1,5 @@
 use Rattle.std.proofs.Common.{◌∙◌, ◌||◌, ◌==◌, ℕ, List, length, ap, arith}
-use Rattle.cmh_audit.specs.Rows.{has_place}
+use Rattle.cmh_audit.specs.Inner.Rows.{has_place}
 use Rattle.cmh_audit.proofs.RowLemmas.{inserted}
 use Rattle.cmh_audit.proofs.row.Row.insert.Goals as goal
 

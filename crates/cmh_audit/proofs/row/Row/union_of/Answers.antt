@@ -1,5 +1,6 @@
 use Rattle.std.proofs.Common.{◌≡◌, ◌*◌, ◌+◌, ◌∙◌, ℕ, List, true, length, sym, ap, subst, arith}
-use Rattle.cmh_audit.specs.Rows.{is_set, has_place}
+use Rattle.cmh_audit.specs.Inner.Rows.{has_place}
+use Rattle.cmh_waits.specs.Rows.{is_set}
 use Rattle.cmh_audit.proofs.RowLemmas.{word_at, has_at, union_start, union_more, union_end}
 use Rattle.cmh_audit.proofs.row.Row.union_of.Goals as goal
 

@@ -10,13 +10,16 @@ parked_count [] = 0
 parked_count (None ∷ lacks) = parked_count lacks
 parked_count (Some a ∷ lacks) = 1 + parked_count lacks
 
--- Of the sites that lack a frame of `from`, those to which one of the first i frames was sent came to the list; the others lack what they lacked.
-pub record Wakes (journals : List Journal) (sent : List (ℕ × Frame)) (first ready : List ℕ) (before lacks : List (Option ℕ)) (from i : ℕ) : Type 0 where
+-- Of the sites that lack a frame of `from`, those to which one of the first i frames was sent
+-- came to the list; the others lack what they lacked.
+pub record Wakes (journals : List Journal) (sent : List (ℕ × Frame)) (first ready : List ℕ)
+    (before lacks : List (Option ℕ)) (from i : ℕ) : Type 0 where
   pub long : length lacks ≡ length before
   pub kept : (k : ℕ) → Contains first k → Contains ready k
   pub inside : (k : ℕ) → Contains ready k → Contains first k ⊎ (k < length journals)
   pub others : (k : ℕ) (j : Journal) → k < length journals → j ≡ slice_index_or journals k j
-      → Contains ready k ⊎ ((slice_index_or lacks k None ≡ slice_index_or before k None) × (slice_index_or before k None ≡ Some from → frames_to j.site (take i sent) ≡ []))
+      → Contains ready k ⊎ ((slice_index_or lacks k None ≡ slice_index_or before k None)
+      × (slice_index_or before k None ≡ Some from → frames_to j.site (take i sent) ≡ []))
   pub bound : length ready ≤ length first + i
   pub even : length ready + parked_count lacks ≤ length first + parked_count before
 

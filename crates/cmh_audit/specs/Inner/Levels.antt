@@ -1,7 +1,7 @@
 -- The places from which a fixed one is reached, level by level.
 use Rattle.std.specs.Prelude.{◌≡◌, ℕ, ◌+◌, ◌-◌, ◌<◌, ◌≤◌, true, List, length}
 use Rattle.cmh_model.specs.Paths.{IsPath}
-use Rattle.cmh_audit.specs.Rows.{has_place, row_at}
+use Rattle.cmh_audit.specs.Inner.Rows.{has_place, row_at}
 
 -- the level d has the place
 abbrev pub IsIn : List (List ℕ) → ℕ → ℕ → Type 0
@@ -11,7 +11,8 @@ IsIn levels d v = has_place (row_at levels d) v ≡ true
 pub record AreLevels (R : ℕ → ℕ → Type 0) (to : ℕ) (levels : List (List ℕ)) : Type 0 where
   pub reached : (d v : ℕ) → IsIn levels d v → (members : List ℕ) × IsPath R v members to × (length members ≡ d)
   pub short : (d v : ℕ) (members : List ℕ) → IsIn levels d v → IsPath R v members to → d ≤ length members
-  pub least : (v : ℕ) (members : List ℕ) → IsPath R v members to → length members < length levels → (d : ℕ) × IsIn levels d v × (d ≤ length members)
+  pub least : (v : ℕ) (members : List ℕ) → IsPath R v members to → length members < length levels
+      → (d : ℕ) × IsIn levels d v × (d ≤ length members)
 
 -- the last level has a place that `to` leads to, and no level before it has one
 pub record LeadBack (R : ℕ → ℕ → Type 0) (to : ℕ) (levels : List (List ℕ)) : Type 0 where

@@ -1,10 +1,6 @@
 -- Rows of bits: the bit k % 64 of the word k / 64 of a row stands for the place k.
-use Rattle.std.specs.Prelude.{◌≡◌, ℕ, ◌/◌, ◌%◌, ◌<◌, ◌↔◌, Bool, true, ◌==◌, List, [], length, slice_index, slice_index_or}
-use Rattle.std.specs.Int.{bit_at}
-
--- whether the number has a 1 at the place
-abbrev pub is_set : ℕ → ℕ → Bool
-is_set n k = bit_at n k == 1
+use Rattle.std.specs.Prelude.{◌≡◌, ℕ, ◌/◌, ◌%◌, ◌<◌, ◌↔◌, Bool, true, List, [], length, slice_index, slice_index_or}
+use Rattle.cmh_waits.specs.Rows.{is_set}
 
 -- whether the row has the place
 abbrev pub has_place : List ℕ → ℕ → Bool

@@ -8,7 +8,7 @@ use Rattle.cmh_model.specs.Journals.{IsLawful, frames_to, frame_from, sendings_o
 use Rattle.cmh_model.specs.Runs.{IsBeginningOf, ComeFromRun}
 use Rattle.cmh_journal.specs.Journal.{Journal}
 use Rattle.cmh_audit.specs.Journals.{journal_of}
-use Rattle.cmh_audit.specs.Links.{Links, waiting}
+use Rattle.cmh_audit.specs.Inner.Links.{Links, waiting}
 use Rattle.cmh_audit.specs.Sums.{in_entries}
 use Rattle.cmh_audit.specs.Transit.{sent_count}
 
@@ -24,16 +24,17 @@ pub record CanGrow (t : Topology) (site : ℕ) (held : ℕ → List Entry) (e : 
   pub got : (a : ℕ) → IsBeginningOf (receipts_of a (held site ++ e ∷ [])) (sendings_of site (held a))
 
 -- the frame that the event got, if it got one, is the next of its link
-abbrev pub IsNext : Links → ℕ → Event → Type 0
-IsNext links site event = (a : ℕ) → IsBeginningOf (frame_from a event) (waiting links a site)
+abbrev pub IsNextFrame : Links → ℕ → Event → Type 0
+IsNextFrame links site event = (a : ℕ) → IsBeginningOf (frame_from a event) (waiting links a site)
 
 -- the links after the site sent these frames
-abbrev pub Sends : Links → Links → ℕ → List (ℕ × Frame) → Type 0
-Sends old new site sent = (a b : ℕ) → waiting new a b ≡ waiting old a b ++ (if site == a then frames_to b sent else [])
+abbrev pub SendsFrames : Links → Links → ℕ → List (ℕ × Frame) → Type 0
+SendsFrames old new site sent =
+    (a b : ℕ) → waiting new a b ≡ waiting old a b ++ (if site == a then frames_to b sent else [])
 
 -- the links after an entry of the site: what it got is gone, what it sent came in
-abbrev pub Moves : Links → Links → ℕ → Entry → Type 0
-Moves old new site entry =
+abbrev pub MovesFrames : Links → Links → ℕ → Entry → Type 0
+MovesFrames old new site entry =
     (a b : ℕ) → (if site == b then frame_from a entry.event else []) ++ waiting new a b
     ≡ waiting old a b ++ (if site == a then frames_to b entry.sent else [])
 
@@ -48,14 +49,16 @@ abbrev pub AreLawfulLengths : Topology → List Journal → List ℕ → Type 0
 AreLawfulLengths t [] [] = Unit {0}
 AreLawfulLengths t [] (n ∷ limits) = ⊥
 AreLawfulLengths t (j ∷ journals) [] = ⊥
-AreLawfulLengths t (j ∷ journals) (n ∷ limits) = IsLawfulLength t j.site j.entries n × AreLawfulLengths t journals limits
+AreLawfulLengths t (j ∷ journals) (n ∷ limits) =
+    IsLawfulLength t j.site j.entries n × AreLawfulLengths t journals limits
 
 -- a merge that can't go on: what was taken comes from a run, and no site can take its next entry
 pub record IsStuck (t : Topology) (journals : List Journal) (counts : List ℕ) : Type 0 where
   pub each : length counts ≡ length journals
   pub comes : ComeFromRun t (taken_of journals counts)
   pub within : (site : ℕ) → IsBeginningOf (taken_of journals counts site) (journal_of journals site)
-  pub stuck : (site : ℕ) (e : Entry) → IsBeginningOf (taken_of journals counts site ++ e ∷ []) (journal_of journals site)
+  pub stuck : (site : ℕ) (e : Entry)
+      → IsBeginningOf (taken_of journals counts site ++ e ∷ []) (journal_of journals site)
       → CanGrow t site (taken_of journals counts) e → ⊥
 
 -- all counts together
@@ -69,21 +72,28 @@ sent_by [] counts = 0
 sent_by (j ∷ journals) [] = 0
 sent_by (j ∷ journals) (n ∷ counts) = in_entries sent_count (take n j.entries) + sent_by journals counts
 
--- The looks that were made: one at each entry that was taken, and one at least, which failed, of each journal that is neither whole nor on the list.
--- A site comes to the list at the start, behind each of its entries, and for a frame that was sent to it; it goes from it for a look, or because its journal is whole.
+-- The looks that were made: one at each entry that was taken, and one at least, which failed, of each
+-- journal that is neither whole nor on the list.
+-- A site comes to the list at the start, behind each of its entries, and for a frame that was sent to it;
+-- it goes from it for a look, or because its journal is whole.
 pub record AreTried (journals : List Journal) (counts ready : List ℕ) (tries : ℕ) : Type 0 where
   pub failed : List ℕ  -- the sites of the looks that failed
   pub passed : List ℕ  -- the sites that went from the list without a look
-  pub within : (k : ℕ) (j : Journal) → k < length journals → j ≡ slice_index_or journals k j → slice_index_or counts k 0 ≤ length j.entries
+  pub within : (k : ℕ) (j : Journal) → k < length journals → j ≡ slice_index_or journals k j
+      → slice_index_or counts k 0 ≤ length j.entries
   pub all : total counts + length failed ≤ tries
   pub caused : tries + (length passed + length ready) ≤ total counts + (sent_by journals counts + length journals)
   pub each : (k : ℕ) (j : Journal) → k < length journals → j ≡ slice_index_or journals k j
-      → Contains ready k ⊎ ((Contains passed j.site × (length j.entries ≤ slice_index_or counts k 0)) ⊎ (Contains failed j.site × (slice_index_or counts k 0 < length j.entries)))
+      → Contains ready k ⊎ ((Contains passed j.site × (length j.entries ≤ slice_index_or counts k 0))
+      ⊎ (Contains failed j.site × (slice_index_or counts k 0 < length j.entries)))
 
 -- the links have just what was sent and not got by the entries that were taken
 abbrev pub AreLeft : List Journal → List ℕ → Links → Type 0
-AreLeft journals counts links = (a b : ℕ) → receipts_of a (taken_of journals counts b) ++ waiting links a b ≡ sendings_of b (taken_of journals counts a)
+AreLeft journals counts links =
+    (a b : ℕ) → receipts_of a (taken_of journals counts b) ++ waiting links a b
+    ≡ sendings_of b (taken_of journals counts a)
 
 -- the same where all entries were taken
 abbrev pub AreAllLeft : List Journal → Links → Type 0
-AreAllLeft journals links = (a b : ℕ) → receipts_of a (journal_of journals b) ++ waiting links a b ≡ sendings_of b (journal_of journals a)
+AreAllLeft journals links =
+    (a b : ℕ) → receipts_of a (journal_of journals b) ++ waiting links a b ≡ sendings_of b (journal_of journals a)

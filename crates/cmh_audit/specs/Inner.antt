@@ -1,0 +1,13 @@
+-- The auditor's own words: of its merge, its counts and its search. No contract of what it gives to its callers cites
+-- them.
+pub mod Links
+pub mod Merging
+pub mod Ready
+pub mod Turns
+pub mod Declarations
+pub mod Graphs
+pub mod Levels
+pub mod Rows
+pub mod FoundCycles
+pub mod FoundStops
+pub mod AllSums
