@@ -3,3 +3,4 @@ pub mod Batching
 pub mod Stops
 pub mod Ends
 pub mod Declarations
+pub mod Stepping

@@ -10,6 +10,7 @@ mod parking_tap;
 mod refusal;
 mod shared;
 mod station;
+mod storing;
 
 pub use crate::batch::BATCH_LIMIT;
 pub use crate::journaled::JournaledController;

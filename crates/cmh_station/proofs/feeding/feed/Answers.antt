@@ -1,4 +1,4 @@
-use Rattle.std.proofs.Common.{◌≡◌, length, ap, sym, arith}
+use Rattle.std.proofs.Common.{length, ap, sym, arith}
 use Rattle.cmh_station.proofs.Declarations.{fewer_before}
 use Rattle.cmh_station.proofs.feeding.feed.Goals as goal
 
