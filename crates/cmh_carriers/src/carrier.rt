@@ -3,6 +3,7 @@
 ghost use Rattle.std.specs.Prelude.{◌≡◌, ℕ, ◌+◌, ◌-◌, ◌<◌, ◌≤◌, ◌^◌, Bool, true, List, length, take, Option, IfOk, OnOk, OnErr};
 ghost use Rattle.cmh_journal.specs.Sink.{known_and};
 
+use crate::gate::Gate;
 use cmh_frames::SiteId;
 use thiserror::Error;
 
@@ -87,6 +88,12 @@ pub trait Listen {
 
     /// Another handle of a connection. `None` where memory for one was refused.
     fn line(&self, incoming: &Self::In) -> Option<Self::Line>;
+
+    /// Another handle of itself. `None` where memory for one was refused.
+    fn gate(&self) -> Option<Gate>;
+
+    /// Refuses what waits to be accepted, so that who opened it learns of it, also where a gate is held.
+    fn shut(&self);
 
     /// How many calls have failed.
     fn faults(&self) -> u64

@@ -2,9 +2,11 @@
 #![tactic(auto)]
 
 mod carrier;
+mod gate;
 mod memory;
 mod tcp;
 
 pub use crate::carrier::{Dial, Incoming, IoFault, Line, Listen, Outgoing};
+pub use crate::gate::Gate;
 pub use crate::memory::{MemIncoming, MemOutgoing};
 pub use crate::tcp::{TcpDial, TcpIncoming, TcpLine, TcpListen, TcpOutgoing};

@@ -3,10 +3,12 @@
 ghost use Rattle.std.specs.Prelude.{◌≡◌, ◌≤◌, None, IfOk, length};
 
 use crate::carrier::{Dial, Incoming, IoFault, Line, Listen, Outgoing};
+use crate::gate::Gate;
 use cmh_frames::SiteId;
 use std::alloc::Global;
 use std::io::{Read, Write};
 use std::net::{Ipv4Addr, Net, Shutdown, SocketAddr, TcpListener, TcpStream};
+use std::os::fd::OwnedFd;
 use std::sync::Arc;
 use std::time::Duration;
 
@@ -115,6 +117,9 @@ impl Outgoing for TcpOutgoing {
 pub struct TcpListen {
     alloc: Global,
     listener: TcpListener,
+    /// Another handle of its socket, made here, so that closing it later needs no descriptor. `None` where memory for it was
+    /// refused.
+    socket: Option<Arc<TcpStream>>,
     faults: u64,
 }
 
@@ -127,14 +132,20 @@ impl TcpListen {
     ) -> Result<TcpListen, IoFault>
         ensures { IfOk result (λ listen. listen.faults ≡ 0) }
     {
-        match TcpListener::bind(rt, SocketAddr::from((Ipv4Addr::LOCALHOST, port))) {
-            Ok(listener) => Ok(TcpListen {
-                alloc,
-                listener,
-                faults: 0,
-            }),
-            Err(_) => Err(IoFault),
-        }
+        let Ok(listener) = TcpListener::bind(rt, SocketAddr::from((Ipv4Addr::LOCALHOST, port)))
+        else {
+            return Err(IoFault);
+        };
+        let Ok(other) = listener.try_clone() else {
+            return Err(IoFault);
+        };
+        let socket = TcpStream::from(OwnedFd::from(other));
+        Ok(TcpListen {
+            alloc,
+            listener,
+            socket: Arc::new(alloc, socket).ok(),
+            faults: 0,
+        })
     }
 
     /// The port that it listens on.
@@ -174,6 +185,22 @@ impl Listen for TcpListen {
                 Err(_) => None,
             },
             None => None,
+        }
+    }
+
+    fn gate(&self) -> Option<Gate> {
+        match &self.socket {
+            Some(socket) => match Arc::try_clone(socket) {
+                Ok(socket) => Some(Gate::new(socket)),
+                Err(_) => None,
+            },
+            None => None,
+        }
+    }
+
+    fn shut(&self) {
+        if let Some(socket) = &self.socket {
+            let _ = socket.shutdown(Shutdown::Both);
         }
     }
 

@@ -58,7 +58,7 @@ where
             let _ = readers.push((reader, line));
         }
     }
-    // What still waits to be accepted is refused, so that who opened it learns of it.
+    listen.shut();
     drop(listen);
     for _ in rt.forever() {
         if hub.ending.load(Ordering::SeqCst) {

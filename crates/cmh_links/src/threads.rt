@@ -6,7 +6,7 @@ use crate::accepting::accept_all;
 use crate::hub::{Exit, Hub};
 use crate::table::{LinkFault, SharedLinks};
 use crate::writing::run_writer;
-use cmh_carriers::{Dial, IoFault, Listen, Outgoing};
+use cmh_carriers::{Dial, Gate, IoFault, Listen, Outgoing};
 use cmh_frames::{SiteId, Topology};
 use cmh_journal::Sink;
 use cmh_station::{LinkTap, Listing, ParkingTap, SharedStation};
@@ -40,6 +40,7 @@ pub struct SiteThreads<R, S: Sink, B: Listing, D: Dial> {
     dial: D,
     accepting: JoinHandle<()>,
     accepter: Unparker,
+    gate: Gate,
     /// The taps of the links that were not opened yet, the next one last.
     waiting: Vec<ParkingTap>,
     /// Those of the others, in their order.
@@ -142,6 +143,9 @@ where
         ensures none_open { IfOk result (λ threads. vec_len threads.places ≡ 0) }
         ensures back { IfErr result (λ back. back ≡ taps) }
     {
+        let Some(gate) = listen.gate() else {
+            return Err(taps);
+        };
         let Ok(parts) = make_parts(alloc, topology, site, station, taps.len()) else {
             return Err(taps);
         };
@@ -170,6 +174,7 @@ where
             dial,
             accepting,
             accepter,
+            gate,
             waiting,
             places,
             taps: room,
@@ -288,10 +293,11 @@ where
         self.end();
         let SiteThreads {
             rt,
-            hub,
-            mut dial,
+            hub: _,
+            dial: _,
             accepting,
             accepter: _,
+            gate,
             waiting,
             places,
             taps,
@@ -308,8 +314,7 @@ where
         while let Some(tap) = waiting.pop() {
             let _ = taps.push(tap.into_tap());
         }
-        // Accepting ends once it has one connection more.
-        let _ = dial_site(&mut dial, hub.site);
+        gate.shut();
         accepting.join(&rt);
         taps
     }
