@@ -11,34 +11,68 @@ import tempfile
 import time
 
 PATIENCE = 20.0  # seconds that anything may take
+ALL_TRIALS = 170.0  # seconds that all trials may take together
+
+_end = time.monotonic() + ALL_TRIALS
+
+
+def patience():
+    """The seconds that the next thing may take, so that all trials end in time."""
+    return max(0.1, min(PATIENCE, _end - time.monotonic()))
 
 
 class Missed(Exception):
     """What was awaited did not come."""
 
 
-# The ports lie below those that a system gives to outgoing connections, and each is given once.
+class Collided(Exception):
+    """A stranger took a port that a site was to have."""
+
+
+# ---- ports
+
+def usable_ports():
+    """The ports from which sites get theirs: below those that the system gives to outgoing connections, and below the 12,000
+    from which the other scripts choose."""
+    try:
+        with open('/proc/sys/net/ipv4/ip_local_port_range') as file:
+            lowest = int(file.read().split()[0])
+    except (OSError, ValueError):
+        lowest = 32768
+    if lowest < 16000:
+        lowest = 32768
+    return range(max(2000, lowest - 22000), lowest - 12000)
+
+
 _ports = random.Random(os.getpid())
-_given = set()
+_usable = usable_ports()
 
 
-def free_port():
-    while True:
-        port = _ports.randrange(20000, 32000)
-        if port in _given:
-            continue
-        _given.add(port)
-        with socket.socket() as probe:
+class Port:
+    """A free port that nobody else is given while it is held: it is held as one of UDP, and used as one of TCP."""
+
+    def __init__(self):
+        for _ in range(10000):
+            self.number = _ports.choice(_usable)
+            self.held = socket.socket(socket.AF_INET, socket.SOCK_DGRAM)
             try:
-                probe.bind(('127.0.0.1', port))
+                self.held.bind(('127.0.0.1', self.number))
+                with socket.socket() as probe:
+                    probe.bind(('127.0.0.1', self.number))
+                return
             except OSError:
-                continue
-        return port
+                self.held.close()
+        raise Missed('a free port')
+
+    def let_go(self):
+        self.held.close()
 
 
-def wait_until(holds, what, patience=PATIENCE):
+# ---- waiting
+
+def wait_until(holds, what):
     """Looks until it holds; answers what it was."""
-    end = time.monotonic() + patience
+    end = time.monotonic() + patience()
     while True:
         answer = holds()
         if answer:
@@ -56,7 +90,8 @@ class World:
         self.sites = sites
         self.edition = edition
         self.folder = tempfile.TemporaryDirectory()
-        self.ports = {site: free_port() for site in sites}
+        self.held = {site: Port() for site in sites}
+        self.ports = {site: port.number for site, port in self.held.items()}
         self.running = []
         rows = [{'site': site, 'port': self.ports[site], 'processes': processes} for site, processes in sites.items()]
         with open(self.path('topology'), 'w') as file:
@@ -68,6 +103,8 @@ class World:
     def __exit__(self, *_):
         for site in self.running:
             site.let_go()
+        for port in self.held.values():
+            port.let_go()
         self.folder.cleanup()
 
     def path(self, name):
@@ -85,7 +122,7 @@ class World:
         """All sites, listening and then connected."""
         running = {site: self.start(site) for site in self.sites}
         for site in running.values():
-            site.expect('listening')
+            site.await_listening()
         for site in running.values():
             site.say('connect')
         for site in running.values():
@@ -105,7 +142,7 @@ class World:
             self.finish(site)
         words = [self.program, 'audit', '--topology', self.path('topology')]
         words += [self.journal(site) for site in self.sites]
-        done = subprocess.run(words, capture_output=True, text=True, timeout=PATIENCE)
+        done = subprocess.run(words, capture_output=True, text=True, timeout=patience())
         return done.returncode, done.stdout.splitlines() + done.stderr.splitlines()
 
     def is_accepted(self, *lines):
@@ -176,9 +213,9 @@ class Site:
         except BrokenPipeError:
             pass
 
-    def hear(self, patience=PATIENCE):
+    def hear(self):
         """The next line, or None at the end."""
-        end = time.monotonic() + patience
+        end = time.monotonic() + patience()
         while b'\n' not in self.buffer:
             left = end - time.monotonic()
             if left <= 0 or not select.select([self.process.stdout], [], [], left)[0]:
@@ -197,6 +234,13 @@ class Site:
         while self.hear() is not None:
             pass
         return self.heard
+
+    def await_listening(self):
+        line = self.hear()
+        if line is None and self.wait() == 3 and self.process.stderr.read() == b'fault listen\n':
+            raise Collided(self.world.ports[self.number])
+        if line != 'listening':
+            raise Missed('site %d said %r for its start' % (self.number, line))
 
     def expect(self, wanted):
         line = self.hear()
@@ -229,20 +273,18 @@ class Site:
     def signal(self, number):
         self.process.send_signal(number)
 
-    def wait(self, patience=PATIENCE):
+    def wait(self):
         try:
-            return self.process.wait(patience)
+            return self.process.wait(patience())
         except subprocess.TimeoutExpired:
             raise Missed('the end of site %d' % self.number) from None
 
-    def end(self, patience=5.0):
+    def end(self):
         """Whether the site says within seconds that it stopped, ends with status 0, and gives its port back."""
-        begin = time.monotonic()
         self.say('quit')
         lines = self.hear_all()
-        status = self.wait(patience)
-        return (status == 0 and lines[-1:] == ['stopped'] and time.monotonic() - begin < patience
-                and self.process.stderr.read() == b'' and is_free(self.world.ports[self.number]))
+        return (self.wait() == 0 and lines[-1:] == ['stopped'] and self.process.stderr.read() == b''
+                and is_free(self.world.ports[self.number]))
 
     def let_go(self):
         if self.process.poll() is None:
