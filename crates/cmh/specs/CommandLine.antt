@@ -1,9 +1,12 @@
 -- What the words of a command line name, and how the program ends.
-use Rattle.std.specs.Prelude.{◌≡◌, ℕ, ◌≤◌, ◌⊎◌, Bool, List, ⊤, codes, Option, Some}
+use Rattle.std.specs.Prelude.{◌≡◌, ℕ, ◌≤◌, ◌⊎◌, Bool, List, ⊤, codes, option_map, Option, None, Some}
 use Rattle.clap.specs.declared.parser.matches.ArgMatches.{ArgMatches}
-use Rattle.clap.specs.Matches.{subcommand_name_of}
+use Rattle.clap.specs.Matches.{first_value, found_of, subcommand_name_of}
+use Rattle.clap.specs.Simple.{subcommand_rows_of}
+use Rattle.clap.specs.Walk.{rows_of}
 use Rattle.cmh_files.specs.Audits.{AuditEnds}
 use Rattle.cmh_files.specs.Faults.{NamesFault}
+use Rattle.cmh_files.specs.Shows.{ShowEnds}
 use Rattle.cmh_files.specs.Status.{IsStatus}
 use Rattle.cmh_files.specs.declared.faults.Fault.{Fault}
 use Rattle.cmh_files.specs.declared.faults.Fault.TheVariants.{TopologyFile, ScriptFile, JournalFile, Memory}
@@ -11,6 +14,10 @@ use Rattle.cmh_files.specs.declared.faults.Fault.TheVariants.{TopologyFile, Scri
 -- the command that is named is the audit
 abbrev pub NamesAudit : ArgMatches → Type 0
 NamesAudit matches = subcommand_name_of matches ≡ Some (codes "audit")
+
+-- the command that is named is `show`
+abbrev pub NamesShow : ArgMatches → Type 0
+NamesShow matches = subcommand_name_of matches ≡ Some (codes "show")
 
 -- a command with this name is named
 abbrev pub Names : ArgMatches → List ℕ → Type 0
@@ -21,6 +28,13 @@ pub record NamesNothing (matches : ArgMatches) : Type 0 where
   pub no_audit : Names matches (codes "audit") → ⊥
   pub no_site : Names matches (codes "site") → ⊥
   pub no_cluster : Names matches (codes "cluster") → ⊥
+  pub no_show : Names matches (codes "show") → ⊥
+
+-- no folder for journals is named
+abbrev pub NamesNoFolder : ArgMatches → Type 0
+NamesNoFolder matches = (words : ArgMatches)
+    → option_map (λ p. p.1) (subcommand_rows_of matches) ≡ Some (rows_of (found_of words))
+    → first_value (found_of words) (codes "journals") ≡ None
 
 -- a file could not be read: the topology, a script, or a journal by its place from 1; or memory ran out
 abbrev pub IsUnread : Fault → Type 0
@@ -40,4 +54,11 @@ abbrev pub AuditsFiles : Option (List ℕ) → Option (List ℕ) → Bool → Bo
 AuditsFiles old new has_failed is_flushed err_old err_new err_failed status =
     ((topology : List ℕ) × (files : List (List ℕ))
     × AuditEnds topology files old new has_failed is_flushed err_old err_new err_failed status)
+    ⊎ ((new ≡ old) × NamesFault IsUnread status err_old err_new err_failed)
+
+-- the same of the lines of some journals
+abbrev pub ShowsFiles : Option (List ℕ) → Option (List ℕ) → Bool → Bool
+    → Option (List ℕ) → Option (List ℕ) → Bool → ℕ → Type 0
+ShowsFiles old new has_failed is_flushed err_old err_new err_failed status =
+    ((files : List (List ℕ)) × ShowEnds files old new has_failed is_flushed err_old err_new err_failed status)
     ⊎ ((new ≡ old) × NamesFault IsUnread status err_old err_new err_failed)

@@ -4,7 +4,11 @@ use crate::help::Help;
 use clap::{Arg, ArgAction, Command, Error, value_parser};
 use std::alloc::Global;
 
+pub const PLAY: &str = "play";
+
 pub const AUDIT: &str = "audit";
+
+pub const SHOW: &str = "show";
 
 pub const SITE: &str = "site";
 
@@ -22,12 +26,6 @@ pub const OUT: &str = "out";
 
 /// The command line.
 pub fn command<'a>(alloc: Global, help: &'a Help) -> Result<Command<'a>, Error> {
-    let play = Command::new(alloc, "play")
-        .about(
-            "Plays a script from standard input on a world of sites in memory, and answers each line",
-        )
-        .override_usage("cmh play < FILE")
-        .after_help(help.play.as_str());
     let cmh = Command::new(alloc, "cmh")
         .version("0.1.0")
         .about(
@@ -35,26 +33,46 @@ pub fn command<'a>(alloc: Global, help: &'a Help) -> Result<Command<'a>, Error> 
              journals. Without a command it plays a script.",
         )
         .after_help(Help::COMMANDS)
-        .subcommand(play)?
+        .subcommand(play_command(alloc, help)?)?
         .subcommand(site_command(alloc, help)?)?
         .subcommand(cluster_command(alloc, help)?)?
-        .subcommand(audit_command(alloc, help)?)?;
+        .subcommand(audit_command(alloc, help)?)?
+        .subcommand(show_command(alloc, help)?)?;
     Ok(cmh)
 }
 
-fn audit_command<'a>(alloc: Global, help: &'a Help) -> Result<Command<'a>, Error> {
+fn play_command<'a>(alloc: Global, help: &'a Help) -> Result<Command<'a>, Error> {
     let journals = Arg::new(alloc, JOURNALS)
-        .value_name("JOURNAL")
-        .help("The journal files of all sites, in any order")
-        .required(true)
-        .action(ArgAction::Append);
+        .long(JOURNALS)
+        .value_name("DIR")
+        .help("A folder, which has to be there, for the journals site-N.cmhj")
+        .action(ArgAction::Set);
+    let play = Command::new(alloc, PLAY)
+        .about(
+            "Plays a script from standard input on a world of sites in memory, and answers each line",
+        )
+        .override_usage("cmh play < FILE [--journals DIR]")
+        .after_help(help.play.as_str())
+        .arg(journals)?;
+    Ok(play)
+}
+
+fn show_command<'a>(alloc: Global, help: &'a Help) -> Result<Command<'a>, Error> {
+    let show = Command::new(alloc, SHOW)
+        .about("Prints the entries of journals, one a line, in the words of scripts")
+        .after_help(help.show.as_str())
+        .arg(journals_arg(alloc).help("The journal files, which are shown in this order"))?;
+    Ok(show)
+}
+
+fn audit_command<'a>(alloc: Global, help: &'a Help) -> Result<Command<'a>, Error> {
     let audit = Command::new(alloc, AUDIT)
         .about(
             "Tells whether the journals of all sites come from one run, and who waits and is deadlocked at its end",
         )
         .after_help(help.audit.as_str())
         .arg(topology_arg(alloc))?
-        .arg(journals)?;
+        .arg(journals_arg(alloc).help("The journal files of all sites, in any order"))?;
     Ok(audit)
 }
 
@@ -98,6 +116,14 @@ fn cluster_command<'a>(alloc: Global, help: &'a Help) -> Result<Command<'a>, Err
 
 fn topology_arg<'a>(alloc: Global) -> Arg<'a> {
     path_arg(alloc, TOPOLOGY, "FILE").help("The JSON file that names the sites and their processes")
+}
+
+/// The files of journals, one at least.
+fn journals_arg<'a>(alloc: Global) -> Arg<'a> {
+    Arg::new(alloc, JOURNALS)
+        .value_name("JOURNAL")
+        .required(true)
+        .action(ArgAction::Append)
 }
 
 /// An option whose value is a path.

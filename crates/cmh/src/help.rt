@@ -21,8 +21,10 @@ Lines of a script, by words; a line that fits none is answered `bad line`:
 ";
 
 const PLAY_STATUSES: &str = "\
+With --journals DIR the journal of each site N is written to DIR/site-N.cmhj, at each report and at the end.
+
 Statuses: 0 at the script's end, 1 where memory ran out, 2 for a command line that isn't understood, 3 at another
-fault, which is named on standard error: `fault input`, `fault output`.
+fault, which is named on standard error: `fault input`, `fault output`, `fault file out` (a journal can't be written).
 
 Example: printf 'site 1 1 2\\nask 1 2\\nask 2 1\\nstart 1\\nreport\\n' | cmh play
 ";
@@ -90,9 +92,32 @@ named on standard error: `fault file P`, `fault json`, `fault topology N`, `faul
 Example: cmh audit --topology world.json one.cmhj two.cmhj
 ";
 
+const SHOW_LINES: &str = "\
+Of each journal it prints a line `site S edition N`, then a line for each entry, numbered from 1: what happened, each
+frame that was sent, and who was declared:
+  N ask J K..           process J asked, and waits for all of the others
+  N reply J K           process J granted what it holds to K
+  N start J             a computation was started for process J
+  N got F from A        frame F came from site A; F is `request J K`, `reply J K` or `probe I J K`
+  .. sent F to B        behind each of these: frame F went to site B, once for each frame that was sent
+  .. declared I         at the end: process I was declared deadlocked
+
+and, behind the entries, where the file goes on:
+  cut N                 N bytes, less than an entry: a write was cut off
+  bad entry at O        at byte O, counted from 0, stands what is no entry; what follows isn't looked at
+";
+
+const SHOW_STATUSES: &str = "\
+Statuses: 0 where each journal was shown to its end, 1 where one has a bad entry or memory ran out, 2 for a command line
+that isn't understood, 3 at a fault, which is named on standard error: `fault file P`, `fault journal P N`,
+`fault output`. P is the place of a journal in the command, from 1.
+
+Example: cmh show one.cmhj two.cmhj
+";
+
 const COMMANDS: &str = "\
 `cmh play --help` has the language of scripts, `cmh site --help` and `cmh cluster --help` that of running sites,
-`cmh audit --help` the faults of files.
+`cmh audit --help` the faults of files, `cmh show --help` the lines of a journal.
 
 Example: cmh play < examples/cycle-over-two-sites.script
 ";
@@ -131,6 +156,7 @@ pub struct Help {
     pub site: String,
     pub cluster: String,
     pub audit: String,
+    pub show: String,
 }
 
 impl Help {
@@ -143,6 +169,7 @@ impl Help {
             site: running(alloc, SITE_LINES, SITE_STATUSES)?,
             cluster: running(alloc, CLUSTER_LINES, CLUSTER_STATUSES)?,
             audit: audit(alloc)?,
+            show: show(alloc)?,
         })
     }
 }
@@ -213,6 +240,16 @@ fn audit(alloc: Global) -> Result<String, AllocError> {
         row(&mut text, fault.number(), fault)?;
     }
     write!(text, "\n{AUDIT_STATUSES}")?;
+    Ok(text)
+}
+
+fn show(alloc: Global) -> Result<String, AllocError> {
+    let mut text = String::from_str(alloc, SHOW_LINES)?;
+    write!(text, "\nFaults of journal P, as in `fault journal P 1`:\n")?;
+    for fault in [JournalFault::BadHeader, JournalFault::Full] {
+        row(&mut text, fault.number(), fault)?;
+    }
+    write!(text, "\n{SHOW_STATUSES}")?;
     Ok(text)
 }
 

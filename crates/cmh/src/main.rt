@@ -2,8 +2,9 @@
 #![tactic(auto)]
 
 ghost use Rattle.std.specs.Prelude.{◌≡◌, ◌≢◌, ◌⊎◌, true, IfErr, IfSome};
-ghost use Rattle.cmh.specs.CommandLine.{AuditsFiles, IsEnd, IsUnread, NamesAudit, NamesNothing};
+ghost use Rattle.cmh.specs.CommandLine.{AuditsFiles, IsEnd, IsUnread, NamesAudit, NamesNoFolder, NamesNothing, NamesShow, ShowsFiles};
 ghost use Rattle.cmh_files.specs.Faults.{NamesFault};
+ghost use Rattle.cmh_site.specs.Keeping.{IsKeptPlayFault, IsUnkept};
 ghost use Rattle.cmh_site.specs.Play.{Answered, IsPlayFault};
 ghost use Rattle.cmh_files.specs.Status.{IsStatus};
 ghost use Rattle.cmh_files.specs.declared.faults.Fault as faults;
@@ -11,11 +12,15 @@ ghost use Rattle.cmh_files.specs.declared.faults.Fault as faults;
 mod commands;
 mod help;
 
-use crate::commands::{AUDIT, CLUSTER, JOURNAL, JOURNALS, OUT, SCRIPT, SITE, TOPOLOGY, command};
+use crate::commands::{
+    AUDIT, CLUSTER, JOURNAL, JOURNALS, OUT, PLAY, SCRIPT, SHOW, SITE, TOPOLOGY, command,
+};
 use crate::help::Help;
 use clap::{ArgMatches, Error, error};
 use cmh_frames::SiteId;
-use cmh_site::{Device, Fault, run_audit, run_cluster, run_play, run_site};
+use cmh_site::{
+    Device, Fault, Folder, run_audit, run_cluster, run_play, run_play_keeping, run_show, run_site,
+};
 use std::fs::File;
 use std::io::{BufReader, BufWriter, ErrorKind, Read, Write};
 use std::net::{Net, TcpListener, TcpStream};
@@ -73,12 +78,12 @@ where
     match command.try_get_matches_from(words.as_slice()) {
         Ok(matches) => carry_out(rt, &matches, input, out, err),
         Err(error) if error.kind() == error::ErrorKind::OutOfMemory => Fault::Memory.name_on(err),
-        Err(error) => show(rt, &error, err),
+        Err(error) => print_words(rt, &error, err),
     }
 }
 
 /// Prints the help or the version that was asked for, or why a command line isn't understood; answers the status.
-fn show<R: Print + Eprint, E: Write>(rt: &R, error: &Error, err: &mut Device<E>) -> u8
+fn print_words<R: Print + Eprint, E: Write>(rt: &R, error: &Error, err: &mut Device<E>) -> u8
     ensures { IsEnd result }
 {
     let printed = error.print(rt);
@@ -117,19 +122,34 @@ where
         Answered bytes (W.contents out.old.inner) (W.contents out.new.inner) out.new.has_failed result) }
     ensures silent { NamesNothing matches.now → result ≡ 0 → err.new ≡ err.old }
     ensures flushed { NamesNothing matches.now → result ≡ 0 → out.new.is_flushed ≡ true }
-    ensures fault { NamesNothing matches.now → result ≢ 0
+    ensures fault { NamesNothing matches.now → NamesNoFolder matches.now → result ≢ 0
         → NamesFault (IsPlayFault (I.remaining input.old.inner) input.new.has_failed out.new.has_failed) result
         (E.contents err.old.inner) (E.contents err.new.inner) err.new.has_failed }
+    ensures kept_fault { NamesNothing matches.now → result ≢ 0
+        → NamesFault (IsKeptPlayFault IsUnkept (I.remaining input.old.inner) input.new.has_failed out.new.has_failed)
+        result (E.contents err.old.inner) (E.contents err.new.inner) err.new.has_failed }
 
     // Where an audit is named, files are audited, and no script is read.
     ensures audits { NamesAudit matches.now
         → AuditsFiles (W.contents out.old.inner) (W.contents out.new.inner) out.new.has_failed out.new.is_flushed
         (E.contents err.old.inner) (E.contents err.new.inner) err.new.has_failed result }
     ensures reads_nothing { NamesAudit matches.now → input.new ≡ input.old }
+
+    // Where `show` is named, the lines of journals are written, and no script is read.
+    ensures shows { NamesShow matches.now
+        → ShowsFiles (W.contents out.old.inner) (W.contents out.new.inner) out.new.has_failed out.new.is_flushed
+        (E.contents err.old.inner) (E.contents err.new.inner) err.new.has_failed result }
+    ensures shows_alone { NamesShow matches.now → input.new ≡ input.old }
 {
     if let Some(audit) = matches.subcommand_matches(AUDIT) {
         return match files_of(rt, audit) {
             Ok(files) => run_audit(rt.alloc(), &files.topology, &files.journals, out, err),
+            Err(fault) => fault.name_on(err),
+        };
+    }
+    if let Some(words) = matches.subcommand_matches(SHOW) {
+        return match journals_of(rt, words) {
+            Ok(journals) => run_show(rt.alloc(), &journals, out, err),
             Err(fault) => fault.name_on(err),
         };
     }
@@ -139,7 +159,36 @@ where
     if let Some(words) = matches.subcommand_matches(CLUSTER) {
         return serve_cluster(rt, words, out, err);
     }
+    if let Some(words) = matches.subcommand_matches(PLAY) {
+        if let Some(path) = words.get_str(JOURNALS) {
+            return play_into(rt, path, input, out, err);
+        }
+    }
     run_play(rt.alloc(), input, out, err)
+}
+
+/// Plays a script, and keeps its journals in a folder.
+fn play_into<R: AllocGlobal + Files<File = File>, I: Read, W: Write, E: Write>(
+    rt: &R,
+    path: &str,
+    input: &mut Device<I>,
+    out: &mut Device<W>,
+    err: &mut Device<E>,
+) -> u8
+    ensures status { IsStatus result }
+    ensures answers { IfSome (I.remaining input.old.inner) (λ bytes.
+        Answered bytes (W.contents out.old.inner) (W.contents out.new.inner) out.new.has_failed result) }
+    ensures silent { result ≡ 0 → err.new ≡ err.old }
+    ensures flushed { result ≡ 0 → out.new.is_flushed ≡ true }
+    ensures fault { result ≢ 0
+        → NamesFault (IsKeptPlayFault IsUnkept (I.remaining input.old.inner) input.new.has_failed out.new.has_failed)
+        result (E.contents err.old.inner) (E.contents err.new.inner) err.new.has_failed }
+{
+    let alloc = rt.alloc();
+    match Folder::open(rt, path) {
+        Ok(mut folder) => run_play_keeping(alloc, input, out, err, &mut folder),
+        Err(fault) => fault.name_on(err),
+    }
 }
 
 /// Runs the site that the words name.
@@ -244,13 +293,24 @@ fn files_of<R: AllocGlobal + Files>(rt: &R, words: &ArgMatches<'_>) -> Result<Au
 {
     let path = words.get_str(TOPOLOGY).unwrap_or("");
     let topology = read_file(rt, path, Fault::TopologyFile)?;
+    let journals = journals_of(rt, words)?;
+    Ok(AuditFiles { topology, journals })
+}
+
+/// Reads the journals that the words name, in their order.
+fn journals_of<R: AllocGlobal + Files>(
+    rt: &R,
+    words: &ArgMatches<'_>,
+) -> Result<Vec<Vec<u8>>, Fault>
+    ensures { IfErr result IsUnread }
+{
     let mut journals = Vec::new(rt.alloc());
     if let Some(paths) = words.get_strs(JOURNALS) {
         for (i, path) in paths.iter().enumerate() {
             journals.push(read_file(rt, *path, Fault::JournalFile(i + 1))?)?;
         }
     }
-    Ok(AuditFiles { topology, journals })
+    Ok(journals)
 }
 
 /// What a file holds; the fault is the one given, but where memory was refused.

@@ -2,3 +2,4 @@ pub mod FileLemmas
 pub mod JsonLemmas
 pub mod TextLemmas
 pub mod Headlines
+pub mod ShowLemmas

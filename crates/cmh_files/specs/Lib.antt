@@ -4,3 +4,5 @@ pub mod Faults
 pub mod Status
 pub mod TopologyFile
 pub mod Headline
+pub mod Shows
+pub mod Keeping

@@ -5,12 +5,16 @@ mod audit_texts;
 mod auditing;
 mod faults;
 mod headline;
+mod keeping;
+mod showing;
 mod topology_file;
 
 pub use crate::audit_texts::VerdictText;
 pub use crate::auditing::run_audit;
 pub use crate::faults::Fault;
 pub use crate::headline::headline_law;
+pub use crate::keeping::write_journal;
+pub use crate::showing::run_show;
 pub use crate::topology_file::{
     TopologyFile, TopologyFileFault, read_topology_file, read_topology_file_with_ports,
 };

@@ -116,6 +116,13 @@ impl Playground {
         self.topology.edition()
     }
 
+    /// The journals of all sites, in the order of the topology.
+    pub fn journals(&self) -> &[Journal]
+        ensures { result.now ≡ self.now.journals.items }
+    {
+        &self.journals
+    }
+
     /// Gives an event to the controller of its process's home. Where memory runs out after the step, an error is
     /// answered, and nothing is said of the world from then on.
     pub fn act(&mut self, process: ProcId, event: Event) -> Result<Step, AllocError>

@@ -3,3 +3,4 @@ pub mod Dialogues
 mod Named
 pub mod Plays
 pub mod SiteTurns
+pub mod KeptPlays

@@ -1,4 +1,5 @@
 pub mod Dialogue
+pub mod Keeping
 pub mod Play
 pub mod Replies
 pub mod SiteReplies

@@ -2,9 +2,11 @@
 
 ghost use Rattle.std.specs.Prelude.{◌≡◌, ◌≢◌, ◌⊎◌, true, false, IfOk, IfErr, IfSome, OnOk, OnErr, Some};
 ghost use Rattle.cmh_files.specs.Faults.{NamesFault};
+ghost use Rattle.cmh_site.specs.Keeping.{AnsweredAndKept, AnswersAndKeeps, IsKeptPlayFault, IsUnanswered, KeepsAt, KeepsWorld, PlayedToEnd};
 ghost use Rattle.cmh_site.specs.Play.{AddsSite, Answered, AnswersLine, CarriesOut, Commands, IsAnswerFault, IsNewGame, IsPlayFault, IsSaidBy, Replies, SetsEdition, status_after};
 ghost use Rattle.cmh_files.specs.Status.{IsStatus};
 
+use crate::keeper::{Keeper, NoKeeper};
 use crate::reply::Reply;
 use cmh_files::Fault;
 use cmh_frames::{Edition, SiteRow};
@@ -36,42 +38,74 @@ pub fn run_play<R: Read, W: Write, E: Write>(
     ensures fault { result ≢ 0 → NamesFault (IsPlayFault (R.remaining input.old.inner) input.new.has_failed
         out.new.has_failed) result (E.contents err.old.inner) (E.contents err.new.inner) err.new.has_failed }
 {
-    match play(alloc, input, out) {
+    run_play_keeping(alloc, input, out, err, &mut NoKeeper)
+}
+
+/// The same, where the journals of all sites are kept: before each report is written, and at the script's end, once all
+/// answers are flushed. A keeper that fails ends the command with its fault.
+pub fn run_play_keeping<R: Read, W: Write, E: Write, K: Keeper>(
+    alloc: Global,
+    input: &mut Device<R>,
+    out: &mut Device<W>,
+    err: &mut Device<E>,
+    keeper: &mut K,
+) -> u8
+    ensures status { IsStatus result }
+
+    // What is written answers the script line by line, and the journals of the world that it leads to are kept.
+    ensures answers { IfSome (R.remaining input.old.inner) (λ bytes. AnsweredAndKept K.keeps bytes
+        (W.contents out.old.inner) (W.contents out.new.inner) out.new.has_failed result keeper.new) }
+    ensures silent { result ≡ 0 → err.new ≡ err.old }
+
+    // What was written is flushed, also before a fault.
+    ensures flushed { result ≡ 0 → out.new.is_flushed ≡ true }
+    ensures left { out.new.has_failed ≡ false → (out.new.is_flushed ≡ true) ⊎ (out.new ≡ out.old) }
+    ensures fault { result ≢ 0 → NamesFault (IsKeptPlayFault K.fails (R.remaining input.old.inner)
+        input.new.has_failed out.new.has_failed) result (E.contents err.old.inner) (E.contents err.new.inner)
+        err.new.has_failed }
+{
+    match play(alloc, input, out, keeper) {
         Ok(()) => 0,
         Err(fault) => fault.name_on(err),
     }
 }
 
-fn play<R: Read, W: Write>(
+fn play<R: Read, W: Write, K: Keeper>(
     alloc: Global,
     input: &mut Device<R>,
     out: &mut Device<W>,
+    keeper: &mut K,
 ) -> Result<(), Fault>
-    ensures answers { IfSome (R.remaining input.old.inner) (λ bytes. Answered bytes (W.contents out.old.inner)
-        (W.contents out.new.inner) out.new.has_failed (status_after result)) }
-    ensures fault { IfErr result (IsPlayFault (R.remaining input.old.inner) input.new.has_failed out.new.has_failed) }
+    ensures answers { IfSome (R.remaining input.old.inner) (λ bytes. AnsweredAndKept K.keeps bytes
+        (W.contents out.old.inner) (W.contents out.new.inner) out.new.has_failed (status_after result) keeper.new) }
+    ensures fault { IfErr result (IsKeptPlayFault K.fails (R.remaining input.old.inner) input.new.has_failed
+        out.new.has_failed) }
     ensures flushed { OnOk result (out.new.is_flushed ≡ true) }
     ensures left { out.new.has_failed ≡ false → (out.new.is_flushed ≡ true) ⊎ (out.new ≡ out.old) }
 {
     let mut game = Game::new(alloc)?;
-    let played = answer_all(alloc, &mut game, input, out);
+    let played = answer_all(alloc, &mut game, input, out, keeper);
     let flushed = out.flush();
     played?;
     flushed?;
-    Ok(())
+    game.keep(alloc, keeper)
 }
 
 /// Reads and answers line after line.
-fn answer_all<R: Read, W: Write>(
+fn answer_all<R: Read, W: Write, K: Keeper>(
     alloc: Global,
     game: &mut Game,
     input: &mut Device<R>,
     out: &mut Device<W>,
+    keeper: &mut K,
 ) -> Result<(), Fault>
     requires { IsNewGame game.old }
     ensures answers { IfSome (R.remaining input.old.inner) (λ bytes. Answered bytes (W.contents out.old.inner)
         (W.contents out.new.inner) out.new.has_failed (status_after result)) }
-    ensures fault { IfErr result (IsPlayFault (R.remaining input.old.inner) input.new.has_failed out.new.has_failed) }
+    ensures all { OnOk result (IfSome (R.remaining input.old.inner) (λ bytes. PlayedToEnd bytes
+        (W.contents out.old.inner) (W.contents out.new.inner) game.new)) }
+    ensures fault { IfErr result (IsKeptPlayFault K.fails (R.remaining input.old.inner) input.new.has_failed
+        out.new.has_failed) }
 {
     let mut line = Vec::new(alloc);
     for turn in 0..u64::MAX {
@@ -79,7 +113,7 @@ fn answer_all<R: Read, W: Write>(
         if next.is_end() {
             return Ok(());
         }
-        game.answer_line(alloc, next, &line, out)?;
+        game.answer_line(alloc, next, &line, out, keeper)?;
     }
     Err(Fault::Input)
 }
@@ -108,21 +142,48 @@ impl Game {
         Ok(Game::Named(Draft::new(alloc)?))
     }
 
-    /// Answers what was read of a script.
-    fn answer_line<W: Write>(
+    /// Keeps the journals of the world; of a draft those of its sites, which are empty.
+    fn keep<K: Keeper>(&self, alloc: Global, keeper: &mut K) -> Result<(), Fault>
+        ensures kept { OnOk result (KeepsWorld K.keeps self.now keeper.old keeper.new) }
+        ensures fault { IfErr result (λ fault. (fault ≡ Fault.Memory) ⊎ K.fails fault) }
+    {
+        match self {
+            Game::Played(world) => keeper.keep(alloc, world.journals()),
+            Game::Named(draft) => {
+                let world = Playground::new(alloc, draft.topology())?;
+                keeper.keep(alloc, world.journals())
+            }
+        }
+    }
+
+    /// Keeps the journals where the reply is a report.
+    fn keep_for<K: Keeper>(&self, alloc: Global, reply: &Reply, keeper: &mut K) -> Result<(), Fault>
+        ensures kept { OnOk result (KeepsAt K.keeps reply.now self.now keeper.old keeper.new) }
+        ensures fault { IfErr result (λ fault. (fault ≡ Fault.Memory) ⊎ K.fails fault) }
+    {
+        match reply {
+            Reply::Report(_, _) => self.keep(alloc, keeper),
+            _ => Ok(()),
+        }
+    }
+
+    /// Answers what was read of a script. The journals are kept before a report is written.
+    fn answer_line<W: Write, K: Keeper>(
         &mut self,
         alloc: Global,
         next: NextLine,
         line: &[u8],
         out: &mut Device<W>,
+        keeper: &mut K,
     ) -> Result<(), Fault>
-        ensures answers { OnOk result (AnswersLine self.old self.new next line.now
-            (W.contents out.old.inner) (W.contents out.new.inner)) }
-        ensures fault { IfErr result (IsAnswerFault (W.contents out.old.inner)
+        ensures answers { OnOk result (AnswersAndKeeps K.keeps self.old self.new next line.now
+            (W.contents out.old.inner) (W.contents out.new.inner) keeper.old keeper.new) }
+        ensures fault { IfErr result (IsUnanswered K.fails (W.contents out.old.inner)
             (W.contents out.new.inner) out.new.has_failed) }
     {
         let said = said_by(alloc, next, line)?;
         let reply = self.answer(alloc, said)?;
+        self.keep_for(alloc, &reply, keeper)?;
         out.write_text(&reply)?;
         out.flush()?;
         Ok(())
