@@ -1,10 +1,17 @@
-//! Measures the crates of `cmh`. `cmh_bench decode FILE` reads a link's bytes in pieces of 64 KiB, prints `frames N`, and `bad at O` where
-//! they have a fault.
+//! Measures the crates of `cmh`. `cmh_bench decode FILE` reads a link's bytes in pieces of 64 KiB, prints `frames N`,
+//! and `bad at O` where they have a fault. `cmh_bench station steps WHAT SITE N ROUNDS [FILE]` takes 64 steps a round,
+//! and prints how many were accepted: WHAT is `controller` (no journal), `entries` (their spelling alone; it prints the
+//! bytes), `memory` or `file`; SITE is `little` or `full`; N is how many events one sync takes, and 0 for one call of
+//! `step` each.
 #![tactic(auto)]
 
+mod steps;
+
+use crate::steps::{Load, spellings_alone, steps_alone, steps_kept};
 use cmh_frames::{Edition, HELLO_LEN, decode_hello};
+use cmh_journal::{FileSink, MemSink};
 use cmh_reader::{FrameReader, ReadFault};
-use std::alloc::Global;
+use std::alloc::{AllocError, Global};
 use std::fs::File;
 use std::io::{Read, Write};
 use std::process::ExitCode;
@@ -87,19 +94,79 @@ fn print_decoded<W: Write>(out: &mut W, decoded: &Decoded) -> io::Result<()> {
     Ok(())
 }
 
-fn main(rt: HostRuntime) -> io::Result<ExitCode> {
-    let mut words = env::args(&rt)?;
-    words.next();
-    let (Some(command), Some(path)) = (words.next(), words.next()) else {
-        eprintln!(rt; "usage: cmh_bench decode FILE")?;
-        return Ok(ExitCode::from(2));
-    };
-    if command.as_str() != "decode" {
-        eprintln!(rt; "usage: cmh_bench decode FILE")?;
-        return Ok(ExitCode::from(2));
+fn print_usage(rt: &HostRuntime) -> io::Result<ExitCode> {
+    eprintln!(rt; "usage: cmh_bench decode FILE | station steps WHAT SITE N ROUNDS [FILE]")?;
+    Ok(ExitCode::from(2))
+}
+
+/// A word, or one of no letters where there is none.
+fn word_at(words: &[String], at: usize) -> &str {
+    match words.get(at) {
+        Some(word) => word.as_str(),
+        None => "",
     }
-    let mut file = File::open(&rt, path.as_str())?;
+}
+
+fn run_decode(rt: &HostRuntime, path: &str) -> io::Result<ExitCode> {
+    let mut file = File::open(rt, path)?;
     let decoded = decode(rt.alloc(), &mut file, PIECE_LEN)?;
     print_decoded(&mut rt.stdout(), &decoded)?;
     Ok(ExitCode::SUCCESS)
+}
+
+/// The load that SITE, N and ROUNDS ask for.
+fn load_of(words: &[String]) -> Option<Load> {
+    Some(Load {
+        full: word_at(words, 4) == "full",
+        piece: word_at(words, 5).parse::<usize>().ok()?,
+        rounds: word_at(words, 6).parse::<u64>().ok()?,
+    })
+}
+
+/// What so many rounds over a new file came to, or `None` where it can't be made.
+fn file_steps(rt: &HostRuntime, path: &str, load: &Load) -> Result<Option<u64>, AllocError> {
+    match FileSink::create(rt, path) {
+        Ok(sink) => Ok(Some(steps_kept(rt.alloc(), sink, load)?)),
+        Err(_) => Ok(None),
+    }
+}
+
+/// What the rounds came to, or `None` where the words ask for none.
+fn count_steps(rt: &HostRuntime, words: &[String], load: &Load) -> Result<Option<u64>, AllocError> {
+    let alloc = rt.alloc();
+    match word_at(words, 3) {
+        "controller" => Ok(Some(steps_alone(alloc, load)?)),
+        "entries" => Ok(Some(spellings_alone(alloc, load)?)),
+        "memory" => {
+            let sink = MemSink::new(alloc, None);
+            Ok(Some(steps_kept(alloc, sink, load)?))
+        }
+        "file" => file_steps(rt, word_at(words, 7), load),
+        _ => Ok(None),
+    }
+}
+
+fn run_steps(rt: &HostRuntime, words: &[String]) -> io::Result<ExitCode> {
+    let Some(load) = load_of(words) else {
+        return print_usage(rt);
+    };
+    match count_steps(rt, words, &load)? {
+        Some(count) => {
+            println!(rt; "{count}")?;
+            Ok(ExitCode::SUCCESS)
+        }
+        None => print_usage(rt),
+    }
+}
+
+fn main(rt: HostRuntime) -> io::Result<ExitCode> {
+    let mut words = Vec::new(rt.alloc());
+    for word in env::args(&rt)? {
+        words.push(word)?;
+    }
+    match word_at(&words, 1) {
+        "decode" => run_decode(&rt, word_at(&words, 2)),
+        "station" if word_at(&words, 2) == "steps" => run_steps(&rt, &words),
+        _ => print_usage(&rt),
+    }
 }
