@@ -82,7 +82,7 @@ fn next_level(alloc: Global, askers: &[Row], level: &Row, seen: &Row) -> Result<
     ensures words { IfOk result (λ row. length row ≡ length level.now) }
     ensures places { IfOk result (λ row. (v : ℕ) → has_place row v ≡ true
         ↔ (((k : ℕ) × (has_place level.now k ≡ true) × (has_place (row_at askers.now k) v ≡ true))
-            × (has_place seen.now v ≡ false))) }
+        × (has_place seen.now v ≡ false))) }
 {
     let mut next = level.union_of(alloc, askers)?;
     next.remove_all(seen);

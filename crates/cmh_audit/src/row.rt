@@ -114,8 +114,8 @@ impl Row {
         ensures words { length self.new ≡ length self.old }
         ensures places { (v : ℕ) → has_place self.new v ≡ true
             ↔ ((has_place self.old v ≡ true)
-                ⊎ ((p : ℕ) × (p < 64) × (is_set word p ≡ true)
-                × (has_place (row_at table.now (start + p)) v ≡ true))) }
+            ⊎ ((p : ℕ) × (p < 64) × (is_set word p ≡ true)
+            × (has_place (row_at table.now (start + p)) v ≡ true))) }
     {
         let mut left = word;
         while left != 0 {

@@ -67,8 +67,11 @@ with_fewer_waits v waits =
 -- after an event, where the controller declared this process
 abbrev pub after : Topology → ℕ → State → Event → Option ℕ → State
 after t s v (Ask asker targets) declared =
-    record v { waits = with_each v.waits asker targets;
-      owed = owed_after_ask (λ p. is_at t p s) v.owed asker targets; declared = declared_after v.declared declared }
+    record v {
+      waits = with_each v.waits asker targets;
+      owed = owed_after_ask (λ p. is_at t p s) v.owed asker targets;
+      declared = declared_after v.declared declared;
+    }
 after t s v (Reply holder asker) declared =
     let answered : State = record v { owed = without_pair v.owed holder asker } in
     if is_at t asker s then with_fewer_waits answered (without_pair v.waits asker holder) else answered

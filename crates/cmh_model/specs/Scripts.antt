@@ -70,8 +70,12 @@ at_site s entry = record { site = s; entry = entry }
 -- the state with these waits, owed replies, dependents and declared processes
 abbrev pub state_with : List (ℕ × ℕ) → List (ℕ × ℕ) → List (ℕ × ℕ) → List ℕ → State
 state_with waits owed dependents declared =
-    record { waits = set.from_list waits; owed = set.from_list owed;
-      dependents = set.from_list dependents; declared = set.from_list declared }
+    record {
+      waits = set.from_list waits;
+      owed = set.from_list owed;
+      dependents = set.from_list dependents;
+      declared = set.from_list declared;
+    }
 
 -- what is under way on the links from 1 to 2 and from 2 to 1 after the first n events
 abbrev pub between : List WorldEvent → ℕ → List Frame × List Frame
