@@ -1,13 +1,15 @@
 /* Preloaded into a program, this refuses the Nth call of one kind, once, or lets each read and write move one byte.
 
-   REFUSE=KIND:N         KIND is memory, read, write or sync; the Nth call of it, counted from 1, fails
+   REFUSE=KIND:N         KIND is memory, read, write, sync or thread; the Nth call of it, counted from 1, fails
    REFUSE=short          each read and each write moves at most one byte
    REFUSE=short KIND:N   both
    REFUSE_MARK=F         the file F is made when a call is refused
    REFUSE_COUNT=F        at the end the file F gets the number of allocations */
 #define _GNU_SOURCE
+#include <dlfcn.h>
 #include <errno.h>
 #include <fcntl.h>
+#include <pthread.h>
 #include <stdio.h>
 #include <stdlib.h>
 #include <string.h>
@@ -18,14 +20,14 @@ extern void *__libc_malloc(size_t);
 extern void *__libc_calloc(size_t, size_t);
 extern void *__libc_realloc(void *, size_t);
 
-enum kind { NONE, MEMORY, READ, WRITE, SYNC };
+enum kind { NONE, MEMORY, READ, WRITE, SYNC, THREAD };
 static enum kind wanted;
 static int moves_one;
 static long place, calls, allocations;
 
 __attribute__((constructor)) static void begin(void) {
     static const struct { const char *name; enum kind kind; } kinds[] = {
-        {"memory:", MEMORY}, {"read:", READ}, {"write:", WRITE}, {"sync:", SYNC}};
+        {"memory:", MEMORY}, {"read:", READ}, {"write:", WRITE}, {"sync:", SYNC}, {"thread:", THREAD}};
     const char *text = getenv("REFUSE");
     allocations = 0;
     if (text && strncmp(text, "short", 5) == 0) {
@@ -80,3 +82,10 @@ ssize_t write(int file, const void *buffer, size_t size) {
 
 int fsync(int file) { return refused(SYNC, EIO) ? -1 : (int)syscall(SYS_fsync, file); }
 int fdatasync(int file) { return refused(SYNC, EIO) ? -1 : (int)syscall(SYS_fdatasync, file); }
+
+int pthread_create(pthread_t *thread, const pthread_attr_t *how, void *(*run)(void *), void *with) {
+    static int (*make)(pthread_t *, const pthread_attr_t *, void *(*)(void *), void *);
+    if (refused(THREAD, EAGAIN)) return EAGAIN;
+    if (!make) make = dlsym(RTLD_NEXT, "pthread_create");
+    return make(thread, how, run, with);
+}

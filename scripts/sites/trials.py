@@ -388,9 +388,9 @@ def closed_pipe():
 
 # ---- all sites in one process
 
-def cluster(world, lines, limit=None, out=subprocess.PIPE):
+def cluster(world, lines, limit=None, out=subprocess.PIPE, may_lack_files=True):
     done = start_cluster(world, lines, limit, out)()
-    if limit is None and done.stderr == b'fault listen\n':
+    if (limit is None or not may_lack_files) and done.stderr == b'fault listen\n':
         raise Collided('one of %s' % sorted(world.ports.values()))
     return done
 
@@ -440,6 +440,27 @@ def clusters(program):
                                           b'bad line\naccepted\nevents 3\nwait 1 2\nwait 2 1\ndeclared 2 cycle 2 1 2\n')
 
 
+def full_disk_of_a_cluster(program):
+    lines = ['ask 1 2', 'start 1', 'start 1', 'ask 2 1', 'start 2', 'start 2']
+    for limit in (7, 22, 23, 30, 37, 60):
+        with World(program, PAIR) as world:
+            done = cluster(world, lines, limit=of_size(limit), may_lack_files=False)
+            said = done.stdout.decode().splitlines()
+            answers = said[:len(lines)]
+            yield 'after %d bytes a site is sealed' % limit, 'refused 10' in answers
+            for site in PAIR:
+                shutil.copy(world.path('out/site-%d.cmhj' % site), world.journal(site))
+                own = [answer for line, answer in zip(lines, answers) if line.split()[1] == str(site)]
+                taken = [answer for answer in map(read_answer, own) if answer]
+                steps = [entry[1:] for entry in world.steps(site)]
+                yield 'after %d bytes the journal of site %d is true' % (limit, site), steps == taken
+                refused = own[len(taken):]
+                yield ('after %d bytes site %d takes no more' % (limit, site),
+                       refused == ['refused 10'][:len(refused)] + ['refused 9'] * (len(refused) - 1)
+                       or refused == ['refused 9'] * len(refused))
+            yield 'after %d bytes accepted' % limit, done.returncode == 0 and 'accepted' in said and world.is_accepted()
+
+
 def two_clusters(program):
     with World(program, PAIR) as world:
         lines = DEADLOCK + ['reply 1 2', 'start 2'] * 200
@@ -487,7 +508,7 @@ def few_files(program):
 
 TRIALS = [two_sites, three_sites, killed_peer, full_disk, kept_journals, started_twice, silent_peers, slow_hello, noise, cut_frame,
           second_connection, own_hello, resets, many_connections, held_by_silent_peers, closed_output, clusters,
-          two_clusters, few_files, ends_by_signal, kills]
+          full_disk_of_a_cluster, two_clusters, few_files, ends_by_signal, kills]
 
 MOST_COLLISIONS = 3  # in a row; a site that never gets its port is no collision
 

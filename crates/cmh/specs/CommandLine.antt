@@ -1,10 +1,11 @@
 -- What the words of a command line name, and how the program ends.
 use Rattle.std.specs.Prelude.{◌≡◌, ℕ, ◌≤◌, ◌⊎◌, Bool, List, ⊤, codes, option_map, Option, None, Some}
 use Rattle.clap.specs.declared.parser.matches.ArgMatches.{ArgMatches}
-use Rattle.clap.specs.Matches.{first_value, found_of, subcommand_name_of}
+use Rattle.clap.specs.Matches.{first_value, found_of, one_text, subcommand_name_of}
 use Rattle.clap.specs.Simple.{subcommand_rows_of}
 use Rattle.clap.specs.Walk.{rows_of}
 use Rattle.cmh_files.specs.Audits.{AuditEnds}
+use Rattle.cmh_files.specs.Explains.{ExplainEnds}
 use Rattle.cmh_files.specs.Faults.{NamesFault}
 use Rattle.cmh_files.specs.Shows.{ShowEnds}
 use Rattle.cmh_files.specs.Status.{IsStatus}
@@ -36,6 +37,22 @@ NamesNoFolder matches = (words : ArgMatches)
     → option_map (λ p. p.1) (subcommand_rows_of matches) ≡ Some (rows_of (found_of words))
     → first_value (found_of words) (codes "journals") ≡ None
 
+-- an option without a value that is not given
+abbrev pub IsUnset : Option (List ℕ) → Type 0
+IsUnset told = (told ≡ None) ⊎ (told ≡ Some (codes "false"))
+
+-- the reasons for stops are not asked for
+abbrev pub NamesNoReasons : ArgMatches → Type 0
+NamesNoReasons matches = (words : ArgMatches)
+    → option_map (λ p. p.1) (subcommand_rows_of matches) ≡ Some (rows_of (found_of words))
+    → IsUnset (one_text (found_of words) (codes "why"))
+
+-- they are asked for
+abbrev pub NamesReasons : ArgMatches → Type 0
+NamesReasons matches = (words : ArgMatches)
+    → option_map (λ p. p.1) (subcommand_rows_of matches) ≡ Some (rows_of (found_of words))
+    → one_text (found_of words) (codes "why") ≡ Some (codes "true")
+
 -- a file could not be read: the topology, a script, or a journal by its place from 1; or memory ran out
 abbrev pub IsUnread : Fault → Type 0
 IsUnread TopologyFile = ⊤
@@ -54,6 +71,14 @@ abbrev pub AuditsFiles : Option (List ℕ) → Option (List ℕ) → Bool → Bo
 AuditsFiles old new has_failed is_flushed err_old err_new err_failed status =
     ((topology : List ℕ) × (files : List (List ℕ))
     × AuditEnds topology files old new has_failed is_flushed err_old err_new err_failed status)
+    ⊎ ((new ≡ old) × NamesFault IsUnread status err_old err_new err_failed)
+
+-- the same, with the reasons for stops
+abbrev pub ExplainsFiles : Option (List ℕ) → Option (List ℕ) → Bool → Bool
+    → Option (List ℕ) → Option (List ℕ) → Bool → ℕ → Type 0
+ExplainsFiles old new has_failed is_flushed err_old err_new err_failed status =
+    ((topology : List ℕ) × (files : List (List ℕ))
+    × ExplainEnds topology files old new has_failed is_flushed err_old err_new err_failed status)
     ⊎ ((new ≡ old) × NamesFault IsUnread status err_old err_new err_failed)
 
 -- the same of the lines of some journals

@@ -24,6 +24,8 @@ pub const SCRIPT: &str = "script";
 
 pub const OUT: &str = "out";
 
+pub const WHY: &str = "why";
+
 /// The command line.
 pub fn command<'a>(alloc: Global, help: &'a Help) -> Result<Command<'a>, Error> {
     let cmh = Command::new(alloc, "cmh")
@@ -72,6 +74,7 @@ fn audit_command<'a>(alloc: Global, help: &'a Help) -> Result<Command<'a>, Error
         )
         .after_help(help.audit.as_str())
         .arg(topology_arg(alloc))?
+        .arg(why_arg(alloc))?
         .arg(journals_arg(alloc).help("The journal files of all sites, in any order"))?;
     Ok(audit)
 }
@@ -116,6 +119,13 @@ fn cluster_command<'a>(alloc: Global, help: &'a Help) -> Result<Command<'a>, Err
 
 fn topology_arg<'a>(alloc: Global) -> Arg<'a> {
     path_arg(alloc, TOPOLOGY, "FILE").help("The JSON file that names the sites and their processes")
+}
+
+fn why_arg<'a>(alloc: Global) -> Arg<'a> {
+    Arg::new(alloc, WHY)
+        .long(WHY)
+        .help("Tells, where the journals are refused, why each site stops")
+        .action(ArgAction::SetTrue)
 }
 
 /// The files of journals, one at least.

@@ -84,12 +84,21 @@ understood, 3 at a fault, which is named on standard error: `fault file P` (P is
 Example: cmh cluster --topology world.json --script asks --out journals
 ";
 
+const AUDIT_REASONS: &str = "\
+With --why a line comes behind the stops for each of them, `why S at N REASON in ENTRY`, where REASON is
+  refused R                     the site's controller refuses the event, with this number
+  differs sent P due F to B     the frame that it records as its P-th is not the one that the rules send, or `due nothing`
+  differs declared due I        the process that it records as declared is not this one, or `due nobody`
+  waits next F from A           the frame that it got is not the next of its link, which is F, or `next nothing`, where
+                                site A has sent no more up to its own stop
+";
+
 const AUDIT_STATUSES: &str = "\
 Statuses: 0 accepted, 1 refused or out of memory, 2 for a command line that isn't understood, 3 at a fault, which is
 named on standard error: `fault file P`, `fault json`, `fault topology N`, `fault journal P N`, `fault set N`,
 `fault output`. P is `topology`, or the place of a journal in the command, from 1.
 
-Example: cmh audit --topology world.json one.cmhj two.cmhj
+Example: cmh audit --topology world.json --why one.cmhj two.cmhj
 ";
 
 const SHOW_LINES: &str = "\
@@ -134,12 +143,12 @@ const REFUSALS: [Refusal; 9] = [
     Refusal::Memory,
 ];
 
-const TOPOLOGY_FAULTS: [TopologyFault; 5] = [
+// Those of a file; for want of memory `fault memory` is printed, but for a line of a script.
+const TOPOLOGY_FAULTS: [TopologyFault; 4] = [
     TopologyFault::Limit,
     TopologyFault::RepeatedSite,
     TopologyFault::RepeatedProcess,
     TopologyFault::BadNumber,
-    TopologyFault::Memory,
 ];
 
 const SET_FAULTS: [SetFault; 4] = [
@@ -180,6 +189,11 @@ fn play(alloc: Global) -> Result<String, AllocError> {
     refusals(&mut text)?;
     write!(text, "\nFaults of sites, as in `topology 2`:\n")?;
     topology_faults(&mut text)?;
+    row(
+        &mut text,
+        TopologyFault::Memory.number(),
+        TopologyFault::Memory,
+    )?;
     write!(text, "\n{PLAY_STATUSES}")?;
     Ok(text)
 }
@@ -216,28 +230,23 @@ fn audit(alloc: Global) -> Result<String, AllocError> {
         text,
         "\nFaults of journal P, as in `fault journal P 2 at 7`:\n"
     )?;
-    row(
-        &mut text,
-        JournalFault::BadHeader.number(),
+    for fault in [
         JournalFault::BadHeader,
-    )?;
-    row(
-        &mut text,
-        JournalFault::BadEntry(7).number(),
         JournalFault::BadEntry(7),
-    )?;
-    row(&mut text, JournalFault::Full.number(), JournalFault::Full)?;
-    row(
-        &mut text,
-        JournalFault::Memory.number(),
-        JournalFault::Memory,
-    )?;
+        JournalFault::Full,
+    ] {
+        row(&mut text, fault.number(), fault)?;
+    }
     write!(
         text,
         "\nFaults of the journals together, as in `fault set 4`:\n"
     )?;
     for fault in SET_FAULTS {
         row(&mut text, fault.number(), fault)?;
+    }
+    write!(text, "\n{AUDIT_REASONS}\nRefusals, as in `refused 3`:\n")?;
+    for refusal in REFUSALS {
+        row(&mut text, refusal.number(), refusal)?;
     }
     write!(text, "\n{AUDIT_STATUSES}")?;
     Ok(text)

@@ -1,11 +1,12 @@
 //! The program: it reads its command line and calls a command.
 #![tactic(auto)]
 
-ghost use Rattle.std.specs.Prelude.{◌≡◌, ◌≢◌, ◌⊎◌, true, IfErr, IfSome};
-ghost use Rattle.cmh.specs.CommandLine.{AuditsFiles, IsEnd, IsUnread, NamesAudit, NamesNoFolder, NamesNothing, NamesShow, ShowsFiles};
+ghost use Rattle.std.specs.Prelude.{◌≡◌, ◌≢◌, ◌⊎◌, true, IfErr, IfSome, Some, codes};
+ghost use Rattle.clap.specs.Matches.{found_of, one_text};
+ghost use Rattle.cmh.specs.CommandLine.{AuditsFiles, ExplainsFiles, IsEnd, IsUnread, IsUnset, NamesAudit, NamesNoFolder, NamesNoReasons, NamesNothing, NamesReasons, NamesShow, ShowsFiles};
 ghost use Rattle.cmh_files.specs.Faults.{NamesFault};
-ghost use Rattle.cmh_site.specs.Keeping.{IsKeptPlayFault, IsUnkept};
-ghost use Rattle.cmh_site.specs.Play.{Answered, IsPlayFault};
+ghost use Rattle.cmh_play.specs.Keeping.{IsKeptPlayFault, IsUnkept};
+ghost use Rattle.cmh_play.specs.Play.{Answered, IsPlayFault};
 ghost use Rattle.cmh_files.specs.Status.{IsStatus};
 ghost use Rattle.cmh_files.specs.declared.faults.Fault as faults;
 
@@ -13,10 +14,11 @@ mod commands;
 mod help;
 
 use crate::commands::{
-    AUDIT, CLUSTER, JOURNAL, JOURNALS, OUT, PLAY, SCRIPT, SHOW, SITE, TOPOLOGY, command,
+    AUDIT, CLUSTER, JOURNAL, JOURNALS, OUT, PLAY, SCRIPT, SHOW, SITE, TOPOLOGY, WHY, command,
 };
 use crate::help::Help;
 use clap::{ArgMatches, Error, error};
+use cmh_files::run_audit_why;
 use cmh_frames::SiteId;
 use cmh_site::{
     Device, Fault, Folder, run_audit, run_cluster, run_play, run_play_keeping, run_show, run_site,
@@ -129,9 +131,18 @@ where
         → NamesFault (IsKeptPlayFault IsUnkept (I.remaining input.old.inner) input.new.has_failed out.new.has_failed)
         result (E.contents err.old.inner) (E.contents err.new.inner) err.new.has_failed }
 
-    // Where an audit is named, files are audited, and no script is read.
-    ensures audits { NamesAudit matches.now
+    // Where an audit is named, files are audited, and no script is read; the reasons for stops are told where they are
+    // asked for.
+    ensures audits { NamesAudit matches.now → NamesNoReasons matches.now
         → AuditsFiles (W.contents out.old.inner) (W.contents out.new.inner) out.new.has_failed out.new.is_flushed
+        (E.contents err.old.inner) (E.contents err.new.inner) err.new.has_failed result }
+    ensures explains { NamesAudit matches.now → NamesReasons matches.now
+        → ExplainsFiles (W.contents out.old.inner) (W.contents out.new.inner) out.new.has_failed out.new.is_flushed
+        (E.contents err.old.inner) (E.contents err.new.inner) err.new.has_failed result }
+    ensures audits_or_explains { NamesAudit matches.now
+        → AuditsFiles (W.contents out.old.inner) (W.contents out.new.inner) out.new.has_failed out.new.is_flushed
+        (E.contents err.old.inner) (E.contents err.new.inner) err.new.has_failed result
+        ⊎ ExplainsFiles (W.contents out.old.inner) (W.contents out.new.inner) out.new.has_failed out.new.is_flushed
         (E.contents err.old.inner) (E.contents err.new.inner) err.new.has_failed result }
     ensures reads_nothing { NamesAudit matches.now → input.new ≡ input.old }
 
@@ -142,10 +153,7 @@ where
     ensures shows_alone { NamesShow matches.now → input.new ≡ input.old }
 {
     if let Some(audit) = matches.subcommand_matches(AUDIT) {
-        return match files_of(rt, audit) {
-            Ok(files) => run_audit(rt.alloc(), &files.topology, &files.journals, out, err),
-            Err(fault) => fault.name_on(err),
-        };
+        return audit_files(rt, audit, out, err);
     }
     if let Some(words) = matches.subcommand_matches(SHOW) {
         return match journals_of(rt, words) {
@@ -165,6 +173,36 @@ where
         }
     }
     run_play(rt.alloc(), input, out, err)
+}
+
+/// Audits the files that the words name, and tells the reasons for stops where they ask for them.
+fn audit_files<R: AllocGlobal + Files, W: Write, E: Write>(
+    rt: &R,
+    words: &ArgMatches<'_>,
+    out: &mut Device<W>,
+    err: &mut Device<E>,
+) -> u8
+    ensures status { IsStatus result }
+    ensures audits { IsUnset (one_text (found_of words.now) (codes "why"))
+        → AuditsFiles (W.contents out.old.inner) (W.contents out.new.inner) out.new.has_failed out.new.is_flushed
+        (E.contents err.old.inner) (E.contents err.new.inner) err.new.has_failed result }
+    ensures explains { one_text (found_of words.now) (codes "why") ≡ Some (codes "true")
+        → ExplainsFiles (W.contents out.old.inner) (W.contents out.new.inner) out.new.has_failed out.new.is_flushed
+        (E.contents err.old.inner) (E.contents err.new.inner) err.new.has_failed result }
+    ensures audits_or_explains { AuditsFiles (W.contents out.old.inner) (W.contents out.new.inner) out.new.has_failed out.new.is_flushed
+        (E.contents err.old.inner) (E.contents err.new.inner) err.new.has_failed result
+        ⊎ ExplainsFiles (W.contents out.old.inner) (W.contents out.new.inner) out.new.has_failed out.new.is_flushed
+        (E.contents err.old.inner) (E.contents err.new.inner) err.new.has_failed result }
+{
+    let files = match files_of(rt, words) {
+        Ok(files) => files,
+        Err(fault) => return fault.name_on(err),
+    };
+    if words.get_flag(WHY) {
+        run_audit_why(rt.alloc(), &files.topology, &files.journals, out, err)
+    } else {
+        run_audit(rt.alloc(), &files.topology, &files.journals, out, err)
+    }
 }
 
 /// Plays a script, and keeps its journals in a folder.

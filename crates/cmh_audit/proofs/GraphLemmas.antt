@@ -2,33 +2,25 @@
 use Rattle.std.proofs.Common.{◌≡◌, ℕ, zero, suc, ◌+◌, ◌/◌, ◌<◌, ◌≤◌, ◌==◌, ◌&&◌, ◌||◌, ◌↔◌, true, false, not, true≢false, List, [], ◌∷◌, ◌++◌, length, take, get_or, Option, Some, None, Err, ◌⊎◌, inl, inr, ⊎_elim, sym, ap, subst, refl, ◌∙◌, arith}
 use Rattle.std.specs.Prelude.{Contains, nat_eq}
 use Rattle.std.specs.Option.{option_eq}
-use Rattle.std.specs.declared.cmp.Ordering.TheVariants.{Less, Greater}
-use Rattle.std.specs.Ordering.{nat_cmp, ordering_then}
-use Rattle.std.specs.Cmp.{nat_cmp_is}
+use Rattle.std.specs.declared.cmp.Ordering.TheVariants.{Less}
+use Rattle.std.specs.Ordering.{nat_cmp}
 use Rattle.std.specs.List.{AllByRecursion}
 use Rattle.std.specs.List.Sorted.{IsStrictlyIncreasing, IsStrictlySortedBy, IsBinarySearchResult}
 use Rattle.std.proofs.lemmas.Bool.{cases_Bool, cases_eq, cases_lt, eq-eqb, eqb-true, and_parts, or_cases, or_left, or_right}
 use Rattle.std.proofs.lemmas.List.{get_or_default}
 use Rattle.std.proofs.lemmas.List.Kept.{AllPairs-from_increasing}
+use Rattle.std.proofs.lemmas.Option.{none-some}
 use Rattle.cmh_model.specs.Relation.{pair_cmp}
-use Rattle.cmh_model.proofs.Choices.{some_eq}
+use Rattle.cmh_frames.proofs.Apart.{some_same}
 use Rattle.std.proofs.lemmas.List.Sorted.{searched}
 use Rattle.cmh_model.proofs.Members.{no_member, not_decreasing}
+use Rattle.cmh_waits.proofs.Ordered.{first_below}
 use Rattle.cmh_audit.specs.Inner.Graphs.{WaitsAt, AreAskers}
 use Rattle.cmh_audit.specs.Inner.Rows.{has_place, row_at, IsTable}
 use Rattle.cmh_audit.proofs.Members.{contains_left, contains_last, contains_push, looked_at, looked_before, looked_now, looked_all, looked_within}
 use Rattle.cmh_dependents.proofs.Marked.{IsStrictlyIncreasing-push}
 
 -- ---- the askers
-
-first_le : (x y : ℕ × ℕ) → pair_cmp x y ≡ Less → x.0 ≤ y.0
-first_le x y h = elim (cases_lt y.0 x.0) [
-  | inl l ↦ absurd (not_less (sym (ap (λ o. ordering_then o (nat_cmp x.1 y.1)) (sym (nat_cmp_is x.0 y.0 Greater l))) ∙ h))
-  | inr le ↦ le
-]
-  where
-    not_less : Greater ≡ Less → ⊥
-    not_less e = cc e
 
 at_of_all : (P : ℕ × ℕ → Type 0) (ws : List (ℕ × ℕ)) (k : ℕ) (d : ℕ × ℕ) → AllByRecursion P ws → k < length ws → P (get_or ws k d)
 at_of_all P [] k d all l = absurd (omega arith)
@@ -39,7 +31,7 @@ askers_rise : (ws : List (ℕ × ℕ)) (i k : ℕ) (d : ℕ × ℕ) → IsStrict
 unfolding IsStrictlySortedBy
 askers_rise [] i k d up le l = absurd (omega arith)
 askers_rise (w ∷ ws) zero zero d up le l = omega arith
-askers_rise (w ∷ ws) zero (suc k) d up le l = first_le w (get_or ws k d) (at_of_all (λ y. pair_cmp w y ≡ Less) ws k d up.0 (omega arith))
+askers_rise (w ∷ ws) zero (suc k) d up le l = first_below w.0 (get_or ws k d).0 (nat_cmp w.1 (get_or ws k d).1) (at_of_all (λ y. pair_cmp w y ≡ Less) ws k d up.0 (omega arith))
 askers_rise (w ∷ ws) (suc i) zero d up le l = absurd (omega arith)
 askers_rise (w ∷ ws) (suc i) (suc k) d up le l = askers_rise ws i k d up.1 (omega arith) (omega arith)
 
@@ -56,12 +48,9 @@ askers_start waits processes empty = record {
   ascending = subst IsStrictlyIncreasing (sym empty) (λ k l. absurd (omega arith));
   all = λ j k c. absurd (no_member (j, k) c);
   top = λ p c. absurd (no_member p (subst (λ ps. Contains ps p) empty c));
-  low = λ t k d e. absurd (none_some t e);
-  there = λ t e. absurd (none_some t e);
+  low = λ t k d e. absurd (none-some t e);
+  there = λ t e. absurd (none-some t e);
 }
-  where
-    none_some : (t : ℕ) → None ≡ Some t → ⊥
-    none_some t e = cc e
 
 module _ (waits : List (ℕ × ℕ)) (i : ℕ) (w : ℕ × ℕ) (l : i < length waits) (here : w ≡ get_or waits i w) (up : IsStrictlySortedBy pair_cmp waits) (processes : List ℕ) (last : Option ℕ) (is : AreAskersSoFar waits i processes last) where
   pub askers_pass : last ≡ Some w.0 → AreAskersSoFar waits (i + 1) processes last
@@ -81,9 +70,9 @@ module _ (waits : List (ℕ × ℕ)) (i : ℕ) (w : ℕ × ℕ) (l : i < length 
     low = λ t k d e le inside.
         let rise = askers_rise waits i k d up (omega arith) inside in
         let same : (get_or waits i d).0 ≡ w.0 = ap (λ (p : ℕ × ℕ). p.0) (get_or_default waits i d w l ∙ sym here) in
-        let t_is = some_eq w.0 t e in
+        let t_is = some_same e in
         omega (arith, rise, same, t_is);
-    there = λ t e. subst (Contains (processes ++ w.0 ∷ [])) (some_eq w.0 t e) (contains_last processes w.0);
+    there = λ t e. subst (Contains (processes ++ w.0 ∷ [])) (some_same e) (contains_last processes w.0);
   }
     where
       at_most : (p : ℕ) → (t : ℕ) × (last ≡ Some t) × (p ≤ t) → p ≤ w.0

@@ -1,6 +1,7 @@
 -- The search by levels.
 use Rattle.std.proofs.Common.{◌≡◌, ℕ, zero, suc, ◌+◌, ◌-◌, ◌^◌, ◌<◌, ◌≤◌, ◌↔◌, ◌==◌, ◌||◌, ◌/◌, Bool, true, false, true≢false, List, Option, Some, None, is_some, get_or, [], ◌∷◌, ◌++◌, length, inl, inr, ⊎_elim, sym, ap, subst, refl, ◌∙◌, if◌then◌else◌, arith, length-append}
 use Rattle.std.specs.Prelude.{IfSome, IfNone}
+use Rattle.std.proofs.Math.Bool.{or-false}
 use Rattle.std.proofs.Math.Seq.{get_or-append_seam}
 use Rattle.std.proofs.lemmas.Bool.{cases_eq, cases_lt, cases_Bool, eq-eqb, eqb-true, or_cases, or_left, or_right}
 use Rattle.std.proofs.lemmas.List.{get_or_append_left, get_or_past, get_or_default}
@@ -243,11 +244,7 @@ next_from R levels askers last seen next here leads next_has v = (
 
 -- a row of one place
 pub only_place : (new old : List ℕ) (place : ℕ) → ((k : ℕ) → has_place new k ≡ ((k == place) || has_place old k)) → ((k : ℕ) → has_place old k ≡ false) → (k : ℕ) → has_place new k ≡ (k == place)
-only_place new old place places none k = places k ∙ ap (λ b. (k == place) || b) (none k) ∙ alone (k == place)
-  where
-    alone : (b : Bool) → (b || false) ≡ b
-    alone true = refl
-    alone false = refl
+only_place new old place places none k = places k ∙ ap (λ b. (k == place) || b) (none k) ∙ or-false (k == place)
 
 pub words_small : (n : ℕ) → n < 2 ^ 63 → n / 64 + 1 ≤ 2 ^ 57
 words_small n l = omega arith

@@ -2,11 +2,14 @@
 //! and `bad at O` where they have a fault. `cmh_bench station steps WHAT SITE N ROUNDS [FILE]` takes 64 steps a round,
 //! and prints how many were accepted: WHAT is `controller` (no journal), `entries` (their spelling alone; it prints the
 //! bytes), `memory` or `file`; SITE is `little` or `full`; N is how many events one sync takes, and 0 for one call of
-//! `step` each.
+//! `step` each. `cmh_bench link N` sends at least N frames of a station over a socket of 127.0.0.1, and prints how many
+//! came and how many that is a second.
 #![tactic(auto)]
 
+mod link;
 mod steps;
 
+use crate::link::{Carried, carry};
 use crate::steps::{Load, spellings_alone, steps_alone, steps_kept};
 use cmh_frames::{Edition, HELLO_LEN, decode_hello};
 use cmh_journal::{FileSink, MemSink};
@@ -14,7 +17,11 @@ use cmh_reader::{FrameReader, ReadFault};
 use std::alloc::{AllocError, Global};
 use std::fs::File;
 use std::io::{Read, Write};
+use std::net::{Net, TcpListener, TcpStream};
 use std::process::ExitCode;
+use std::sync::Wait;
+use std::thread::Threads;
+use std::time::Clock;
 use std::{env, io};
 
 #[cfg(test)]
@@ -95,7 +102,9 @@ fn print_decoded<W: Write>(out: &mut W, decoded: &Decoded) -> io::Result<()> {
 }
 
 fn print_usage(rt: &HostRuntime) -> io::Result<ExitCode> {
-    eprintln!(rt; "usage: cmh_bench decode FILE | station steps WHAT SITE N ROUNDS [FILE]")?;
+    eprintln!(rt;
+        "usage: cmh_bench decode FILE | station steps WHAT SITE N ROUNDS [FILE] | link N"
+    )?;
     Ok(ExitCode::from(2))
 }
 
@@ -159,6 +168,35 @@ fn run_steps(rt: &HostRuntime, words: &[String]) -> io::Result<ExitCode> {
     }
 }
 
+/// How many came in a second, at the rate of the whole time.
+fn rate_of(carried: Carried) -> u64 {
+    let micros = u64::try_from(carried.time.as_micros()).unwrap_or(u64::MAX);
+    carried.frames.saturating_mul(1_000_000) / micros.max(1)
+}
+
+/// Carries as many frames as a word says, if it is a number, and prints how many came.
+fn run_link<R>(rt: R, word: &str) -> io::Result<bool>
+where
+    R: Wait
+        + Threads
+        + Clock
+        + Net<Listener = TcpListener, Stream = TcpStream>
+        + AllocGlobal
+        + Print
+        + Copy
+        + Send
+        + Drop
+        + 'static,
+{
+    let Ok(frames) = word.parse::<u64>() else {
+        return Ok(false);
+    };
+    let carried = carry(rt, rt.alloc(), frames)?;
+    let rate = rate_of(carried);
+    println!(rt; "{} frames, {rate} a second", carried.frames)?;
+    Ok(true)
+}
+
 fn main(rt: HostRuntime) -> io::Result<ExitCode> {
     let mut words = Vec::new(rt.alloc());
     for word in env::args(&rt)? {
@@ -167,6 +205,10 @@ fn main(rt: HostRuntime) -> io::Result<ExitCode> {
     match word_at(&words, 1) {
         "decode" => run_decode(&rt, word_at(&words, 2)),
         "station" if word_at(&words, 2) == "steps" => run_steps(&rt, &words),
+        "link" => match run_link(rt, word_at(&words, 2))? {
+            true => Ok(ExitCode::SUCCESS),
+            false => print_usage(&rt),
+        },
         _ => print_usage(&rt),
     }
 }

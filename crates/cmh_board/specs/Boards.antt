@@ -44,9 +44,11 @@ with_stuck xs (Some o) = added xs o.process
 abbrev pub Leads : Book → List ℕ → Add → Type 0
 Leads b xs o = (o.seen.book ≡ b) × IsBeginningOf (added xs o.process) o.seen.log
 
--- Of the history `log` with its length, of the list with its count: the published list begins the list, which begins the history, and what is
--- published after the pending operations comes with a history that it begins. The writer's seat knows the history's name.
-pub record Keeps (b : Book) (log : List ℕ) (length' count : ℕ) (x : Published) (ops : List Add) (stuck : Option Add) (seat : List ℕ) : Type 0 where
+-- Of the history `log` with its length, of the list with its count: the published list begins the list, which begins
+-- the history, and what is published after the pending operations comes with a history that it begins. The writer's
+-- seat knows the history's name.
+pub record Keeps (b : Book) (log : List ℕ) (length' count : ℕ) (x : Published) (ops : List Add) (stuck : Option Add)
+    (seat : List ℕ) : Type 0 where
   pub log_length : length' ≡ length log
   pub book : x.seen.book ≡ b
   pub shown : IsBeginningOf x.list log

@@ -16,7 +16,8 @@ Fits b v = (v ≡ []) ⊎ (v ≡ named b)
 
 -- the published list is a beginning of the history that comes with it, and all who know a book know its book
 abbrev pub Kept : Published → List (List ℕ) → Type 0
-Kept x views = IsBeginningOf x.list x.seen.log × ((seat : ℕ) (v : List ℕ) → get_elem? views seat ≡ some v → Fits x.seen.book v)
+Kept x views = IsBeginningOf x.list x.seen.log ×
+    ((seat : ℕ) (v : List ℕ) → get_elem? views seat ≡ some v → Fits x.seen.book v)
 
 -- what a step tells: the book of what is published then, which is the one that was known
 abbrev pub Saw : List ℕ → Published → Published → List ℕ → Type 0

@@ -13,7 +13,8 @@ use std::alloc::{AllocError, Global};
 use std::marker::Model;
 use std::sync::Wait;
 
-/// The writer's side of a board. Contracts see all that was added, and what of it is published. It is not `Drop`: end it by `close`.
+/// The writer's side of a board. Contracts see all that was added, and what of it is published. It is not `Drop`: end
+/// it by `close`.
 pub struct Board {
     head: Head,
     seen: SeenHistory,
@@ -40,7 +41,8 @@ impl Model for Board {
     } };
 
     ghost invariant = { λ b. (b.head ≡ head_of b.seen.book)
-        × Keeps b.seen.book b.seen.log b.length b.count b.writer.desk.shown.value (drop b.writer.behind b.writer.log.items) b.stuck (seat_view b.writer.desk.place) };
+        × Keeps b.seen.book b.seen.log b.length b.count b.writer.desk.shown.value
+        (drop b.writer.behind b.writer.log.items) b.stuck (seat_view b.writer.desk.place) };
 }
 
 impl Board {

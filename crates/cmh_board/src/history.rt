@@ -1,4 +1,5 @@
-//! The history of a board: all processes that were ever put on it, in their order. It exists in proofs alone; what runs is its length.
+//! The history of a board: all processes that were ever put on it, in their order. It exists in proofs alone; what runs
+//! is its length.
 
 ghost use Rattle.std.specs.Prelude.{◌≡◌, ◌+◌, ◌<◌, ◌^◌, ◌++◌, [], ◌∷◌, length as list_length, MatchResult};
 ghost use Rattle.cmh_model.specs.Runs.{IsBeginningOf};
@@ -70,14 +71,16 @@ pub fn begin() -> (Head, SeenHistory)
     (head, seen)
 }
 
-/// Adds an entry to the history, where all of it was seen. Where the history is longer, its length comes back and all of it is seen.
+/// Adds an entry to the history, where all of it was seen. Where the history is longer, its length comes back and all
+/// of it is seen.
 pub fn grow(head: &Head, seen: &mut SeenHistory, length: u64, process: ProcId) -> Result<(), u64>
     requires head { head.now ≡ head_of seen.old.book }
     requires length { length ≡ list_length seen.old.log }
     requires room { length < 2 ^ 62 }
     ensures book { seen.new.book ≡ seen.old.book }
     ensures grows { IsBeginningOf seen.old.log seen.new.log }
-    ensures added { MatchResult result (λ _. seen.new.log ≡ seen.old.log ++ process ∷ []) (λ found. found ≡ list_length seen.new.log) }
+    ensures added { MatchResult result (λ _. seen.new.log ≡ seen.old.log ++ process ∷ [])
+        (λ found. found ≡ list_length seen.new.log) }
 {
     let mut offer: Offer<ProcId, u64, History, Nothing> = seen.plain::<Nothing, ProcId, Adding>(
         &process,

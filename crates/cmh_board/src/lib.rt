@@ -1,4 +1,5 @@
-//! The board of a site: a list of processes that one writer makes longer, and readers that wait for nobody and never go back.
+//! The board of a site: a list of processes that one writer makes longer, and readers that wait for nobody and never go
+//! back.
 #![tactic(auto)]
 
 mod board;

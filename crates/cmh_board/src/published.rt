@@ -37,7 +37,8 @@ pub struct Add {
 impl Absorb<Add> for Published {
     ghost use Rattle.cmh_board.specs.Lists.{added};
 
-    // No value of it is made: it names the type that contracts see, a list of processes and what was seen of the history.
+    // No value of it is made: it names the type that contracts see, a list of processes and what was seen of the
+    // history.
     type State = ([ProcId; 0], SeenHistory);
 
     ghost state = { λ p. (p.list, p.seen) };

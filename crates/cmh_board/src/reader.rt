@@ -88,7 +88,8 @@ fn look(reader: &mut PublishedReader) -> Option<Published>
 }
 
 impl BoardReader {
-    /// The published list, which begins with each list that this reader read or learnt before. It waits for nobody and takes no memory.
+    /// The published list, which begins with each list that this reader read or learnt before. It waits for nobody and
+    /// takes no memory.
     /// `None` where the board gives none, as it does once its writer is gone; then nothing is read.
     pub fn read(&mut self) -> Option<Declared>
         ensures book { self.new.book ≡ self.old.book }
@@ -112,7 +113,8 @@ impl BoardReader {
         Some(list)
     }
 
-    /// Takes in that the board had a list: each list that is read later begins with it. It waits for nobody and takes no memory.
+    /// Takes in that the board had a list: each list that is read later begins with it. It waits for nobody and takes
+    /// no memory.
     pub fn learn(&mut self, told: &Told)
         requires { told.now.book ≡ self.old.book }
         ensures book { self.new.book ≡ self.old.book }

@@ -4,7 +4,8 @@ use crate::published::Published;
 use atomic_table::{Join, Split};
 use crossbeam_utils::rule::{Outcome, Protocol};
 
-/// What one end of the board knows: nothing, or the name of the history. No value of it is made: contracts see a list of numbers.
+/// What one end of the board knows: nothing, or the name of the history. No value of it is made: contracts see a list
+/// of numbers.
 pub type Known = [u64; 0];
 
 /// The published list begins the history that comes with it, and whoever knows the name of a history knows this one's.

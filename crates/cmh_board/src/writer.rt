@@ -41,9 +41,12 @@ pub fn open_writer(
 
 /// Publishes all that is pending. It may wait for a `read` that is under way.
 pub fn publish_all<R: Wait>(rt: &R, writer: PublishedWriter) -> PublishedWriter
-    requires book { (final writer.desk.shown.value (drop writer.behind writer.log.items)).1.book ≡ writer.desk.shown.value.seen.book }
-    requires begins { IsBeginningOf (final writer.desk.shown.value (drop writer.behind writer.log.items)).0 (final writer.desk.shown.value (drop writer.behind writer.log.items)).1.log }
-    ensures shown { state_of result.desk.shown.value ≡ final writer.desk.shown.value (drop writer.behind writer.log.items) }
+    requires book { (final writer.desk.shown.value (drop writer.behind writer.log.items)).1.book
+        ≡ writer.desk.shown.value.seen.book }
+    requires begins { IsBeginningOf (final writer.desk.shown.value (drop writer.behind writer.log.items)).0
+        (final writer.desk.shown.value (drop writer.behind writer.log.items)).1.log }
+    ensures shown { state_of result.desk.shown.value ≡ final writer.desk.shown.value
+        (drop writer.behind writer.log.items) }
     ensures pending { drop result.behind result.log.items ≡ [] }
     ensures seat { seat_view result.desk.place ≡ named result.desk.shown.value.seen.book }
 {
@@ -56,9 +59,12 @@ pub fn publish_all<R: Wait>(rt: &R, writer: PublishedWriter) -> PublishedWriter
 
 /// The same of a writer that stays where it is.
 pub fn publish_in<R: Wait>(rt: &R, writer: &mut PublishedWriter)
-    requires book { (final writer.old.desk.shown.value (drop writer.old.behind writer.old.log.items)).1.book ≡ writer.old.desk.shown.value.seen.book }
-    requires begins { IsBeginningOf (final writer.old.desk.shown.value (drop writer.old.behind writer.old.log.items)).0 (final writer.old.desk.shown.value (drop writer.old.behind writer.old.log.items)).1.log }
-    ensures shown { state_of writer.new.desk.shown.value ≡ final writer.old.desk.shown.value (drop writer.old.behind writer.old.log.items) }
+    requires book { (final writer.old.desk.shown.value (drop writer.old.behind writer.old.log.items)).1.book
+        ≡ writer.old.desk.shown.value.seen.book }
+    requires begins { IsBeginningOf (final writer.old.desk.shown.value (drop writer.old.behind writer.old.log.items)).0
+        (final writer.old.desk.shown.value (drop writer.old.behind writer.old.log.items)).1.log }
+    ensures shown { state_of writer.new.desk.shown.value ≡ final writer.old.desk.shown.value
+        (drop writer.old.behind writer.old.log.items) }
     ensures pending { drop writer.new.behind writer.new.log.items ≡ [] }
     ensures seat { seat_view writer.new.desk.place ≡ named writer.new.desk.shown.value.seen.book }
 {
@@ -110,8 +116,11 @@ pub fn add_readers(
 /// Gives the writer the operation for which there was no memory before.
 pub fn unstick(writer: &mut PublishedWriter, stuck: &mut Option<Add>) -> Result<(), AllocError>
     ensures desk { writer.new.desk ≡ writer.old.desk }
-    ensures ok { OnOk result ((stuck.new ≡ None) × (drop writer.new.behind writer.new.log.items ≡ drop writer.old.behind writer.old.log.items ++ option_to_list stuck.old)) }
-    ensures err { OnErr result ((stuck.new ≡ stuck.old) × (drop writer.new.behind writer.new.log.items ≡ drop writer.old.behind writer.old.log.items)) }
+    ensures ok { OnOk result ((stuck.new ≡ None) ×
+        (drop writer.new.behind writer.new.log.items ≡ drop writer.old.behind writer.old.log.items
+        ++ option_to_list stuck.old)) }
+    ensures err { OnErr result ((stuck.new ≡ stuck.old) ×
+        (drop writer.new.behind writer.new.log.items ≡ drop writer.old.behind writer.old.log.items)) }
 {
     match stuck.take() {
         None => Ok(()),

@@ -40,7 +40,8 @@ pub struct MemIncoming {
 }
 
 impl MemIncoming {
-    /// Gives at most `piece` bytes a call. It passes `fail_after` calls, if there is such a number, and fails each later one.
+    /// Gives at most `piece` bytes a call. It passes `fail_after` calls, if there is such a number, and fails each
+    /// later one.
     pub fn new(bytes: Vec<u8>, piece: usize, fail_after: Option<u64>) -> MemIncoming
         requires { 0 < piece }
         ensures bytes { result.bytes.items ≡ bytes.items }
@@ -97,7 +98,8 @@ pub struct MemOutgoing {
 }
 
 impl MemOutgoing {
-    /// Takes at most `piece` bytes a call. It passes `fail_after` calls, if there is such a number, and fails each later one.
+    /// Takes at most `piece` bytes a call. It passes `fail_after` calls, if there is such a number, and fails each
+    /// later one.
     /// A call for which memory is refused fails.
     pub fn new(alloc: Global, piece: usize, fail_after: Option<u64>) -> MemOutgoing
         requires { 0 < piece }

@@ -117,8 +117,8 @@ impl Outgoing for TcpOutgoing {
 pub struct TcpListen {
     alloc: Global,
     listener: TcpListener,
-    /// Another handle of its socket, made here, so that closing it later needs no descriptor. `None` where memory for it was
-    /// refused.
+    /// Another handle of its socket, made here, so that closing it later needs no descriptor. `None` where memory for
+    /// it was refused.
     socket: Option<Arc<TcpStream>>,
     faults: u64,
 }

@@ -1,6 +1,6 @@
 -- What a removed wait leaves of the other sets.
 use Rattle.std.proofs.Common.{inl, inr, ◌≡◌, ◌≢◌, ℕ, Bool, true, false, not, ◌&&◌, ◌==◌, refl, sym, ap, ◌∙◌}
-use Rattle.std.proofs.lemmas.Bool.{cases_eq, and_parts, eq-eqb, ne_eqb}
+use Rattle.std.proofs.lemmas.Bool.{cases_eq, and_parts, eq-eqb, ne_eqb, not-true}
 use Rattle.cmh_model.specs.Relation.{Relation, has_some, without_pair, only_firsts}
 use Rattle.cmh_model.proofs.Pairs.{only-same, only-all, others_wait}
 
@@ -38,11 +38,7 @@ was_active a b e = ap (λ x. not (x && not b)) e
 pub forgets : (deps waits : Relation) (a h : ℕ) → (has_some waits a && not (has_some (without_pair waits a h) a)) ≡ true → only_firsts deps (λ p. not (p == a)) ≡ only_firsts deps (keeps waits a h)
 forgets deps waits a h woke =
     let both = and_parts (has_some waits a) (not (has_some (without_pair waits a h) a)) woke in
-    dependents_gone deps waits a h both.0 (not_true (has_some (without_pair waits a h) a) both.1)
-  where
-    not_true : (b : Bool) → not b ≡ true → b ≡ false
-    not_true true e = sym e
-    not_true false e = refl
+    dependents_gone deps waits a h both.0 (not-true (has_some (without_pair waits a h) a) both.1)
 
 pub remembers : (deps waits : Relation) (a h : ℕ) → (has_some waits a && not (has_some (without_pair waits a h) a)) ≡ false → deps ≡ only_firsts deps (keeps waits a h)
 remembers deps waits a h not_woke = dependents_kept deps waits a h (ap not not_woke)

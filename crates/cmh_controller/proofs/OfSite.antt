@@ -3,7 +3,8 @@ use Rattle.std.proofs.Common.{inl, inr, ◌≡◌, ◌≢◌, ◌↔◌, ℕ, tr
 use Rattle.std.specs.List.{AllByRecursion, list_any}
 use Rattle.std.proofs.lemmas.Bool.{and_parts, cases_Bool, cases_eq, or_cases, eqb-true}
 use Rattle.cmh_model.proofs.Lawful.{without_old}
-use Rattle.cmh_model.proofs.Choices.{same_bool, some_eq}
+use Rattle.cmh_frames.proofs.Apart.{some_same}
+use Rattle.cmh_model.proofs.Choices.{same_bool}
 use Rattle.cmh_frames.specs.Topology.{Topology, At, home, is_at}
 use Rattle.cmh_model.specs.Relation.{has, with_each, without_pair}
 use Rattle.cmh_model.specs.Rules.{AreTargets}
@@ -22,7 +23,7 @@ here_member t s held p site m = at_from-is_at t p s (sym (site.members p) ∙ m)
 
 pub elsewhere : (t : Topology) (s a : ℕ) (held : Held) (p : ℕ) → IsOfSite t s held → At t p a → a ≢ s → is_member held p ≡ false
 elsewhere t s a held p site there other = elim (cases_Bool (is_member held p)) [
-  | inl e ↦ absurd (other (some_eq _ _ (sym there ∙ here_member t s held p site e)))
+  | inl e ↦ absurd (other (some_same (sym there ∙ here_member t s held p site e)))
   | inr e ↦ e
 ]
 

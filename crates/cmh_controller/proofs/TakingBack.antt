@@ -1,24 +1,24 @@
 -- The way back from an event that was prepared.
-use Rattle.std.proofs.Common.{inl, inr, ◌≡◌, ℕ, Bool, true, false, true≢false, not, ◌&&◌, ◌||◌, ◌==◌, if◌then◌else◌, cond, List, Option, None, Some, nat_cmp, refl, sym, ap, ◌∙◌, subst}
+use Rattle.std.proofs.Common.{inl, inr, ◌≡◌, ℕ, Bool, true, false, true≢false, not, ◌&&◌, ◌||◌, ◌==◌, if◌then◌else◌, List, Option, None, nat_cmp, refl, sym, ap, ◌∙◌, subst}
 use Rattle.std.specs.FinSet as set
 use Rattle.std.specs.Ordering.{eq_by_cmp}
 use Rattle.std.specs.Cmp.{nat_cmp_total, unsigned_tied}
 use Rattle.std.specs.List.{list_any, filter}
-use Rattle.std.proofs.lemmas.Bool.{and_parts, cases_Bool, eqb-true, or_cases}
+use Rattle.std.proofs.lemmas.Bool.{and_parts, cases_Bool, eqb-true, not-true, or_cases}
 use Rattle.cmh_frames.specs.declared.frame.Frame.TheVariants.{Request, Reply as Reply_frame, Probe}
 use Rattle.cmh_frames.specs.Topology.{Topology, At, is_at}
 use Rattle.cmh_model.specs.declared.event.Event.{Event}
-use Rattle.cmh_model.specs.declared.event.Event.TheVariants.{Ask, Reply, Start, Got}
+use Rattle.cmh_model.specs.declared.event.Event.TheVariants.{Ask, Reply, Got}
 use Rattle.cmh_model.specs.Relation.{Relation, Numbers, has, has_some, only_firsts, with_each, with_pair, without_pair}
 use Rattle.cmh_model.specs.Rules.{declared_after, owed_after_ask, probe_acts}
 use Rattle.cmh_model.specs.State.{State, is_blocked}
 use Rattle.cmh_model.proofs.Pairs.{has-none, has-with, has-with_each, has-without, same_relation}
 use Rattle.cmh_model.proofs.Places.{is_at-no}
-use Rattle.cmh_waits.specs.Held.{Held, asked, before_ask, got_request, is_member, owed_before_ask}
+use Rattle.cmh_waits.specs.Held.{Held, asked, before_ask, got_request, owed_before_ask}
 use Rattle.cmh_waits.specs.Rows.{is_in}
 use Rattle.cmh_waits.proofs.ListLemmas.{in_less}
 use Rattle.cmh_controller.specs.Controller.{Controller, IsOfSite, state_of}
-use Rattle.cmh_controller.specs.Steps.{Prepares, Steps, CanTake, WasPrepared, prepared_state, taken_back, undeclared, without_event}
+use Rattle.cmh_controller.specs.Steps.{Prepares, Steps, CanTake, prepared_state, taken_back, undeclared, without_event}
 use Rattle.cmh_controller.specs.declared.prepared.Prepared.{Prepared}
 use Rattle.cmh_model.specs.Rules.{after}
 
@@ -104,10 +104,6 @@ request_back t s v sender asker holder acted d new none =
     refl (put_and_taken v.owed holder asker new) refl (ap (undeclared v.declared) none)
 
 -- a probe that acted
-from_not : (b : Bool) → not b ≡ true → b ≡ false
-from_not true e = sym e
-from_not false e = refl
-
 pub probe_stands : (t : Topology) (s : ℕ) (held : Held) (deps deps' : Relation) (known known' : Numbers) (old : Controller) (a origin from to : ℕ) (d : Option ℕ)
     → ◌≡◌ {A = Controller} (record { topology = t; site = s; state = state_of held deps known }) old
     → probe_acts (state_of held deps known) origin from to ≡ true → deps' ≡ with_pair deps to origin → known' ≡ declared_after known d
@@ -124,7 +120,7 @@ pub probe_back : (t : Topology) (s : ℕ) (v : State) (a origin from to : ℕ) (
     → taken_back t s (prepared_state t s v (Got a (Probe (origin, from, to))) d) (Got a (Probe (origin, from, to))) true d ≡ v
 probe_back t s v a origin from to d act back =
     let parts = and_parts (is_blocked v to) (not (has v.dependents to origin) && has v.owed to from) act in
-    let new = from_not (has v.dependents to origin) (and_parts (not (has v.dependents to origin)) (has v.owed to from) parts.1).0 in
+    let new = not-true (has v.dependents to origin) (and_parts (not (has v.dependents to origin)) (has v.owed to from) parts.1).0 in
     let there : State = record v { dependents = with_pair v.dependents to origin; declared = declared_after v.declared d } in
     ap (λ (b : Bool). let w : State = if b then there else v in let left : State = record w { dependents = without_pair w.dependents to origin; declared = undeclared w.declared d } in left) act
     ∙ same_state v.waits v.waits v.owed v.owed (without_pair (with_pair v.dependents to origin) to origin) v.dependents (undeclared (declared_after v.declared d) d) v.declared

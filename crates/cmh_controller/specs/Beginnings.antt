@@ -7,7 +7,13 @@ use Rattle.cmh_model.specs.Relation.{Relation, Numbers}
 use Rattle.cmh_model.specs.Rules.{Starts}
 
 -- the frames that go out before and afterwards, where these waits stand and these processes were declared
-pub record Begins (t : Topology) (s : ℕ) (waits : Relation) (known : Numbers) (process : ℕ) (before afterwards : List (ℕ × Frame)) (found : Option ℕ) : Type 0 where
+pub record Begins (t : Topology) (s : ℕ) (waits : Relation) (known : Numbers) (process : ℕ)
+    (before afterwards : List (ℕ × Frame)) (found : Option ℕ) : Type 0 where
   pub probes : List (ℕ × Frame)
   pub sent : afterwards ≡ before ++ probes
-  pub starts : Starts t s (record { waits = waits; owed = set.empty; dependents = set.empty; declared = known }) process probes found
+  pub starts : Starts t s (record {
+    waits = waits;
+    owed = set.empty;
+    dependents = set.empty;
+    declared = known;
+  }) process probes found

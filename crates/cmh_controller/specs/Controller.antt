@@ -17,9 +17,11 @@ new_controller t s = record { topology = t; site = s; state = empty_state }
 
 -- the state of a site that holds these
 abbrev pub state_of : Held → Relation → Numbers → State
-state_of held dependents declared = record { waits = held.waits; owed = held.owed; dependents = dependents; declared = declared }
+state_of held dependents declared =
+    record { waits = held.waits; owed = held.owed; dependents = dependents; declared = declared }
 
--- What a site holds is of the topology: its members are those that the topology puts there, and whom they wait for is known.
+-- What a site holds is of the topology: its members are those that the topology puts there, and whom they wait for is
+-- known.
 pub record IsOfSite (t : Topology) (s : ℕ) (held : Held) : Type 0 where
   pub members : (p : ℕ) → is_member held p ≡ is_at t p s
   pub known : (j k : ℕ) → has held.waits j k ≡ true → IsSome (home t k)

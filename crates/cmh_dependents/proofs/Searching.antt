@@ -3,6 +3,7 @@ use Rattle.std.proofs.Common.{inl, inr, ◌≡◌, ◌↔◌, ℕ, ◌+◌, ◌-
 use Rattle.std.specs.List.{Contains}
 use Rattle.std.specs.List.Sorted.{IsStrictlyIncreasing}
 use Rattle.std.proofs.lemmas.Bool.{eqb-true, eq-eqb, ne_eqb, and_parts, and_from, or_cases, or_left, or_right, or_parts, cases_Bool, cases_eq, lt-ltb, ltb-true, not-true}
+use Rattle.std.proofs.Math.Bool.{or-false}
 use Rattle.std.proofs.lemmas.Nat.Bits.{bit_at-lt, same_from_bits}
 use Rattle.cmh_model.specs.Paths.{IsPath, WaitsAmong}
 use Rattle.cmh_model.specs.Relation.{has}
@@ -99,11 +100,7 @@ module _ (v : Held) (from reached work place row fresh less : ℕ)
   ]
 
   work_less : reached' ≡ reached → work' ≡ less
-  work_less same = same_from_bits work' less (λ k. same_bit _ _ (bit_at-lt work' k) (bit_at-lt less k) (work_is k ∙ ap (λ t. is_set less k || t) (none_fresh same k) ∙ or_none (is_set less k)))
-    where
-      or_none : (b : Bool) → (b || false) ≡ b
-      or_none true = refl
-      or_none false = refl
+  work_less same = same_from_bits work' less (λ k. same_bit _ _ (bit_at-lt work' k) (bit_at-lt less k) (work_is k ∙ ap (λ t. is_set less k || t) (none_fresh same k) ∙ or-false (is_set less k)))
 
   pub effort_less : less < work → reached ≤ reached' → reached' < 18446744073709551616 → work' < 18446744073709551616
       → (18446744073709551616 - reached') * 18446744073709551616 + work' < (18446744073709551616 - reached) * 18446744073709551616 + work

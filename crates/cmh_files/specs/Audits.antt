@@ -53,7 +53,8 @@ pub record AreRead (files : List (List ℕ)) (journals : List Journal) (cuts : L
 
 -- ---- the audit
 
--- The audit of a topology file and of the journals' files: what was read, and what the verdict says of those who wrote it.
+-- The audit of a topology file and of the journals' files: what was read, and what the verdict says of those who wrote
+-- it.
 pub record Audits (topology : List ℕ) (files : List (List ℕ)) (edition : Edition) (cuts : List (ℕ × ℕ))
     (verdict : Verdict) : Type 0 where
   pub rows : List Row
@@ -65,6 +66,13 @@ pub record Audits (topology : List ℕ) (files : List (List ℕ)) (edition : Edi
   pub set : IsSet world journals
   pub verdict_is : IsVerdictOn world journals verdict
   pub headline : Headline world files verdict
+
+-- the same, of this topology and these journals
+pub record AuditsOf (topology : List ℕ) (files : List (List ℕ)) (edition : Edition) (world : Topology)
+    (journals : List Journal) (cuts : List (ℕ × ℕ)) (verdict : Verdict) : Type 0 where
+  pub audits : Audits topology files edition cuts verdict
+  pub world_is : audits.world ≡ world
+  pub journals_are : audits.journals ≡ journals
 
 -- 0 for accepted, 1 for refused
 abbrev pub status_of : Verdict → ℕ

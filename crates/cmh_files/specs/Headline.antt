@@ -55,7 +55,8 @@ AreFilesOfStop t stop events files = FilesHold t (stopped stop events) files
 
 -- each is what is left of a file of the run that was cut off somewhere
 abbrev pub AreCutFilesOf : Topology → List WorldEvent → List (List ℕ) → Type 0
-AreCutFilesOf t events files = AreOneForEachSite t (λ s bytes. IsCutFileOf t.edition s (entries_of s events) bytes) files
+AreCutFilesOf t events files = AreOneForEachSite t
+    (λ s bytes. IsCutFileOf t.edition s (entries_of s events) bytes) files
 
 -- ---- the headline
 

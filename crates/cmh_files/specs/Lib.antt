@@ -6,3 +6,4 @@ pub mod TopologyFile
 pub mod Headline
 pub mod Shows
 pub mod Keeping
+pub mod Explains

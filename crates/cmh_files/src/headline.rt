@@ -15,10 +15,11 @@ use cmh_world::{
     cut_law_of_every_run, dark_path_of_every_run, drained_law_of_every_run, stranger_law,
 };
 
-/// Where files were read to be journals, one for each site, the auditor's verdict on these is the headline's on the files:
+/// Where files were read to be journals, one for each site, the auditor's verdict on these is the headline's on the
+/// files:
 /// accepted exactly where they are those of a run, one for each site. In every such run each declared process lies on a
-/// cycle, and the report is true; in edition 2, with no frame in transit, the last asker of each cycle is declared. Files
-/// of a consistent stop of a run are accepted, and files that were cut off are those of a stop.
+/// cycle, and the report is true; in edition 2, with no frame in transit, the last asker of each cycle is declared.
+/// Files of a consistent stop of a run are accepted, and files that were cut off are those of a stop.
 pub fn headline_law(topology: &Topology)
     ensures headline { (files : List (List ℕ)) (journals : List Journal) (tails : List Tail) (verdict : Verdict)
         → AreFilesOf journals tails files → IsSet topology.now journals → IsVerdictOn topology.now journals verdict

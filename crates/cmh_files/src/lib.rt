@@ -3,6 +3,7 @@
 
 mod audit_texts;
 mod auditing;
+mod explaining;
 mod faults;
 mod headline;
 mod keeping;
@@ -11,6 +12,7 @@ mod topology_file;
 
 pub use crate::audit_texts::VerdictText;
 pub use crate::auditing::run_audit;
+pub use crate::explaining::run_audit_why;
 pub use crate::faults::Fault;
 pub use crate::headline::headline_law;
 pub use crate::keeping::write_journal;

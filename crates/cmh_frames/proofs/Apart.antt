@@ -3,12 +3,10 @@ use Rattle.std.proofs.Common.{inl, inr, ◌≡◌, ◌≢◌, ◌↔◌, ℕ, Bo
 use Rattle.std.specs.List.{list_any, AllByRecursion, IsDistinct}
 use Rattle.std.proofs.lemmas.Bool.{cases_eq, cases_Bool, eqb-true, eq-eqb, ne_eqb, and_parts, and_from, or_cases, or_parts, or_left, or_right}
 use Rattle.std.proofs.lemmas.Map.Keys.{IsDistinct-cons}
+use Rattle.std.proofs.lemmas.Option.{none-some}
 use Rattle.cmh_frames.specs.Rows.{Row, has_site, has_process, repeats_site, repeats_among, repeats_process}
 use Rattle.cmh_frames.specs.Topology.{home_in, members_in, is_named}
 use Rattle.cmh_frames.specs.Inner.Kept.{AreApart}
-
-pub none_some : {n : ℕ} → None ≡ Some n → ⊥
-none_some e = cc
 
 pub some_same : {a b : ℕ} → Some a ≡ Some b → a ≡ b
 some_same e = cc
@@ -44,7 +42,7 @@ homeless (row ∷ rows) p h = let parts = or_parts (list_any (λ q. q == p) row.
 
 -- a home is the site of a row
 pub home_has_row : (rows : List Row) (p s : ℕ) → home_in rows p ≡ Some s → has_site rows s ≡ true
-home_has_row [] p s h = absurd (none_some h)
+home_has_row [] p s h = absurd (none-some _ h)
 home_has_row (row ∷ rows) p s h = elim (cases_Bool (list_any (λ q. q == p) row.1)) [
   | inl e ↦ or_left (row.0 == s) (has_site rows s) (eq-eqb row.0 s (some_same (sym (home_first row rows p e) ∙ h)))
   | inr e ↦ or_right (row.0 == s) (has_site rows s) (home_has_row rows p s (sym (home_later row rows p e) ∙ h))
@@ -110,7 +108,7 @@ distinct_sites (row ∷ rows) h =
 
 -- a process has the site that names it for its home
 pub named_at : (rows : List Row) (p s : ℕ) → AreApart rows → (home_in rows p ≡ Some s) ↔ (is_named rows p s ≡ true)
-named_at [] p s apart = (λ h. absurd (none_some h), λ h. absurd (not_both h refl))
+named_at [] p s apart = (λ h. absurd (none-some _ h), λ h. absurd (not_both h refl))
 named_at (row ∷ rows) p s apart =
     let later = named_at rows p s apart.2 in
     elim (cases_Bool (list_any (λ q. q == p) row.1)) [
@@ -118,7 +116,7 @@ named_at (row ∷ rows) p s apart =
         (λ h. or_left _ (is_named rows p s) (and_from (row.0 == s) _ (eq-eqb row.0 s (some_same (sym (home_first row rows p e) ∙ h))) e)),
         (λ h. elim (or_cases _ (is_named rows p s) h) [
           | inl n ↦ home_first row rows p e ∙ ap Some (eqb-true row.0 s (and_parts (row.0 == s) _ n).0)
-          | inr n ↦ absurd (none_some (sym (apart.0 p e) ∙ later.1 n))
+          | inr n ↦ absurd (none-some _ (sym (apart.0 p e) ∙ later.1 n))
         ]),
       )
       | inr e ↦ (

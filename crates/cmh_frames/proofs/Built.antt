@@ -11,6 +11,7 @@ use Rattle.std.proofs.lemmas.Cmp.{ranked}
 use Rattle.std.proofs.lemmas.List.{length-map}
 use Rattle.std.proofs.lemmas.List.Sorted.{sorted_far, ranks_by, list_any-IsPermutation, length_permutation}
 use Rattle.std.proofs.lemmas.Map.Keys.{IsDistinct-IsPermutation, IsStrictlyIncreasing-from_distinct, ge_from_not_lt, sorted_from_strictly_increasing}
+use Rattle.std.proofs.lemmas.Option.{none-some}
 use Rattle.cmh_frames.specs.declared.edition.Edition.{Edition}
 use Rattle.cmh_frames.specs.declared.edition.Edition.TheVariants.{One, Two}
 use Rattle.cmh_frames.specs.declared.rows.TopologyFault.{TopologyFault}
@@ -20,7 +21,7 @@ use Rattle.cmh_frames.specs.Number.{IsNumber, is_number}
 use Rattle.cmh_frames.specs.Rows.{Row, is_bad, is_over_limit, has_site, repeats_site, repeats_process, has_bad_number, fault_of}
 use Rattle.cmh_frames.specs.Topology.{Topology, home_in, members_in, IsTopologyOf}
 use Rattle.cmh_frames.specs.Inner.Kept.{AreApart, HasNumbers, AreTidy, AreInOrder, HasMembersOf}
-use Rattle.cmh_frames.proofs.Apart.{none_some, some_same, not_both, eqb_comm, home_first, home_later, members_first, members_later, home_has_row, apart, distinct_members, distinct_sites, any_site, named_at}
+use Rattle.cmh_frames.proofs.Apart.{some_same, not_both, eqb_comm, home_first, home_later, members_first, members_later, home_has_row, apart, distinct_members, distinct_sites, any_site, named_at}
 use Rattle.cmh_frames.proofs.Homes.{at_home}
 
 -- what a sort ensures of numbers
@@ -80,7 +81,7 @@ few_members limit (row ∷ rows) s h =
 
 -- a home among them is the given home
 home_given : (given rows : List Row) (p s : ℕ) → AreApart given → AllByRecursion (HasMembersOf given) rows → home_in rows p ≡ Some s → home_in given p ≡ Some s
-home_given given [] p s apart all h = absurd (none_some h)
+home_given given [] p s apart all h = absurd (none-some _ h)
 home_given given (row ∷ rows) p s apart all h = elim (cases_Bool (list_any (λ q. q == p) row.1)) [
   | inl e ↦ (at_home given row.0 p apart).0 (list_any-IsPermutation (λ q. q == p) _ _ all.0.same ∙ e) ∙ sym (home_first row rows p e) ∙ h
   | inr e ↦ home_given given rows p s apart all.1 (sym (home_later row rows p e) ∙ h)
@@ -90,7 +91,7 @@ home_given given (row ∷ rows) p s apart all h = elim (cases_Bool (list_any (λ
 home_there : (given rows : List Row) (p s : ℕ) → AllByRecursion (HasMembersOf given) rows → has_site rows s ≡ true → list_any (λ q. q == p) (members_in given s) ≡ true → home_in rows p ≡ None → ⊥
 home_there given [] p s all found member none = not_both found refl
 home_there given (row ∷ rows) p s all found member none = elim (cases_Bool (list_any (λ q. q == p) row.1)) [
-  | inl e ↦ none_some (sym none ∙ home_first row rows p e)
+  | inl e ↦ none-some _ (sym none ∙ home_first row rows p e)
   | inr e ↦ elim (or_cases (row.0 == s) (has_site rows s) found) [
     | inl same ↦ not_both (sym (list_any-IsPermutation (λ q. q == p) _ _ all.0.same) ∙ ap (λ r. list_any (λ q. q == p) (members_in given r)) (eqb-true row.0 s same) ∙ member) e
     | inr later ↦ home_there given rows p s all.1 later member (sym (home_later row rows p e) ∙ none)

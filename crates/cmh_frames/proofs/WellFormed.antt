@@ -3,13 +3,14 @@ use Rattle.std.proofs.Common.{inl, inr, ◌≡◌, ℕ, ◌≤◌, true, List, [
 use Rattle.std.specs.List.{list_any, AllByRecursion}
 use Rattle.std.proofs.lemmas.Bool.{cases_Bool, eqb-true, or_cases}
 use Rattle.std.proofs.lemmas.List.{length-map}
+use Rattle.std.proofs.lemmas.Option.{none-some}
 use Rattle.cmh_frames.specs.declared.edition.Edition.{Edition}
 use Rattle.cmh_frames.specs.Edition.{site_limit, member_limit}
 use Rattle.cmh_frames.specs.Number.{IsNumber}
 use Rattle.cmh_frames.specs.Rows.{Row}
 use Rattle.cmh_frames.specs.Topology.{home_in, IsWellFormed}
 use Rattle.cmh_frames.specs.Inner.Kept.{HasNumbers, AreTidy}
-use Rattle.cmh_frames.proofs.Apart.{none_some, some_same, not_both, home_first, home_later}
+use Rattle.cmh_frames.proofs.Apart.{some_same, not_both, home_first, home_later}
 use Rattle.cmh_frames.proofs.Built.{members_at_rise, members_at_few}
 use Rattle.cmh_frames.proofs.Homes.{at_home}
 
@@ -23,7 +24,7 @@ number_among (m ∷ ms) n all h = elim (or_cases (m == n) (list_any (λ q. q == 
 
 -- a process with a home has a number, and so has its home
 home_numbers : (rows : List Row) (p s : ℕ) → AllByRecursion HasNumbers rows → home_in rows p ≡ Some s → IsNumber p × IsNumber s
-home_numbers [] p s all h = absurd (none_some h)
+home_numbers [] p s all h = absurd (none-some _ h)
 home_numbers (row ∷ rows) p s all h = elim (cases_Bool (list_any (λ q. q == p) row.1)) [
   | inl e ↦ (number_among row.1 p all.0.1 e, subst IsNumber (some_same (sym (home_first row rows p e) ∙ h)) all.0.0)
   | inr e ↦ home_numbers rows p s all.1 (sym (home_later row rows p e) ∙ h)

@@ -15,6 +15,7 @@ use Rattle.cmh_reader.specs.Stream.{Splits, Reads, HasMore, BeginsNoHello, Begin
 use Rattle.cmh_reader.proofs.Fronts.{short_begins_none}
 use Rattle.cmh_reader.proofs.Hellos.{one_hello}
 use Rattle.cmh_reader.proofs.Links.{link_reads}
+use Rattle.cmh_reader.proofs.OneReading.{greets, no_greeting}
 use Rattle.cmh_reader.proofs.Readings.{splits_more}
 use Rattle.cmh_reader.proofs.SomeReading.{some_reading}
 use Rattle.cmh_model.specs.Runs.{IsBeginningOf}
@@ -44,24 +45,18 @@ spelled_begins (g ∷ gs) (f ∷ fs) r r' G F none e =
     (more.0, ap (λ h. h ∷ (gs ++ more.0)) first ∙ ap (λ hs. f ∷ hs) more.1)
 
 module _ (edition : Edition) (senders stream : List ℕ) where
-  greets : (sender : ℕ) (frames : List Frame) (rest : List ℕ) → Splits edition senders stream sender frames rest → stream ≡ hello edition sender ++ (spelled frames ++ rest)
-  greets sender frames rest s = s.whole ∙ append_assoc (hello edition sender) (spelled frames) rest
-
-  no_greeting : (site : ℕ) (behind : List ℕ) → stream ≡ hello edition site ++ behind → length stream < 6 → ⊥
-  no_greeting site behind same few = absurd (omega (arith, ap length same))
-
   -- a stream that begins with a hello and frames has come to that hello's site, and its frames begin with these
   pub reads_split : (frames : List Frame) (standing : Standing) (site : ℕ) (some : List Frame) (rest : List ℕ) → Reads edition senders stream frames standing → Splits edition senders stream site some rest → (sender_of standing ≡ Some site) × IsBeginningOf some frames
-  reads_split frames (Greeting r) site some rest a s = absurd (no_greeting site (spelled some ++ rest) (greets site some rest s) a.0)
-  reads_split frames NoHello site some rest a s = absurd (a.0.none site (spelled some ++ rest) s.number (greets site some rest s))
+  reads_split frames (Greeting r) site some rest a s = absurd (no_greeting edition senders stream site (spelled some ++ rest) (greets edition senders stream site some rest s) a.0)
+  reads_split frames NoHello site some rest a s = absurd (a.0.none site (spelled some ++ rest) s.number (greets edition senders stream site some rest s))
   reads_split frames Stranger site some rest a s =
-      let one = one_hello edition site a.0.site (spelled some ++ rest) a.0.behind s.number a.0.number (sym (greets site some rest s) ∙ a.0.whole) in
+      let one = one_hello edition site a.0.site (spelled some ++ rest) a.0.behind s.number a.0.number (sym (greets edition senders stream site some rest s) ∙ a.0.whole) in
       absurd (a.0.unexpected (subst (Contains senders) one.0 s.expected))
   reads_split frames (Open sender r offset) site some rest a s =
-      let one = one_hello edition site sender (spelled some ++ rest) (spelled frames ++ r) s.number a.0.number (sym (greets site some rest s) ∙ greets sender frames r a.0) in
+      let one = one_hello edition site sender (spelled some ++ rest) (spelled frames ++ r) s.number a.0.number (sym (greets edition senders stream site some rest s) ∙ greets edition senders stream sender frames r a.0) in
       (ap Some (sym one.0), spelled_begins some frames rest r s.each a.0.each (short_begins_none r a.1) one.1)
   reads_split frames (Broken sender offset) site some rest a s =
-      let one = one_hello edition site sender (spelled some ++ rest) (spelled frames ++ a.0) s.number a.1.number (sym (greets site some rest s) ∙ greets sender frames a.0 a.1) in
+      let one = one_hello edition site sender (spelled some ++ rest) (spelled frames ++ a.0) s.number a.1.number (sym (greets edition senders stream site some rest s) ∙ greets edition senders stream sender frames a.0 a.1) in
       (ap Some (sym one.0), spelled_begins some frames rest a.0 s.each a.1.each a.2.1 one.1)
 
   -- a stream whose hello is known splits

@@ -5,3 +5,4 @@ pub mod Stopping
 pub mod Beginnings
 pub mod Lents
 pub mod Batches
+pub mod Places

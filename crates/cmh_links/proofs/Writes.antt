@@ -3,19 +3,13 @@ use Rattle.std.proofs.Common.{◌≡◌, ℕ, ◌+◌, ◌<◌, ◌≤◌, Bool,
 use Rattle.cmh_frames.specs.declared.edition.Edition.{Edition}
 use Rattle.cmh_frames.specs.declared.frame.Frame.{Frame}
 use Rattle.cmh_frames.specs.Wire.{hello, spelled, spelling, link_bytes}
+use Rattle.cmh_reader.proofs.Readings.{spelled-append, spelled-push}
 use Rattle.cmh_journal.specs.Sink.{TookPart, known_and}
 use Rattle.cmh_journal.proofs.Telling.{known_and_both, known_and_nothing}
 use Rattle.cmh_links.specs.declared.table.LinkFault.TheVariants.{Write}
 use Rattle.cmh_links.specs.Writing.{Gathers, Wrote}
 
 -- the bytes of more frames stand behind those of the others
-spelled-append : (fs gs : List Frame) → spelled (fs ++ gs) ≡ spelled fs ++ spelled gs
-spelled-append [] gs = refl
-spelled-append (f ∷ fs) gs = ap (λ v. spelling f ++ v) (spelled-append fs gs) ∙ sym (append_assoc (spelling f) (spelled fs) (spelled gs))
-
-pub spelled-push : (fs : List Frame) (f : Frame) → spelled (fs ++ f ∷ []) ≡ spelled fs ++ spelling f
-spelled-push fs f = spelled-append fs (f ∷ []) ∙ ap (λ v. spelled fs ++ v) (append-nil (spelling f))
-
 link_bytes-append : (edition : Edition) (site : ℕ) (fs gs : List Frame) → link_bytes edition site (fs ++ gs) ≡ link_bytes edition site fs ++ spelled gs
 link_bytes-append edition site fs gs = ap (λ v. hello edition site ++ v) (spelled-append fs gs) ∙ sym (append_assoc (hello edition site) (spelled fs) (spelled gs))
 

@@ -2,3 +2,4 @@ pub mod Table
 pub mod Writing
 pub mod Reading
 pub mod Lent
+pub mod Threads

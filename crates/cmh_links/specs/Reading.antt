@@ -30,9 +30,11 @@ abbrev pub end_of : Option ℕ → LinkFault → ReaderEnd
 end_of None fault = NoLink
 end_of (Some site) fault = Closed site fault
 
--- the end at a fault of the stream, where `before` and `sender` are the site of the hello before the piece and behind it
+-- the end at a fault of the stream, where `before` and `sender` are the site of the hello before the piece and behind
+-- it
 abbrev pub Faulted : Option ℕ → Option ℕ → ReaderEnd → Type 0
-Faulted before sender end = (end ≡ end_of sender Bad) ⊎ ((before ≡ None) × ((site : ℕ) × (sender ≡ Some site) × (end ≡ Refused site)))
+Faulted before sender end = (end ≡ end_of sender Bad) ⊎
+    ((before ≡ None) × ((site : ℕ) × (sender ≡ Some site) × (end ≡ Refused site)))
 
 -- the end at what a reader answered
 abbrev pub FaultedBy : ReadFault → Option ℕ → Option ℕ → ReaderEnd → Type 0
@@ -61,7 +63,8 @@ pub record HandedPart (from : ℕ) (frames : List Frame) (accepted accepted' : O
   pub told : accepted' ≡ known_and accepted (from_site from got)
 
 -- all goes well: of the bytes read these are the frames, and they were handed over
-pub record Goes (bytes : List ℕ) (fs : List Frame) (reader : Reader) (accepted accepted' : Option (List (ℕ × Frame))) (refused : Option StationRefusal) : Type 0 where
+pub record Goes (bytes : List ℕ) (fs : List Frame) (reader : Reader) (accepted accepted' : Option (List (ℕ × Frame)))
+    (refused : Option StationRefusal) : Type 0 where
   pub stands : StandsFor reader bytes fs
   pub fed : reader.starved ≡ false
   pub handed : accepted' ≡ known_and accepted (from_sender (sender_of reader.standing) fs)
@@ -69,33 +72,41 @@ pub record Goes (bytes : List ℕ) (fs : List Frame) (reader : Reader) (accepted
 
 -- the frames of the bytes read; where memory was refused, they have more
 abbrev pub AreRead : Reader → List ℕ → List Frame → Type 0
-AreRead reader bytes fs = ((reader.starved ≡ false) × StandsFor reader bytes fs) ⊎ ((reader.starved ≡ true) × HasMore reader.edition reader.senders bytes fs)
+AreRead reader bytes fs = ((reader.starved ≡ false) × StandsFor reader bytes fs) ⊎
+    ((reader.starved ≡ true) × HasMore reader.edition reader.senders bytes fs)
 
 -- why a link was closed, at the frames handed over and all frames read
 abbrev pub ClosedBy : LinkFault → Reader → List Frame → List Frame → Option StationRefusal → Bool → ℕ → ℕ → Type 0
 ClosedBy Connect reader got all refused over n m = ⊥
-ClosedBy Read reader got all refused over n m = (reader.starved ≡ false) × (m ≡ n + 1) × (fault_of reader.standing ≡ None) × (got ≡ all)
+ClosedBy Read reader got all refused over n m = (reader.starved ≡ false) × (m ≡ n + 1) ×
+    (fault_of reader.standing ≡ None) × (got ≡ all)
 ClosedBy Write reader got all refused over n m = ⊥
-ClosedBy Bad reader got all refused over n m = ((reader.starved ≡ false) × IsSome (fault_of reader.standing) × (got ≡ all)) ⊎ WasRefused refused Bad
-ClosedBy Ended reader got all refused over n m = (reader.starved ≡ false) × (over ≡ true) × (fault_of reader.standing ≡ None) × (got ≡ all)
+ClosedBy Bad reader got all refused over n m =
+    ((reader.starved ≡ false) × IsSome (fault_of reader.standing) × (got ≡ all)) ⊎ WasRefused refused Bad
+ClosedBy Ended reader got all refused over n m = (reader.starved ≡ false) × (over ≡ true) ×
+    (fault_of reader.standing ≡ None) × (got ≡ all)
 ClosedBy Memory reader got all refused over n m = (reader.starved ≡ true) ⊎ WasRefused refused Memory
 ClosedBy Station reader got all refused over n m = WasRefused refused Station
 
 -- why reading ended
 abbrev pub EndedBy : ReaderEnd → Reader → List Frame → List Frame → Option StationRefusal → Bool → ℕ → ℕ → Type 0
 EndedBy NoLink reader got all refused over n m = (got ≡ []) × ((reader.starved ≡ true)
-    ⊎ ((reader.starved ≡ false) × (sender_of reader.standing ≡ None) × (IsSome (fault_of reader.standing) ⊎ ((over ≡ true) ⊎ (m ≡ n + 1)))))
+    ⊎ ((reader.starved ≡ false) × (sender_of reader.standing ≡ None) ×
+    (IsSome (fault_of reader.standing) ⊎ ((over ≡ true) ⊎ (m ≡ n + 1)))))
 EndedBy (Refused s) reader got all refused over n m = (got ≡ []) × (sender_of reader.standing ≡ Some s)
-EndedBy (Closed s f) reader got all refused over n m = (sender_of reader.standing ≡ Some s) × ClosedBy f reader got all refused over n m
+EndedBy (Closed s f) reader got all refused over n m = (sender_of reader.standing ≡ Some s)
+    × ClosedBy f reader got all refused over n m
 
--- The frames that were accepted, all from the hello's site, begin those of the bytes read; where the bytes read begin what an expected site writes, they
--- begin what was sent.
-pub record Stopped (end : ReaderEnd) (bytes : List ℕ) (reader : Reader) (accepted accepted' : Option (List (ℕ × Frame))) (refused : Option StationRefusal) (over : Bool) (n m : ℕ) : Type 0 where
+-- The frames that were accepted, all from the hello's site, begin those of the bytes read; where the bytes read begin
+-- what an expected site writes, they begin what was sent.
+pub record Stopped (end : ReaderEnd) (bytes : List ℕ) (reader : Reader) (accepted accepted' : Option (List (ℕ × Frame)))
+    (refused : Option StationRefusal) (over : Bool) (n m : ℕ) : Type 0 where
   pub got : List Frame
   pub all : List Frame
   pub handed : accepted' ≡ known_and accepted (from_sender (sender_of reader.standing) got)
   pub begins : IsBeginningOf got all
   pub read : AreRead reader bytes all
   pub cause : EndedBy end reader got all refused over n m
-  pub of_bytes : (frames : List Frame) (standing : Standing) → Reads reader.edition reader.senders bytes frames standing → IsBeginningOf got frames
+  pub of_bytes : (frames : List Frame) (standing : Standing) → Reads reader.edition reader.senders bytes frames standing
+      → IsBeginningOf got frames
   pub of_sent : (sent : List Frame) → BeginsLink reader.edition reader.senders bytes sent → IsBeginningOf got sent

@@ -38,7 +38,8 @@ IsPlace rows site (Some place) = (place < length rows) × ((d : ℕ × LinkState
 
 -- of these sites, all but one have a link, which is new
 abbrev pub AllFresh : List ℕ → ℕ → List (ℕ × LinkState) → Type 0
-AllFresh sites own rows = (s : ℕ) → state_at rows s ≡ (if s == own then None else (if list_any (λ t. t == s) sites then Some Fresh else None))
+AllFresh sites own rows = (s : ℕ) → state_at rows s ≡
+    (if s == own then None else (if list_any (λ t. t == s) sites then Some Fresh else None))
 
 -- the number that stands for a fault in texts
 abbrev pub number_of : LinkFault → ℕ

@@ -14,9 +14,11 @@ pub record Gathers (first : Frame) (given given' : Option (List Frame)) (bytes :
   pub took : given' ≡ known_and given more
   pub are : bytes ≡ spelled (first ∷ more)
 
--- At a source's frames, a carrier's bytes and its failures, before and after: the bytes written begin those of the link with the
--- frames taken. Without a fault they are all of them, and the source told its end; the only fault is a failed write.
-pub record Wrote (edition : Edition) (site : ℕ) (given given' : Option (List Frame)) (over : Bool) (taken taken' : Option (List ℕ)) (failures failures' : ℕ)
+-- At a source's frames, a carrier's bytes and its failures, before and after: the bytes written begin those of the link
+-- with the frames taken. Without a fault they are all of them, and the source told its end; the only fault is a failed
+-- write.
+pub record Wrote (edition : Edition) (site : ℕ) (given given' : Option (List Frame)) (over : Bool)
+    (taken taken' : Option (List ℕ)) (failures failures' : ℕ)
     (fault : Option LinkFault) : Type 0 where
   pub frames : List Frame
   pub bytes : List ℕ

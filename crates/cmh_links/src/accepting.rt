@@ -21,8 +21,8 @@ const MOST_CONNECTIONS: usize = 256;
 /// A reading thread, and another handle of its connection.
 type Reading<L> = (JoinHandle<()>, L);
 
-/// Accepts connections and starts a reading thread for each, until accepting fails or the site is ending. Once it is ending
-/// it waits for these threads. A connection for which no memory or no thread can be had is closed at once.
+/// Accepts connections and starts a reading thread for each, until accepting fails or the site is ending. Once it is
+/// ending it waits for these threads. A connection for which no memory or no thread can be had is closed at once.
 pub(crate) fn accept_all<R, S, B, L>(
     rt: R,
     alloc: Global,

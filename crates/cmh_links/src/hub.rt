@@ -153,7 +153,9 @@ pub(crate) struct Exit<R: Wait + Drop, S: Sink, B: Listing> {
 }
 
 impl<R: Wait + Drop, S: Sink, B: Listing> Exit<R, S, B> {
-    pub fn new(rt: R, hub: Arc<Hub<S, B>>, tap: ParkingTap) -> Self {
+    pub fn new(rt: R, hub: Arc<Hub<S, B>>, tap: ParkingTap) -> Self
+        ensures { result.tap ≡ tap }
+    {
         Exit {
             rt,
             hub,
@@ -163,7 +165,9 @@ impl<R: Wait + Drop, S: Sink, B: Listing> Exit<R, S, B> {
     }
 
     /// The tap comes back.
-    pub fn into_tap(self) -> ParkingTap {
+    pub fn into_tap(self) -> ParkingTap
+        ensures { result ≡ self.tap }
+    {
         let Exit {
             rt: _,
             hub: _,
@@ -174,29 +178,45 @@ impl<R: Wait + Drop, S: Sink, B: Listing> Exit<R, S, B> {
     }
 }
 
+/// The next frame of a link, for which it waits; `None` once the site is ending and nothing is left.
+fn next_of<R: Wait, S: Sink, B: Listing>(
+    rt: &R,
+    hub: &Hub<S, B>,
+    tap: &mut ParkingTap,
+) -> Option<Frame>
+    ensures { tap.new.to ≡ tap.old.to }
+{
+    for _ in rt.forever() {
+        if let Some(frame) = tap.take() {
+            return Some(frame);
+        }
+        // Read before the last look, so that no frame that was there at the end is left.
+        let ending = hub.ending.load(Ordering::SeqCst);
+        hub.station.lock(rt).release();
+        if let Some(frame) = tap.take() {
+            return Some(frame);
+        }
+        if ending {
+            return None;
+        }
+        tap.park(rt);
+    }
+    unreachable!()
+}
+
 impl<R: Wait + Drop, S: Sink, B: Listing> FrameSource for Exit<R, S, B> {
     ghost given = { λ _. None };
 
     ghost is_over = { λ s. s.over };
 
+    ghost link_to = { λ s. s.tap.to };
+
     fn next(&mut self) -> Option<Frame> {
-        for _ in self.rt.forever() {
-            if let Some(frame) = self.tap.take() {
-                return Some(frame);
-            }
-            // Read before the last look, so that no frame that was there at the end is left.
-            let ending = self.hub.ending.load(Ordering::SeqCst);
-            self.hub.station.lock(&self.rt).release();
-            if let Some(frame) = self.tap.take() {
-                return Some(frame);
-            }
-            if ending {
-                self.over = true;
-                return None;
-            }
-            self.tap.park(&self.rt);
+        let next = next_of(&self.rt, &self.hub, &mut self.tap);
+        if next.is_none() {
+            self.over = true;
         }
-        unreachable!()
+        next
     }
 
     fn try_next(&mut self) -> Option<Frame> {

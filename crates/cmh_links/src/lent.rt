@@ -34,8 +34,10 @@ fn take<S: Sink>(
     frames: &[Frame],
 ) -> Result<(), StationRefusal>
     requires { length frames.now ≤ batch_limit }
-    ensures ok { OnOk result (all_receipts station.new.entries ≡ all_receipts station.old.entries ++ from_site from frames.now) }
-    ensures part { OnErr result (HandedPart from frames.now (Some (all_receipts station.old.entries)) (Some (all_receipts station.new.entries))) }
+    ensures ok { OnOk result (all_receipts station.new.entries ≡ all_receipts station.old.entries
+        ++ from_site from frames.now) }
+    ensures part { OnErr result (HandedPart from frames.now (Some (all_receipts station.old.entries))
+        (Some (all_receipts station.new.entries))) }
 {
     let Ok(events) = arrivals(alloc, from, frames) else {
         return Err(StationRefusal::Rule(Refusal::Memory));
@@ -84,6 +86,8 @@ impl<S: Sink> Handover for Lent<S> {
 
 /// Where a station accepted these frames from a site, its receipts on that link grew by just these, and on no other.
 pub fn lent_law()
-    ensures { (before after : List Entry) (site : ℕ) (got : List Frame) → Some (all_receipts after) ≡ known_and (Some (all_receipts before)) (from_site site got)
-        → (receipts_of site after ≡ receipts_of site before ++ got) × ((other : ℕ) → other ≢ site → receipts_of other after ≡ receipts_of other before) }
+    ensures { (before after : List Entry) (site : ℕ) (got : List Frame) → Some (all_receipts after) ≡ known_and
+        (Some (all_receipts before)) (from_site site got)
+        → (receipts_of site after ≡ receipts_of site before ++ got) ×
+        ((other : ℕ) → other ≢ site → receipts_of other after ≡ receipts_of other before) }
 {}

@@ -137,11 +137,15 @@ fn take_piece<R: Wait, H: Handover>(
     piece: &[u8],
 ) -> Option<ReaderEnd>
     ensures kept { ExpectsSame reader.old reader.new }
-    ensures goes { IfNone result ((bs : List ℕ) (fs : List Frame) (a : Option (List (ℕ × Frame))) → Goes bs fs reader.old a (H.accepted handover.old) (H.refused handover.old) →
-        (given : List Frame) × Goes (bs ++ piece.now) (fs ++ given) reader.new a (H.accepted handover.new) (H.refused handover.new)
+    ensures goes { IfNone result ((bs : List ℕ) (fs : List Frame) (a : Option (List (ℕ × Frame)))
+        → Goes bs fs reader.old a (H.accepted handover.old) (H.refused handover.old) →
+        (given : List Frame) × Goes (bs ++ piece.now) (fs ++ given) reader.new a (H.accepted handover.new)
+        (H.refused handover.new)
         × (given ≡ [] → stream_fault reader.new.standing ≡ None)) }
-    ensures stops { IfSome result (λ e. (bs : List ℕ) (fs : List Frame) (a : Option (List (ℕ × Frame))) → Goes bs fs reader.old a (H.accepted handover.old) (H.refused handover.old) →
-        (over : Bool) (n m : ℕ) → Stopped e (bs ++ piece.now) reader.new a (H.accepted handover.new) (H.refused handover.new) over n m) }
+    ensures stops { IfSome result (λ e. (bs : List ℕ) (fs : List Frame) (a : Option (List (ℕ × Frame)))
+        → Goes bs fs reader.old a (H.accepted handover.old) (H.refused handover.old) →
+        (over : Bool) (n m : ℕ) → Stopped e (bs ++ piece.now) reader.new a (H.accepted handover.new)
+        (H.refused handover.new) over n m) }
 {
     let before = reader.sender();
     let frames = match reader.feed(piece) {
@@ -172,11 +176,15 @@ fn take_whole<R: Wait, H: Handover>(
     piece: &[u8],
 ) -> Option<ReaderEnd>
     ensures kept { ExpectsSame reader.old reader.new }
-    ensures goes { IfNone result ((bs : List ℕ) (fs : List Frame) (a : Option (List (ℕ × Frame))) → Goes bs fs reader.old a (H.accepted handover.old) (H.refused handover.old) →
-        (given : List Frame) × Goes (bs ++ piece.now) (fs ++ given) reader.new a (H.accepted handover.new) (H.refused handover.new)
+    ensures goes { IfNone result ((bs : List ℕ) (fs : List Frame) (a : Option (List (ℕ × Frame)))
+        → Goes bs fs reader.old a (H.accepted handover.old) (H.refused handover.old) →
+        (given : List Frame) × Goes (bs ++ piece.now) (fs ++ given) reader.new a (H.accepted handover.new)
+        (H.refused handover.new)
         × (stream_fault reader.new.standing ≡ None)) }
-    ensures stops { IfSome result (λ e. (bs : List ℕ) (fs : List Frame) (a : Option (List (ℕ × Frame))) → Goes bs fs reader.old a (H.accepted handover.old) (H.refused handover.old) →
-        (over : Bool) (n m : ℕ) → Stopped e (bs ++ piece.now) reader.new a (H.accepted handover.new) (H.refused handover.new) over n m) }
+    ensures stops { IfSome result (λ e. (bs : List ℕ) (fs : List Frame) (a : Option (List (ℕ × Frame)))
+        → Goes bs fs reader.old a (H.accepted handover.old) (H.refused handover.old) →
+        (over : Bool) (n m : ℕ) → Stopped e (bs ++ piece.now) reader.new a (H.accepted handover.new)
+        (H.refused handover.new) over n m) }
 {
     match take_piece(rt, reader, links, handover, piece) {
         Some(end) => Some(end),

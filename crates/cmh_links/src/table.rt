@@ -124,7 +124,8 @@ fn push_fresh(
     other: SiteId,
     own: SiteId,
 ) -> Result<(), AllocError>
-    ensures { OnOk result (rows.new.items ≡ if other == own then rows.old.items else rows.old.items ++ (other, LinkState.Fresh) ∷ []) }
+    ensures { OnOk result (rows.new.items ≡ if other == own then rows.old.items else rows.old.items ++
+        (other, LinkState.Fresh) ∷ []) }
 {
     if other == own {
         return Ok(());

@@ -1,6 +1,8 @@
 //! The running threads of a site.
 
-ghost use Rattle.std.specs.Prelude.{◌≡◌, ◌+◌, ◌≤◌, length, vec_len, IfOk, IfErr};
+ghost use Rattle.std.specs.Prelude.{◌≡◌, ◌+◌, ◌<◌, ◌≤◌, [], ◌∷◌, ◌++◌, length, map, vec_len, IfOk, IfErr};
+ghost use Rattle.std.specs.Vec.{vec_capacity};
+ghost use Rattle.cmh_links.specs.Threads.{connected_by, connected_in, failed_by, failed_in, is_connected, is_failed, leads_to, link_sites, site_of};
 
 use crate::accepting::accept_all;
 use crate::hub::{Exit, Hub};
@@ -15,13 +17,26 @@ use std::alloc::{AllocError, Global};
 use std::sync::atomic::Ordering;
 use std::sync::{Arc, Wait};
 use std::thread;
-use std::thread::{JoinHandle, Threads};
+use std::thread::{JoinHandle, Promise, PromisedHandle, Threads};
 
-/// A link's tap: with nobody, or in the hands of its writing thread.
+/// That a writing thread gives the tap of its link back.
+#[derive(Clone, Copy)]
+struct GivesBack {
+    to: SiteId,
+}
+
+impl Promise<LinkTap> for GivesBack {
+    ghost kept_by = { λ promise tap. tap.to ≡ promise.to };
+}
+
+/// Where the tap of a link is that was to be opened.
 #[derive(Drop)]
 enum Place {
+    /// With nobody: the link was not new.
     Idle(LinkTap),
-    Writing(JoinHandle<LinkTap>),
+    /// With nobody: the link could not be opened.
+    Closed(LinkTap),
+    Writing(PromisedHandle<LinkTap, GivesBack>),
 }
 
 /// How the opening of a link went.
@@ -45,8 +60,11 @@ pub struct SiteThreads<R, S: Sink, B: Listing, D: Dial> {
     waiting: Vec<ParkingTap>,
     /// Those of the others, in their order.
     places: Vec<Place>,
-    /// Where the taps go at the end. It has room for all of them.
+    /// Where the taps go at the end.
     taps: Vec<LinkTap>,
+    ghost room: { vec_len places + vec_len waiting ≤ vec_capacity places },
+    ghost room_at_end: { vec_len places + vec_len waiting ≤ vec_capacity taps },
+    ghost none_back: { taps.items ≡ [] },
 }
 
 /// What `start` needs memory for.
@@ -57,6 +75,7 @@ struct Parts<S: Sink, B: Listing> {
     accepter: Unparker,
     places: Vec<Place>,
     taps: Vec<LinkTap>,
+    ghost empty: { (places.items ≡ []) × (taps.items ≡ []) },
 }
 
 fn make_parts<S: Sink, B: Listing>(
@@ -66,7 +85,7 @@ fn make_parts<S: Sink, B: Listing>(
     station: Arc<SharedStation<S, B>>,
     count: usize,
 ) -> Result<Parts<S, B>, AllocError>
-    ensures { IfOk result (λ parts. vec_len parts.places ≡ 0) }
+    ensures { IfOk result (λ parts. (count ≤ vec_capacity parts.places) × (count ≤ vec_capacity parts.taps)) }
 {
     let hub = Hub::open(alloc, topology, site, station)?;
     let theirs = Arc::try_clone(&hub)?;
@@ -100,6 +119,7 @@ where
     B: Listing,
     O: Outgoing + Drop,
     requires fresh { O.failures out ≡ 0 }
+    ensures { result.to ≡ tap.to }
 {
     let to = tap.to();
     if hub.abandoned.load(Ordering::SeqCst) == to.get() {
@@ -124,8 +144,8 @@ where
     B: Listing + Send + 'static,
     D: Dial,
 {
-    /// Starts the accepting thread. The taps are those of the station's links, ascending; they come back where memory or a thread
-    /// is refused.
+    /// Starts the accepting thread. The taps are those of the station's links, ascending; they come back where memory
+    /// or a thread is refused.
     pub fn start<L: Listen + Send + Drop + 'static>(
         rt: R,
         alloc: Global,
@@ -141,6 +161,8 @@ where
         requires listen { L.failures listen ≡ 0 }
         ensures waiting { IfOk result (λ threads. vec_len threads.waiting ≡ vec_len taps) }
         ensures none_open { IfOk result (λ threads. vec_len threads.places ≡ 0) }
+        ensures links { IfOk result (λ threads. link_sites threads.places.items threads.waiting.items
+            ≡ map site_of taps.items) }
         ensures back { IfErr result (λ back. back ≡ taps) }
     {
         let Some(gate) = listen.gate() else {
@@ -186,13 +208,17 @@ where
         &self.hub.links
     }
 
-    /// Opens the outgoing links that are new, ascending, and starts a writing thread for each. Says how many it connected and how
-    /// many failed: (0, 0) where none is new, as at each later call.
+    /// Opens the outgoing links that are new, ascending, and starts a writing thread for each. Says how many have one,
+    /// and how many were new and have none: (0, 0) where none is new, as at each later call.
     pub fn connect(&mut self) -> (usize, usize)
     where
         D::Out: Send + Drop + 'static,
         ensures few { result.0 + result.1 ≤ vec_len self.old.waiting }
         ensures all { vec_len self.new.waiting ≡ 0 }
+        ensures connected { connected_in self.new.places.items ≡ connected_in self.old.places.items + result.0 }
+        ensures failed { failed_in self.new.places.items ≡ failed_in self.old.places.items + result.1 }
+        ensures links { link_sites self.new.places.items self.new.waiting.items
+            ≡ link_sites self.old.places.items self.old.waiting.items }
     {
         let mut connected = 0;
         let mut failed = 0;
@@ -210,11 +236,17 @@ where
     fn open(&mut self, tap: ParkingTap) -> Opening
     where
         D::Out: Send + Drop + 'static,
-        ensures { self.new.waiting ≡ self.old.waiting }
+        requires room { vec_len self.old.places + vec_len self.old.waiting < vec_capacity self.old.places }
+        requires room_at_end { vec_len self.old.places + vec_len self.old.waiting < vec_capacity self.old.taps }
+        ensures waiting { self.new.waiting ≡ self.old.waiting }
+        ensures links { map leads_to self.new.places.items ≡ map leads_to self.old.places.items ++ tap.to ∷ [] }
+        ensures connected { connected_in self.new.places.items
+            ≡ connected_in self.old.places.items + connected_by result }
+        ensures failed { failed_in self.new.places.items ≡ failed_in self.old.places.items + failed_by result }
     {
         let to = tap.to();
         if !self.hub.links.lock(&self.rt).open_out(to) {
-            self.keep(tap.into_tap());
+            self.keep(Place::Idle(tap.into_tap()));
             return Opening::Stale;
         }
         match dial_site(&mut self.dial, to) {
@@ -224,7 +256,7 @@ where
                     .links
                     .lock(&self.rt)
                     .close_out(to, LinkFault::Connect);
-                self.keep(tap.into_tap());
+                self.keep(Place::Closed(tap.into_tap()));
                 Opening::Failed
             }
         }
@@ -234,41 +266,56 @@ where
     fn start_writer(&mut self, tap: ParkingTap, out: D::Out) -> Opening
     where
         D::Out: Send + Drop + 'static,
-        requires { D.Out.failures out ≡ 0 }
-        ensures { self.new.waiting ≡ self.old.waiting }
+        requires fresh { D.Out.failures out ≡ 0 }
+        requires room { vec_len self.old.places + vec_len self.old.waiting < vec_capacity self.old.places }
+        requires room_at_end { vec_len self.old.places + vec_len self.old.waiting < vec_capacity self.old.taps }
+        ensures waiting { self.new.waiting ≡ self.old.waiting }
+        ensures links { map leads_to self.new.places.items ≡ map leads_to self.old.places.items ++ tap.to ∷ [] }
+        ensures connected { connected_in self.new.places.items
+            ≡ connected_in self.old.places.items + connected_by result }
+        ensures failed { failed_in self.new.places.items ≡ failed_in self.old.places.items + failed_by result }
     {
         let rt = self.rt;
         let to = tap.to();
         let tap = match Arc::try_clone(&self.hub) {
-            Ok(theirs) => match thread::spawn(&rt, move || write_link(rt, theirs, tap, out)) {
-                Ok(writer) => {
-                    let _ = self.places.push(Place::Writing(writer));
-                    return Opening::Connected;
+            Ok(theirs) => {
+                let run = move || write_link(rt, theirs, tap, out);
+                match thread::spawn_with(&rt, GivesBack { to }, run) {
+                    Ok(writer) => {
+                        self.keep(Place::Writing(writer));
+                        return Opening::Connected;
+                    }
+                    Err(refused) => {
+                        // No thread: what it would have run gives the tap back, when it is called here and told so.
+                        self.hub.abandoned.store(to.get(), Ordering::SeqCst);
+                        let run = refused.value;
+                        let tap = run();
+                        self.hub.abandoned.store(0, Ordering::SeqCst);
+                        tap
+                    }
                 }
-                Err(refused) => {
-                    // No thread: what it would have run gives the tap back, when it is called here and told so.
-                    self.hub.abandoned.store(to.get(), Ordering::SeqCst);
-                    let run = refused.value;
-                    let tap = run();
-                    self.hub.abandoned.store(0, Ordering::SeqCst);
-                    tap
-                }
-            },
+            }
             Err(_) => tap.into_tap(),
         };
         self.hub
             .links
             .lock(&self.rt)
             .close_out(to, LinkFault::Memory);
-        self.keep(tap);
+        self.keep(Place::Closed(tap));
         Opening::Failed
     }
 
-    /// Keeps a tap that nobody uses.
-    fn keep(&mut self, tap: LinkTap)
-        ensures { self.new.waiting ≡ self.old.waiting }
+    /// Keeps where the tap of the next link is.
+    fn keep(&mut self, place: Place)
+        requires room { vec_len self.old.places + vec_len self.old.waiting < vec_capacity self.old.places }
+        requires room_at_end { vec_len self.old.places + vec_len self.old.waiting < vec_capacity self.old.taps }
+        ensures waiting { self.new.waiting ≡ self.old.waiting }
+        ensures links { map leads_to self.new.places.items ≡ map leads_to self.old.places.items ++ leads_to place ∷ [] }
+        ensures connected { connected_in self.new.places.items
+            ≡ connected_in self.old.places.items + is_connected place }
+        ensures failed { failed_in self.new.places.items ≡ failed_in self.old.places.items + is_failed place }
     {
-        let _ = self.places.push(Place::Idle(tap));
+        self.places.push_reserved(place);
     }
 
     /// Lets the writing threads end once they have nothing left. It waits for nobody.
@@ -278,17 +325,19 @@ where
         self.accepter.unpark();
     }
 
-    /// As `end`, and `stop` will not wait for peers that keep their connections open. Frames that they sent and nobody read are lost.
+    /// As `end`, and `stop` will not wait for peers that keep their connections open. Frames that they sent and nobody
+    /// read are lost.
     pub fn cut_off(&self) {
         self.hub.cutting.store(true, Ordering::SeqCst);
         self.end();
     }
 
-    /// Ends and joins all threads, and gives the taps back, ascending. It waits for the writing threads of the other sites, unless
-    /// `cut_off` was called before.
+    /// Ends and joins all threads, and gives the taps back, those of the links that `start` was given, in their order.
+    /// It waits for the writing threads of the other sites, unless `cut_off` was called before.
     pub fn stop(self) -> Vec<LinkTap>
     where
         D: Drop,
+        ensures { map site_of result.items ≡ link_sites self.places.items self.waiting.items }
     {
         self.end();
         let SiteThreads {
@@ -307,12 +356,13 @@ where
         for place in places {
             let tap = match place {
                 Place::Idle(tap) => tap,
+                Place::Closed(tap) => tap,
                 Place::Writing(writer) => writer.join(&rt),
             };
-            let _ = taps.push(tap);
+            taps.push_reserved(tap);
         }
         while let Some(tap) = waiting.pop() {
-            let _ = taps.push(tap.into_tap());
+            taps.push_reserved(tap.into_tap());
         }
         gate.shut();
         accepting.join(&rt);

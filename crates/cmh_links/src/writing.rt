@@ -27,16 +27,21 @@ pub trait FrameSource {
     /// Whether it told its end.
     ghost is_over: { Self → Bool };
 
+    /// The site that its frames go to.
+    ghost link_to: { Self → ℕ };
+
     /// The next frame, for which it may wait; `None` at the end.
     fn next(&mut self) -> Option<Frame>
         ensures some { IfSome result (λ frame. given self.new ≡ known_and (given self.old) (frame ∷ [])) }
         ensures none { IfNone result (given self.new ≡ given self.old) }
-        ensures over { IfNone result (is_over self.new ≡ true) };
+        ensures over { IfNone result (is_over self.new ≡ true) }
+        ensures link { link_to self.new ≡ link_to self.old };
 
     /// The next frame, if it is there already. It waits for nobody.
     fn try_next(&mut self) -> Option<Frame>
         ensures some { IfSome result (λ frame. given self.new ≡ known_and (given self.old) (frame ∷ [])) }
-        ensures none { IfNone result (given self.new ≡ given self.old) };
+        ensures none { IfNone result (given self.new ≡ given self.old) }
+        ensures link { link_to self.new ≡ link_to self.old };
 }
 
 /// Writes all the bytes, or a beginning of them where a write fails.
@@ -75,7 +80,8 @@ fn put(bytes: &mut ArrayVec<u8, MOST_GATHERED>, frame: &Frame)
 /// The bytes of a frame and of those behind it that are there, as many as there is room for.
 #[tactic(auto, using(crate::proofs::Writes::gathers_first, crate::proofs::Writes::gathers_on, crate::proofs::Writes::gathers_same))]
 fn gather<F: FrameSource>(source: &mut F, first: &Frame, bytes: &mut ArrayVec<u8, MOST_GATHERED>)
-    ensures { Gathers first.now (F.given source.old) (F.given source.new) bytes.new.items }
+    ensures gathers { Gathers first.now (F.given source.old) (F.given source.new) bytes.new.items }
+    ensures link { F.link_to source.new ≡ F.link_to source.old }
 {
     bytes.clear();
     put(bytes, first);
@@ -88,8 +94,8 @@ fn gather<F: FrameSource>(source: &mut F, first: &Frame, bytes: &mut ArrayVec<u8
 }
 
 #[tactic(auto, using(crate::proofs::Writes::ends))]
-/// Writes the hello of a site and the frames of the source, until the source tells its end. Frames that are there together are
-/// written together. The only fault is `Write`.
+/// Writes the hello of a site and the frames of the source, until the source tells its end. Frames that are there
+/// together are written together. The only fault is `Write`.
 pub fn run_writer<R: Wait, O: Outgoing, F: FrameSource>(
     rt: &R,
     out: &mut O,
@@ -98,8 +104,10 @@ pub fn run_writer<R: Wait, O: Outgoing, F: FrameSource>(
     source: &mut F,
 ) -> Option<LinkFault>
     requires faults { O.failures out.old < 2 ^ 64 - 1 }
-    ensures { Wrote edition site (F.given source.old) (F.given source.new) (F.is_over source.new) (O.taken out.old) (O.taken out.new)
+    ensures wrote { Wrote edition site (F.given source.old) (F.given source.new) (F.is_over source.new)
+        (O.taken out.old) (O.taken out.new)
         (O.failures out.old) (O.failures out.new) result }
+    ensures link { F.link_to source.new ≡ F.link_to source.old }
 {
     let hello = encode_hello(edition, site);
     if let Err(IoFault) = write_whole(out, &hello) {

@@ -31,6 +31,8 @@ impl FrameSource for Frames {
 
     ghost is_over = { λ s. s.over };
 
+    ghost link_to = { λ _. 2 };
+
     fn next(&mut self) -> Option<Frame> {
         let frame = self.give();
         if frame.is_none() {
@@ -64,7 +66,8 @@ fn requests(alloc: Global, count: usize) -> Result<Frames, Fail> {
     })
 }
 
-/// What was written of the hello and so many requests, and the fault, where so many calls pass and take so many bytes at most.
+/// What was written of the hello and so many requests, and the fault, where so many calls pass and take so many bytes
+/// at most.
 fn write<R: Wait>(
     rt: &R,
     alloc: Global,

@@ -1,5 +1,5 @@
 -- Lemmas on beginnings of lists.
-use Rattle.std.proofs.Common.{◌≡◌, ℕ, ◌≤◌, ◌<◌, List, [], ◌∷◌, ◌++◌, length, ◌⊎◌, inl, inr, subst, sym, ap, refl, ◌∙◌, append_assoc, append-nil, arith, length-append}
+use Rattle.std.proofs.Common.{◌≡◌, ℕ, ◌≤◌, ◌<◌, List, [], ◌∷◌, ◌++◌, length, ◌⊎◌, inl, inr, subst, sym, ap, refl, ◌∙◌, append_assoc, append-nil, arith, length-append, take, drop, take-append-drop}
 use Rattle.std.proofs.lemmas.List.{append_cancel_left}
 use Rattle.cmh_model.specs.declared.journal.Entry.{Entry}
 use Rattle.cmh_model.specs.Journals.{sendings_of}
@@ -11,6 +11,10 @@ beginning_refl xs = ([], append-nil xs)
 
 pub beginning_nil : {X : Type 0} (xs : List X) → IsBeginningOf [] xs
 beginning_nil xs = (xs, refl)
+
+-- the first n are a beginning
+pub beginning_take : {X : Type 0} (n : ℕ) (xs : List X) → IsBeginningOf (take n xs) xs
+beginning_take n xs = (drop n xs, take-append-drop n xs)
 
 pub beginning_trans : {X : Type 0} (xs ys zs : List X) → IsBeginningOf xs ys → IsBeginningOf ys zs → IsBeginningOf xs zs
 beginning_trans xs ys zs p q =

@@ -1,5 +1,5 @@
 -- Tests, and what is chosen by them.
-use Rattle.std.proofs.Common.{◌≡◌, ℕ, Bool, true, false, not, ◌&&◌, if◌then◌else◌, refl, sym, subst, true≢false, Some}
+use Rattle.std.proofs.Common.{◌≡◌, Bool, true, false, not, ◌&&◌, if◌then◌else◌, refl, sym, subst, true≢false}
 use Rattle.std.specs.Prelude.{MatchBool}
 
 pub match_true : (b : Bool) (P Q : Type 0) → b ≡ true → P → MatchBool b P Q
@@ -26,6 +26,3 @@ pub not_ended : (before now : Bool) → now ≡ true → not (before && not now)
 not_ended true true e = refl
 not_ended true false e = absurd (true≢false (sym e))
 not_ended false now e = refl
-
-pub some_eq : (x y : ℕ) → Some x ≡ Some y → x ≡ y
-some_eq x y h = cc

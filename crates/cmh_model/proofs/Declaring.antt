@@ -22,6 +22,7 @@ use Rattle.cmh_model.specs.State.{State, empty_state}
 use Rattle.cmh_model.specs.Rules.{Sends, DeclaresOrProbes, after, declared_after, newly, probe_acts}
 use Rattle.cmh_model.specs.Journals.{IsLawful, LawfulFrom}
 use Rattle.cmh_model.specs.Declarations.{declarations}
+use Rattle.cmh_frames.proofs.Apart.{some_same}
 use Rattle.cmh_model.proofs.Choices.{if_same}
 use Rattle.cmh_model.proofs.Edges.{reach_ends}
 use Rattle.cmh_model.proofs.Marks.{if-declared}
@@ -69,11 +70,8 @@ module _ (t : Topology) (s : ℕ) (v : State) where
 newly_new : (v : State) (p i : ℕ) → newly v p ≡ Some i → set.contains v.declared i ≡ false
 newly_new v p i e = elim (cases_Bool (set.contains v.declared p)) [
   | inl c ↦ absurd (none_some (newly v p) i (ap (λ z. if z then None else Some p) c) e)
-  | inr c ↦ subst (λ q. set.contains v.declared q ≡ false) (same p i (sym (ap (λ z. if z then None else Some p) c) ∙ e)) c
+  | inr c ↦ subst (λ q. set.contains v.declared q ≡ false) (some_same (sym (ap (λ z. if z then None else Some p) c) ∙ e)) c
 ]
-  where
-    same : (p i : ℕ) → Some p ≡ Some i → p ≡ i
-    same p i h = cc
 
 verdict_new : (t : Topology) (s : ℕ) (v : State) (Deadlocked : Type 0) (origin from i : ℕ) (sent : List (ℕ × Frame)) (d : Option ℕ) → DeclaresOrProbes t s v Deadlocked origin from sent d → d ≡ Some i → set.contains v.declared i ≡ false
 verdict_new t s v Deadlocked origin from i sent d (inl x) e = newly_new v origin i (sym x.2 ∙ e)

@@ -15,7 +15,7 @@ use Rattle.cmh_model.specs.Rules.{Sends, IsAscending, after, probe_acts}
 use Rattle.cmh_model.specs.Journals.{frames_to}
 use Rattle.cmh_model.specs.Laws.{bit, count_of}
 use Rattle.cmh_model.specs.Settling.{is_any_reply}
-use Rattle.cmh_model.proofs.Choices.{some_eq}
+use Rattle.cmh_frames.proofs.Apart.{some_same}
 use Rattle.cmh_model.proofs.Few.{few_probes}
 use Rattle.cmh_model.proofs.Pairs.{has-with_same, has-with_kept}
 use Rattle.cmh_model.proofs.Places.{if-dependents}
@@ -29,7 +29,7 @@ site_in_rows [] p s h = absurd (true≢false (sym (ap is_some h)))
 site_in_rows (row ∷ rows) p s h = go (list_any (λ q. q == p) row.1) h (site_in_rows rows p s)
   where
     go : (b : Bool) → (if b then Some row.0 else home_in rows p) ≡ Some s → (home_in rows p ≡ Some s → On (map (λ (row : ℕ × List ℕ). row.0) rows) s) → On (row.0 ∷ map (λ (row : ℕ × List ℕ). row.0) rows) s
-    go true h more = or_left (row.0 == s) (list_any (λ q. q == s) (map (λ (row : ℕ × List ℕ). row.0) rows)) (eq-eqb row.0 s (some_eq row.0 s h))
+    go true h more = or_left (row.0 == s) (list_any (λ q. q == s) (map (λ (row : ℕ × List ℕ). row.0) rows)) (eq-eqb row.0 s (some_same h))
     go false h more = or_right (row.0 == s) (list_any (λ q. q == s) (map (λ (row : ℕ × List ℕ). row.0) rows)) (more h)
 
 -- the home of a process is one of the sites

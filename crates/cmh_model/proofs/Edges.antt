@@ -33,6 +33,9 @@ same_probe o o' f f' g g' xs ys e =
     (ap (λ (q : ℕ × ℕ × ℕ). q.0) all, ap (λ (q : ℕ × ℕ × ℕ). q.1) all, ap (λ (q : ℕ × ℕ × ℕ). q.2) all)
 
 -- lists with equal first members
+first_same : (x y : Frame) (xs ys : List Frame) → x ∷ xs ≡ y ∷ ys → x ≡ y
+first_same x y xs ys e = (cc)
+
 pub same_rest : (x y : Frame) (xs ys : List Frame) → x ∷ xs ≡ y ∷ ys → xs ≡ ys
 same_rest x y xs ys e = (cc)
 
@@ -119,14 +122,8 @@ is_probe (Probe (o, f, g)) = true
 pub split_append : (xs ys us : List Frame) (x : Frame) (vs : List Frame) → xs ++ ys ≡ us ++ x ∷ vs → ((ws : List Frame) × (xs ≡ us ++ x ∷ ws) × (vs ≡ ws ++ ys)) ⊎ ((ws : List Frame) × (ys ≡ ws ++ x ∷ vs))
 split_append [] ys us x vs e = inr (us, e)
 split_append (z ∷ xs) ys [] x vs e = inl (xs, ap (λ w. w ∷ xs) (first_same z x (xs ++ ys) vs e), sym (same_rest z x (xs ++ ys) vs e))
-  where
-    first_same : (x y : Frame) (xs ys : List Frame) → x ∷ xs ≡ y ∷ ys → x ≡ y
-    first_same x y xs ys e = (cc)
 split_append (z ∷ xs) ys (u ∷ us) x vs e = go (split_append xs ys us x vs (same_rest z u (xs ++ ys) (us ++ x ∷ vs) e))
   where
-    first_same : (x y : Frame) (xs ys : List Frame) → x ∷ xs ≡ y ∷ ys → x ≡ y
-    first_same x y xs ys e = (cc)
-
     go : ((ws : List Frame) × (xs ≡ us ++ x ∷ ws) × (vs ≡ ws ++ ys)) ⊎ ((ws : List Frame) × (ys ≡ ws ++ x ∷ vs)) → ((ws : List Frame) × (z ∷ xs ≡ u ∷ us ++ x ∷ ws) × (vs ≡ ws ++ ys)) ⊎ ((ws : List Frame) × (ys ≡ ws ++ x ∷ vs))
     go (inl r) = inl (r.0, (λ i. first_same z u (xs ++ ys) (us ++ x ∷ vs) e i ∷ r.1 i), r.2)
     go (inr r) = inr r

@@ -1,5 +1,5 @@
 -- A frame goes between the homes of the processes that it names.
-use Rattle.std.proofs.Common.{◌≡◌, ◌≢◌, ℕ, zero, suc, Bool, true, false, List, [], ◌∷◌, ◌++◌, map, drop, if◌then◌else◌, refl, sym, ap, ◌∙◌, subst, inl, inr, true≢false, Option, Some, IsSome}
+use Rattle.std.proofs.Common.{◌≡◌, ◌≢◌, ℕ, zero, suc, Bool, true, false, List, [], ◌∷◌, map, drop, if◌then◌else◌, refl, sym, ap, ◌∙◌, subst, inl, inr, true≢false, Option, Some, IsSome}
 use Rattle.std.specs.List.{AllByRecursion}
 use Rattle.std.proofs.lemmas.Bool.{cases_eq}
 use Rattle.cmh_frames.specs.declared.frame.Frame.{Frame}
@@ -14,6 +14,7 @@ use Rattle.cmh_model.specs.State.{State}
 use Rattle.cmh_model.specs.Rules.{Accepts, Sends, after, IsEdgeFrom, requests, replies}
 use Rattle.cmh_model.specs.Journals.{frames_to, sendings_of, LawfulFrom}
 use Rattle.cmh_model.specs.Runs.{IsRun, under_way, entries_of}
+use Rattle.cmh_frames.proofs.Each.{all_append}
 use Rattle.cmh_model.proofs.Edges.{each_edge, reach_ends}
 use Rattle.cmh_model.proofs.Effects.{some_home}
 use Rattle.cmh_model.proofs.Places.{is_at-yes, site_of-at}
@@ -28,10 +29,6 @@ FrameFits t a b (Probe (origin, from, to)) = (a ≢ b) × At t from a × At t to
 -- so does each of what s sends
 abbrev SentFits : Topology → ℕ → List (ℕ × Frame) → Type 0
 SentFits t s sent = AllByRecursion (λ (x : ℕ × Frame). FrameFits t s x.0 x.1) sent
-
-pub all_append : {X : Type 0} (P : X → Type 0) (xs ys : List X) → AllByRecursion P xs → AllByRecursion P ys → AllByRecursion P (xs ++ ys)
-all_append P [] ys a b = b
-all_append P (x ∷ xs) ys a b = (a.0, all_append P xs ys a.1 b)
 
 all_drop : {X : Type 0} (P : X → Type 0) (n : ℕ) (xs : List X) → AllByRecursion P xs → AllByRecursion P (drop n xs)
 all_drop P zero xs a = a

@@ -11,6 +11,7 @@ use Rattle.cmh_model.specs.State.{State, empty_state}
 use Rattle.cmh_model.specs.Rules.{Accepts, Sends, after}
 use Rattle.cmh_model.specs.Journals.{state_after, LawfulFrom, IsLawful, frame_from}
 use Rattle.cmh_model.specs.Runs.{entries_of, state_of, sendings, receipts, under_way, IsBeginningOf, IsRun}
+use Rattle.cmh_model.proofs.Beginnings.{beginning_nil}
 use Rattle.cmh_model.proofs.Journals.{sent_on, got_on, entries_here, entries_elsewhere, entries_of-append, sendings-more, receipts-more, whole}
 
 -- a lawful journal with one more entry that the rules give
@@ -25,18 +26,14 @@ IsNext before s (Reply holder asker) = Unit {0}
 IsNext before s (Start i) = Unit {0}
 IsNext before s (Got from frame) = (rest : List Frame) × (under_way from s before ≡ frame ∷ rest)
 
--- nothing is a beginning of everything
-begins_empty : (xs : List Frame) → IsBeginningOf [] xs
-begins_empty xs = (xs, refl)
-
 -- what an event gets begins what is under way
 next_on : (before : List WorldEvent) (s : ℕ) (event : Event) (a : ℕ) → IsNext before s event → IsBeginningOf (frame_from a event) (under_way a s before)
-next_on before s (Ask asker targets) a next = begins_empty _
-next_on before s (Reply holder asker) a next = begins_empty _
-next_on before s (Start i) a next = begins_empty _
+next_on before s (Ask asker targets) a next = beginning_nil _
+next_on before s (Reply holder asker) a next = beginning_nil _
+next_on before s (Start i) a next = beginning_nil _
 next_on before s (Got from frame) a next = elim (cases_eq from a) [
   | inl same ↦ (next.0, ap (λ z. (if z then frame ∷ [] else []) ++ next.0) (eq-eqb from a same) ∙ sym next.1 ∙ ap (λ z. under_way z s before) same)
-  | inr other ↦ subst (λ z. IsBeginningOf (if z then frame ∷ [] else []) (under_way a s before)) (sym (ne_eqb from a other)) (begins_empty _)
+  | inr other ↦ subst (λ z. IsBeginningOf (if z then frame ∷ [] else []) (under_way a s before)) (sym (ne_eqb from a other)) (beginning_nil _)
 ]
 
 -- a beginning of a longer list is one of the list, or all of it
@@ -63,7 +60,7 @@ pub run_first : (t : Topology) → IsRun t []
 run_first t = record { lawful = λ s. tt; in_order = λ so_far begins a b. empty so_far begins.0 begins.1 a b }
   where
     empty : (so_far rest : List WorldEvent) → so_far ++ rest ≡ [] → (a b : ℕ) → IsBeginningOf (receipts a b so_far) (sendings a b so_far)
-    empty [] rest h a b = begins_empty _
+    empty [] rest h a b = beginning_nil _
     empty (x ∷ xs) rest h a b = absurd (cc h)
 
 -- a run with one more entry that the rules give, whose frame, if it gets one, is the next of its link
@@ -86,7 +83,7 @@ run_longer t before e run accepted sends next = record {
     got a b = elim (cases_eq e.site b) [
       | inl here ↦ subst (λ z. IsBeginningOf (if z then frame_from a e.entry.event else []) (under_way a b before)) (sym (eq-eqb e.site b here))
           (subst (λ z. IsBeginningOf (frame_from a e.entry.event) (under_way a z before)) here (next a))
-      | inr far ↦ subst (λ z. IsBeginningOf (if z then frame_from a e.entry.event else []) (under_way a b before)) (sym (ne_eqb e.site b far)) (begins_empty _)
+      | inr far ↦ subst (λ z. IsBeginningOf (if z then frame_from a e.entry.event else []) (under_way a b before)) (sym (ne_eqb e.site b far)) (beginning_nil _)
     ]
 
     last : (a b : ℕ) → IsBeginningOf (receipts a b (before ++ e ∷ [])) (sendings a b (before ++ e ∷ []))

@@ -1,8 +1,9 @@
 -- What an event sends on a link, and what it declares.
-use Rattle.std.proofs.Common.{◌≡◌, ◌≢◌, ◌⊎◌, ◌<◌, ℕ, ◌+◌, Bool, true, false, ◌&&◌, ◌||◌, List, [], ◌∷◌, ◌++◌, map, ◌==◌, if◌then◌else◌, refl, sym, ap, ◌∙◌, subst, inl, inr, true≢false, Option, None, Some, unwrap_or, is_some, arith, append-nil}
+use Rattle.std.proofs.Common.{◌≡◌, ◌≢◌, ◌⊎◌, ◌<◌, ℕ, ◌+◌, Bool, true, false, ◌&&◌, ◌||◌, List, [], ◌∷◌, ◌++◌, map, ◌==◌, if◌then◌else◌, refl, sym, ap, ◌∙◌, subst, inl, inr, Option, None, Some, unwrap_or, arith, append-nil}
 use Rattle.std.specs.List.{list_any, AllByRecursion}
 use Rattle.std.specs.FinSet as set
 use Rattle.std.proofs.lemmas.Bool.{eq-eqb, ne_eqb, cases_eq, cases_Bool, MatchBool-at_true, MatchBool-at_false}
+use Rattle.std.proofs.lemmas.Option.{none-some}
 use Rattle.cmh_frames.specs.declared.frame.Frame.{Frame}
 use Rattle.cmh_frames.specs.declared.frame.Frame.TheVariants.{Request, Reply as Reply_frame, Probe}
 use Rattle.cmh_model.specs.declared.event.Event.{Event}
@@ -79,14 +80,10 @@ shape t s v (Got a (Probe (o, f, to))) sent d h = elim (cases_Bool (probe_acts v
 
 -- ---- declarations
 
--- nothing is not something
-none_some : (i : ℕ) → None ≡ Some i → ⊥
-none_some i e = true≢false (sym (ap is_some e))
-
 -- a new declaration is of the process in question
 newly_is : (v : State) (p i : ℕ) → newly v p ≡ Some i → p ≡ i
 newly_is v p i e = elim (cases_Bool (set.contains v.declared p)) [
-  | inl c ↦ absurd (none_some i (sym (ap (λ z. if z then None else Some p) c) ∙ e))
+  | inl c ↦ absurd (none-some i (sym (ap (λ z. if z then None else Some p) c) ∙ e))
   | inr c ↦ ap (λ o. unwrap_or o 0) (sym (ap (λ z. if z then None else Some p) c) ∙ e)
 ]
 
@@ -98,26 +95,26 @@ IsDeadlocked t s v ev waits i =
 -- a start declares who is locally dependent upon itself
 starts_declares : (t : Topology) (s : ℕ) (w : State) (p : ℕ) (probes : List (ℕ × Frame)) (d : Option ℕ) (i : ℕ) → Starts t s w p probes d → d ≡ Some i → DependsOnItself t s w.waits i
 starts_declares t s w p probes d i (inl x) e = subst (DependsOnItself t s w.waits) (newly_is w p i (sym x.2 ∙ e)) x.0
-starts_declares t s w p probes d i (inr x) e = absurd (none_some i (sym x.2 ∙ e))
+starts_declares t s w p probes d i (inr x) e = absurd (none-some i (sym x.2 ∙ e))
 
 -- an event declares only who is deadlocked
 pub declares : (t : Topology) (s : ℕ) (v : State) (ev : Event) (sent : List (ℕ × Frame)) (d : Option ℕ) (i : ℕ) → Sends t s v ev sent d → d ≡ Some i → IsDeadlocked t s v ev (after t s v ev d).waits i
 declares t s v (Ask asker targets) sent d i h e = elim (cases_Bool (starts_at_ask t.edition)) [
   | inl c ↦ let x = MatchBool-at_true _ _ c h in inl (starts_declares t s (after t s v (Ask asker targets) None) asker x.0 d i x.2 e)
-  | inr c ↦ absurd (none_some i (sym (MatchBool-at_false _ _ c h).1 ∙ e))
+  | inr c ↦ absurd (none-some i (sym (MatchBool-at_false _ _ c h).1 ∙ e))
 ]
-declares t s v (Reply holder asker) sent d i h e = absurd (none_some i (sym h.1 ∙ e))
+declares t s v (Reply holder asker) sent d i h e = absurd (none-some i (sym h.1 ∙ e))
 declares t s v (Start p) sent d i h e = inl (starts_declares t s v p sent d i h e)
-declares t s v (Got a (Request (x, y))) sent d i h e = absurd (none_some i (sym h.1 ∙ e))
-declares t s v (Got a (Reply_frame (x, y))) sent d i h e = absurd (none_some i (sym h.1 ∙ e))
+declares t s v (Got a (Request (x, y))) sent d i h e = absurd (none-some i (sym h.1 ∙ e))
+declares t s v (Got a (Reply_frame (x, y))) sent d i h e = absurd (none-some i (sym h.1 ∙ e))
 declares t s v (Got a (Probe (o, f, to))) sent d i h e = elim (cases_Bool (probe_acts v o f to)) [
   | inl c ↦ elim (MatchBool-at_true _ _ c h) [
     | inl x ↦
         let same : o ≡ i = newly_is v o i (sym x.2 ∙ e) in
         inr (a, f, to, ap (λ z. Got a (Probe (z, f, to))) same, subst (λ z. probe_acts v z f to ≡ true) same c, subst (λ r. ReachesLocally t s r to i) (sym (probe_waits t s v a o f to d)) (subst (ReachesLocally t s v.waits to) same x.0))
-    | inr x ↦ absurd (none_some i (sym x.2 ∙ e))
+    | inr x ↦ absurd (none-some i (sym x.2 ∙ e))
   ]
-  | inr c ↦ absurd (none_some i (sym (MatchBool-at_false _ _ c h).1 ∙ e))
+  | inr c ↦ absurd (none-some i (sym (MatchBool-at_false _ _ c h).1 ∙ e))
 ]
 
 -- ---- frames to a site

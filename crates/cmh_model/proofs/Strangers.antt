@@ -11,7 +11,7 @@ use Rattle.cmh_model.specs.State.{State, empty_state}
 use Rattle.cmh_model.specs.Rules.{Accepts}
 use Rattle.cmh_model.specs.Journals.{LawfulFrom}
 use Rattle.cmh_model.specs.Laws.{StrangersSilent}
-use Rattle.cmh_model.proofs.Choices.{some_eq}
+use Rattle.cmh_frames.proofs.Apart.{some_same}
 use Rattle.cmh_model.proofs.Members.{found_from}
 
 is_home : (rows : List (ℕ × List ℕ)) (p s : ℕ) → home_in rows p ≡ Some s → Contains (map (λ (row : ℕ × List ℕ). row.0) rows) s
@@ -19,7 +19,7 @@ is_home [] p s h = absurd (cc)
 is_home (row ∷ rows) p s h = go (list_any (λ q. q == p) row.1) h (λ g. is_home rows p s g)
   where
     go : (t : Bool) → (if t then Some row.0 else home_in rows p) ≡ Some s → (home_in rows p ≡ Some s → Contains (map (λ (row : ℕ × List ℕ). row.0) rows) s) → Contains (row.0 ∷ map (λ (row : ℕ × List ℕ). row.0) rows) s
-    go true g more = (0, omega arith, some_eq row.0 s g)
+    go true g more = (0, omega arith, some_same g)
     go false g more = let c = more g in (suc c.0, let l = c.1 in omega (arith, l), c.2)
 
 -- the home of a process is a site of the topology

@@ -100,13 +100,17 @@ abbrev pub IsEdgeFrom : Topology → ℕ → Relation → ℕ → ℕ × ℕ →
 IsEdgeFrom t s waits from edge =
     ReachesLocally t s waits from edge.0 × (has waits edge.0 edge.1 ≡ true) × ((b : ℕ) × At t edge.1 b × (b ≢ s))
 
--- the probes of `origin` along each wait that leaves the site from what `from` reaches locally
-pub record AreProbes (t : Topology) (s : ℕ) (waits : Relation) (origin from : ℕ)
-    (sent : List (ℕ × Frame)) : Type 0 where
+-- one thing for each wait of some kind, in the ascending order of the waits
+pub record AreOneForEach (IsEdge : ℕ × ℕ → Type 0) {A : Type 0} (along : ℕ × ℕ → A) (things : List A) : Type 0 where
   pub edges : List (ℕ × ℕ)
   pub ascending : IsStrictlySortedBy pair_cmp edges
-  pub all : (edge : ℕ × ℕ) → Contains edges edge ↔ IsEdgeFrom t s waits from edge
-  pub are : sent ≡ map (λ (edge : ℕ × ℕ). (site_of t edge.1, Probe (origin, edge.0, edge.1))) edges
+  pub all : (edge : ℕ × ℕ) → Contains edges edge ↔ IsEdge edge
+  pub are : things ≡ map along edges
+
+-- the probes of `origin` along each wait that leaves the site from what `from` reaches locally
+abbrev pub AreProbes : Topology → ℕ → Relation → ℕ → ℕ → List (ℕ × Frame) → Type 0
+AreProbes t s waits origin from sent =
+    AreOneForEach (IsEdgeFrom t s waits from) (λ edge. (site_of t edge.1, Probe (origin, edge.0, edge.1))) sent
 
 -- a declaration is recorded only where it is new
 abbrev pub newly : State → ℕ → Option ℕ

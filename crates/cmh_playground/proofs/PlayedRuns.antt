@@ -36,7 +36,7 @@ use Rattle.cmh_playground.specs.declared.site.Refused.TheVariants.{Full, Rule}
 use Rattle.cmh_playground.specs.declared.site.Step.{Step}
 use Rattle.cmh_playground.specs.declared.site.Step.TheVariants.{Taken, Refused as StepRefused}
 use Rattle.cmh_playground.specs.Links.{link_of, link_after, goes, next_of, with_all, without_first}
-use Rattle.cmh_playground.specs.Playground.{entries_at, link_at, Moves, Steps, Delivers, IsUntouched, IsStep, IsStepOf, IsDelivery, IsSeverance}
+use Rattle.cmh_playground.specs.Playground.{entries_at, link_at, Moves, WorldSteps, Delivers, IsUntouched, IsWorldStep, IsStepOf, IsDelivery, IsSeverance}
 use Rattle.cmh_playground.specs.Runs.{IsRunOf, IsPlayed, IsWantOfRoom}
 
 -- the frames of a link, where it is not cut
@@ -141,7 +141,7 @@ module _ (old new : Playground) (events : List WorldEvent) (of : IsRunOf old eve
   )
 
 -- a step that is no delivery
-pub stepped : (old new : Playground) (s : ℕ) (event : Event) (done : Done) → is_delivery event ≡ false → Steps old new s event done → IsPlayed old → IsPlayed new
+pub stepped : (old new : Playground) (s : ℕ) (event : Event) (done : Done) → is_delivery event ≡ false → WorldSteps old new s event done → IsPlayed old → IsPlayed new
 stepped old new s event done off step (events, of) =
     let next : (a : ℕ) → IsBeginningOf (frame_from a event) (under_way a s events) = λ a. (under_way a s events, ap (λ z. z ++ under_way a s events) (got_none a event off)) in
     let later : List WorldEvent = with_entry old new events of s event step.sent done.declared step.moves next in
@@ -152,11 +152,11 @@ stepped old new s event done off step (events, of) =
 pub stepped_of : (old new : Playground) (process : ℕ) (event : Event) (step : Step) → is_delivery event ≡ false → IsStepOf old new process event step → IsPlayed old → IsPlayed new
 stepped_of old new process event step off is played = go (home old.topology process) is
   where
-    at : (s : ℕ) (step : Step) → IsStep old new s event step → IsPlayed new
+    at : (s : ℕ) (step : Step) → IsWorldStep old new s event step → IsPlayed new
     at s (Taken done) is = stepped old new s event done off is played
     at s (StepRefused refused) is = untouched old new is.0 played
 
-    go : (h : Option ℕ) → MatchOption h ((step ≡ StepRefused (Rule UnknownProcess)) × IsUntouched old new) (λ s. IsStep old new s event step) → IsPlayed new
+    go : (h : Option ℕ) → MatchOption h ((step ≡ StepRefused (Rule UnknownProcess)) × IsUntouched old new) (λ s. IsWorldStep old new s event step) → IsPlayed new
     go None is = untouched old new is.1 played
     go (Some s) is = at s step is
 

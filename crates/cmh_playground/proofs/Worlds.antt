@@ -12,12 +12,12 @@ use Rattle.cmh_playground.specs.declared.site.Step.{Step}
 use Rattle.cmh_playground.specs.declared.site.Step.TheVariants.{Taken, Refused}
 use Rattle.cmh_playground.specs.Links.{link_of}
 use Rattle.cmh_playground.specs.Sites.{IsStanding, IsTaken}
-use Rattle.cmh_playground.specs.Playground.{entries_at, IsStep}
+use Rattle.cmh_playground.specs.Playground.{entries_at, IsWorldStep}
 use Rattle.cmh_playground.proofs.Seats.{seat_entries, new_entries, others_stay}
 
 -- the site is as it is, but for its entries
 taken_in : (old new : Playground) (s : ℕ) (later : List Entry) (event : Event) → new.topology ≡ old.topology → entries_at new s ≡ later
-    → ((q : ℕ) → q ≢ s → entries_at new q ≡ entries_at old q) → (step : Step) → IsTaken old.topology s (entries_at old s) later old.links new.links event step → IsStep old new s event step
+    → ((q : ℕ) → q ≢ s → entries_at new q ≡ entries_at old q) → (step : Step) → IsTaken old.topology s (entries_at old s) later old.links new.links event step → IsWorldStep old new s event step
 taken_in old new s later event topology here others (Taken done) k = record {
   sent = k.sent;
   moves = record { accepted = k.accepted; sends = k.sends; grows = here ∙ k.grows; others = others; topology = topology };
@@ -39,7 +39,7 @@ same_site js i l j w here same = same ∙ ap (λ (x : Journal). x.site) (here �
 -- the journal at place i, that of the site s, became w
 pub step_in : (old new : Playground) (s i : ℕ) (l : i < length old.journals.items) (c : Controller) (j w : Journal) (event : Event) → j ≡ get_or old.journals.items i j → j.site ≡ s → w.site ≡ j.site
     → IsStanding old.topology c w → new.topology ≡ old.topology → new.journals.items ≡ set old.journals.items i w
-    → (step : Step) → IsTaken old.topology j.site j.entries w.entries old.links new.links event step → IsStep old new s event step
+    → (step : Step) → IsTaken old.topology j.site j.entries w.entries old.links new.links event step → IsWorldStep old new s event step
 step_in old new s i l c j w event here site same stands topology journals step taken =
     let js = old.journals.items in
     let cs = old.controllers.items in

@@ -60,7 +60,7 @@ abbrev pub IsReason : Playground → ℕ → Event → Refused → Type 0
 IsReason world s event refused = IsReasonOf world.topology s (entries_at world s) event refused
 
 -- a step of s that came of an event
-pub record Steps (old new : Playground) (s : ℕ) (event : Event) (done : Done) : Type 0 where
+pub record WorldSteps (old new : Playground) (s : ℕ) (event : Event) (done : Done) : Type 0 where
   pub sent : List (ℕ × Frame)
   pub moves : Moves old new s event sent done.declared
   pub counted : done.sent ≡ length sent
@@ -76,15 +76,15 @@ pub record Delivers (old new : Playground) (a b : ℕ) (frame : Frame) (done : D
       else link_after old.links b sent c d)
 
 -- what came of an event at the site s
-abbrev pub IsStep : Playground → Playground → ℕ → Event → Step → Type 0
-IsStep old new s event (Taken done) = Steps old new s event done
-IsStep old new s event (StepRefused refused) = IsUntouched old new × IsReason old s event refused
+abbrev pub IsWorldStep : Playground → Playground → ℕ → Event → Step → Type 0
+IsWorldStep old new s event (Taken done) = WorldSteps old new s event done
+IsWorldStep old new s event (StepRefused refused) = IsUntouched old new × IsReason old s event refused
 
 -- what came of an event for the home of a process
 abbrev pub IsStepOf : Playground → Playground → ℕ → Event → Step → Type 0
 IsStepOf old new process event step =
     MatchOption (home old.topology process) ((step ≡ StepRefused (Rule UnknownProcess)) × IsUntouched old new)
-    (λ s. IsStep old new s event step)
+    (λ s. IsWorldStep old new s event step)
 
 -- what came of handing over the oldest frame from a to b
 abbrev pub IsDelivery : Playground → Playground → ℕ → ℕ → Delivery → Type 0

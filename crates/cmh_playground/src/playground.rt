@@ -85,7 +85,7 @@ impl fmt::Display for Severance {
 
 impl Playground {
     ghost use Rattle.cmh_audit.specs.Verdicts.{IsVerdictOn};
-    ghost use Rattle.cmh_playground.specs.Playground.{is_link, link_at, entries_at, IsDelivery, IsSeverance, IsStep, IsStepOf};
+    ghost use Rattle.cmh_playground.specs.Playground.{is_link, link_at, entries_at, IsDelivery, IsSeverance, IsWorldStep, IsStepOf};
 
     /// A world in which nothing has happened yet.
     pub fn new(alloc: Global, topology: &Topology) -> Result<Playground, AllocError>
@@ -180,7 +180,7 @@ impl Playground {
     /// Gives an event to a site's controller; `take` says what comes of it.
     fn step(&mut self, site: SiteId, event: Event) -> Result<Step, AllocError>
         requires { is_site self.old.topology site ≡ true }
-        ensures { IfOk result (IsStep self.old self.new site event) }
+        ensures { IfOk result (IsWorldStep self.old self.new site event) }
     {
         let Some(place) = place_of(&self.journals, site) else {
             // Each site of the topology has its journal here.

@@ -1,6 +1,7 @@
 -- Faults stay.
 use Rattle.std.proofs.Common.{◌≡◌, ◌≢◌, ℕ, ◌≤◌, List, [], ◌++◌, length, drop, sym, ap, ◌∙◌, subst, arith, append_assoc, length-append, None, Some}
 use Rattle.std.proofs.lemmas.List.{append-nil}
+use Rattle.std.proofs.lemmas.Option.{none-some}
 use Rattle.cmh_frames.specs.declared.edition.Edition.{Edition}
 use Rattle.cmh_frames.specs.declared.frame.Frame.{Frame}
 use Rattle.cmh_frames.specs.Wire.{hello}
@@ -13,13 +14,9 @@ use Rattle.cmh_reader.specs.Stream.{Reads, fault_of}
 use Rattle.cmh_reader.proofs.Fronts.{front_of_both, bad_stays}
 use Rattle.cmh_reader.proofs.Readings.{splits_more}
 
--- none isn't some
-pub none_some : (fault : ReadFault) → None ≡ Some fault → ⊥
-none_some fault e = cc
-
 -- a fault stays, however the stream goes on
 pub fault_stays : (edition : Edition) (senders stream piece : List ℕ) (frames : List Frame) (standing : Standing) (fault : ReadFault) → fault_of standing ≡ Some fault → Reads edition senders stream frames standing → Reads edition senders (stream ++ piece) frames standing
-fault_stays edition senders stream piece frames (Greeting rest) fault is reads = absurd (none_some fault is)
+fault_stays edition senders stream piece frames (Greeting rest) fault is reads = absurd (none-some fault is)
 fault_stays edition senders stream piece frames NoHello fault is reads = (
   record {
     whole = let long : 6 ≤ length stream = reads.0.whole in omega (arith, length-append stream piece);
@@ -38,16 +35,16 @@ fault_stays edition senders stream piece frames Stranger fault is reads = (
   },
   reads.1,
 )
-fault_stays edition senders stream piece frames (Open sender rest offset) fault is reads = absurd (none_some fault is)
+fault_stays edition senders stream piece frames (Open sender rest offset) fault is reads = absurd (none-some fault is)
 fault_stays edition senders stream piece frames (Broken sender offset) fault is reads =
     (reads.0 ++ piece, splits_more edition senders stream sender frames reads.0 piece reads.1, bad_stays reads.0 piece reads.2, reads.3)
 
 -- want of memory is no fault of a stream
 pub not_memory : (standing : Standing) (fault : ReadFault) → fault_of standing ≡ Some fault → fault ≢ Memory
-not_memory (Greeting rest) fault is same = absurd (none_some fault is)
+not_memory (Greeting rest) fault is same = absurd (none-some fault is)
 not_memory NoHello fault is same = cc
 not_memory Stranger fault is same = cc
-not_memory (Open sender rest offset) fault is same = absurd (none_some fault is)
+not_memory (Open sender rest offset) fault is same = absurd (none-some fault is)
 not_memory (Broken sender offset) fault is same = cc
 
 -- a reader of a stream with a fault takes nothing

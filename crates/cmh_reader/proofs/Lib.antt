@@ -1,5 +1,4 @@
 pub mod Fronts
-pub mod Joins
 pub mod Readings
 pub mod Wanted
 pub mod Hellos

@@ -2,6 +2,7 @@
 use Rattle.std.proofs.Common.{◌≡◌, ℕ, List, [], ◌∷◌, ◌++◌, drop, refl, sym, ap, ◌∙◌, subst, append_assoc, None, Some}
 use Rattle.std.specs.Prelude.{Contains}
 use Rattle.std.specs.List.{AllByRecursion}
+use Rattle.std.proofs.lemmas.Option.{none-some}
 use Rattle.cmh_frames.specs.declared.edition.Edition.{Edition}
 use Rattle.cmh_frames.specs.declared.frame.Frame.{Frame}
 use Rattle.cmh_frames.specs.declared.frame.Front.TheVariants.{Bad}
@@ -14,7 +15,6 @@ use Rattle.cmh_reader.specs.Reader.{Reader, StandsFor, Takes, ExpectsSame, Begin
 use Rattle.cmh_reader.specs.Stream.{Splits, Reads, fault_of}
 use Rattle.cmh_reader.proofs.Fronts.{front_of_both, bad_stays}
 use Rattle.cmh_reader.proofs.Hellos.{one_hello}
-use Rattle.cmh_reader.proofs.Faults.{none_some}
 
 -- the later of frames are frames
 each_behind : (frames later : List Frame) → AllByRecursion IsFrame (frames ++ later) → AllByRecursion IsFrame later
@@ -59,4 +59,4 @@ link_takes old new piece given same takes stream frames sent stands link =
 -- and no fault
 pub link_faultless : {P : Type 0} (old new : Reader) (piece : List ℕ) (given : List Frame) (fault : ReadFault) → fault_of new.standing ≡ Some fault → ExpectsSame old new → Takes old new piece given → (stream : List ℕ) (frames sent : List Frame) → StandsFor old stream frames
     → BeginsLink old.edition old.senders (stream ++ piece) sent → P
-link_faultless {P} old new piece given fault is same takes stream frames sent stands link = absurd (none_some fault (sym (link_takes old new piece given same takes stream frames sent stands link).0 ∙ is))
+link_faultless {P} old new piece given fault is same takes stream frames sent stands link = absurd (none-some fault (sym (link_takes old new piece given same takes stream frames sent stands link).0 ∙ is))

@@ -28,7 +28,7 @@ spelled_once (f ∷ frames) (g ∷ others) rest rest' F G none none' e =
 
 module _ (edition : Edition) (senders stream : List ℕ) where
   -- the hello in front
-  greets : (sender : ℕ) (frames : List Frame) (rest : List ℕ) → Splits edition senders stream sender frames rest → stream ≡ hello edition sender ++ (spelled frames ++ rest)
+  pub greets : (sender : ℕ) (frames : List Frame) (rest : List ℕ) → Splits edition senders stream sender frames rest → stream ≡ hello edition sender ++ (spelled frames ++ rest)
   greets sender frames rest s = s.whole ∙ append_assoc (hello edition sender) (spelled frames) rest
 
   -- a stream splits in one way
@@ -39,7 +39,7 @@ module _ (edition : Edition) (senders stream : List ℕ) where
       (one.0, same.0, same.1)
 
   -- a stream that begins with a hello isn't shorter
-  no_greeting : (site : ℕ) (behind : List ℕ) → stream ≡ hello edition site ++ behind → length stream < 6 → ⊥
+  pub no_greeting : (site : ℕ) (behind : List ℕ) → stream ≡ hello edition site ++ behind → length stream < 6 → ⊥
   no_greeting site behind same few = absurd (omega (arith, ap length same))
 
   -- no hello, or one

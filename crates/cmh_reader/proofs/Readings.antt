@@ -2,7 +2,6 @@
 use Rattle.std.proofs.Common.{◌≡◌, ℕ, ◌+◌, ◌-◌, ◌<◌, ◌≤◌, ◌^◌, min, List, [], ◌∷◌, ◌++◌, length, take, drop, refl, sym, ap, ◌∙◌, subst, arith, append_assoc, length-append, length-drop, length-take}
 use Rattle.std.proofs.lemmas.List.{append-nil, drop-drop, take_all, take-take, take_rest, length-take-le}
 use Rattle.std.proofs.Math.Seq.{take-append-add}
-use Rattle.std.specs.List.{AllByRecursion}
 use Rattle.cmh_frames.specs.declared.edition.Edition.{Edition}
 use Rattle.cmh_frames.specs.declared.frame.Frame.{Frame}
 use Rattle.cmh_frames.specs.declared.frame.Front.TheVariants.{Bad}
@@ -11,6 +10,7 @@ use Rattle.cmh_reader.specs.declared.standing.Standing.{Standing}
 use Rattle.cmh_reader.specs.declared.standing.Standing.TheVariants.{Greeting, Open, Broken}
 use Rattle.cmh_reader.specs.Stream.{Splits, Reads, place_behind}
 use Rattle.cmh_reader.proofs.Fronts.{bad_front, short_length, longer_than_begun}
+use Rattle.cmh_frames.proofs.Each.{all_append}
 use Rattle.cmh_frames.proofs.Fronts.{begins}
 
 -- frames behind others are spelled behind them
@@ -19,13 +19,8 @@ spelled-append [] ys = refl
 spelled-append (f ∷ xs) ys = ap (λ b. spelling f ++ b) (spelled-append xs ys) ∙ sym (append_assoc (spelling f) (spelled xs) (spelled ys))
 
 -- one frame more
-spelled-push : (xs : List Frame) (f : Frame) → spelled (xs ++ f ∷ []) ≡ spelled xs ++ spelling f
+pub spelled-push : (xs : List Frame) (f : Frame) → spelled (xs ++ f ∷ []) ≡ spelled xs ++ spelling f
 spelled-push xs f = spelled-append xs (f ∷ []) ∙ ap (λ b. spelled xs ++ b) (append-nil (spelling f))
-
--- frames with one more
-each_push : (frames : List Frame) (f : Frame) → AllByRecursion IsFrame frames → IsFrame f → AllByRecursion IsFrame (frames ++ f ∷ [])
-each_push [] f all one = (one, tt)
-each_push (g ∷ frames) f all one = (all.0, each_push frames f all.1 one)
 
 -- more bytes come into the rest
 pub splits_more : (edition : Edition) (senders stream : List ℕ) (sender : ℕ) (frames : List Frame) (rest more : List ℕ) → Splits edition senders stream sender frames rest → Splits edition senders (stream ++ more) sender frames (rest ++ more)
@@ -41,7 +36,7 @@ pub splits_push : (edition : Edition) (senders stream : List ℕ) (sender : ℕ)
 splits_push edition senders stream sender frames rest f behind s frame same = record {
   number = s.number;
   expected = s.expected;
-  each = each_push frames f s.each frame;
+  each = all_append IsFrame frames (f ∷ []) s.each (frame, tt);
   whole =
       s.whole ∙ ap (λ b. link_bytes edition sender frames ++ b) same ∙ sym (append_assoc (link_bytes edition sender frames) (spelling f) behind)
       ∙ ap (λ b. b ++ behind) (append_assoc (hello edition sender) (spelled frames) (spelling f) ∙ ap (λ b. hello edition sender ++ b) (sym (spelled-push frames f)));

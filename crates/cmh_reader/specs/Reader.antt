@@ -25,7 +25,8 @@ StandsFor reader stream frames = Reads reader.edition reader.senders stream fram
 
 -- Whatever stream the old reader stands for, the new one stands for it and the piece behind it, with these frames more.
 abbrev pub Takes : Reader → Reader → List ℕ → List Frame → Type 0
-Takes old new piece given = (stream : List ℕ) (frames : List Frame) → StandsFor old stream frames → StandsFor new (stream ++ piece) (frames ++ given)
+Takes old new piece given = (stream : List ℕ) (frames : List Frame) → StandsFor old stream frames → StandsFor new
+    (stream ++ piece) (frames ++ given)
 
 -- the readers expect the same
 pub record ExpectsSame (old new : Reader) : Type 0 where

@@ -25,7 +25,8 @@ pub record BeginsStrange (edition : Edition) (senders stream : List ℕ) : Type 
   pub whole : stream ≡ hello edition site ++ behind
 
 -- The stream is the hello of a site that is expected, then the spellings of the frames, then the rest.
-pub record Splits (edition : Edition) (senders stream : List ℕ) (sender : ℕ) (frames : List Frame) (rest : List ℕ) : Type 0 where
+pub record Splits (edition : Edition) (senders stream : List ℕ) (sender : ℕ) (frames : List Frame)
+    (rest : List ℕ) : Type 0 where
   pub number : IsNumber sender
   pub expected : Contains senders sender
   pub each : AllByRecursion IsFrame frames
@@ -52,7 +53,8 @@ Reads edition senders stream frames Stranger = BeginsStrange edition senders str
 Reads edition senders stream frames (Open sender rest offset) =
     Splits edition senders stream sender frames rest × IsFront rest Short × (offset ≡ place_behind frames)
 Reads edition senders stream frames (Broken sender offset) =
-    (rest : List ℕ) × Splits edition senders stream sender frames rest × IsFront rest Bad × (offset ≡ place_behind frames)
+    (rest : List ℕ) × Splits edition senders stream sender frames rest × IsFront rest Bad ×
+    (offset ≡ place_behind frames)
 
 -- the fault of a stream that has come to this
 abbrev pub fault_of : Standing → Option ReadFault

@@ -5,7 +5,6 @@ mod fault;
 pub mod laws;
 mod reader;
 mod reading;
-mod rest;
 mod standing;
 #[cfg(test)]
 mod tests;

@@ -7,9 +7,8 @@ ghost use Rattle.cmh_reader.specs.Reader.{StandsFor, Takes, ExpectsSame, BeginsL
 
 use crate::fault::ReadFault;
 use crate::reading::{Progress, greet, read_on};
-use crate::rest::Rest;
 use crate::standing::Standing;
-use cmh_frames::{Edition, Frame, SiteId};
+use cmh_frames::{Edition, Frame, SiteId, Spelled};
 use std::alloc::Global;
 use std::marker::Model;
 
@@ -49,7 +48,7 @@ impl FrameReader {
             alloc,
             edition,
             senders,
-            standing: Standing::Greeting(Rest::new()),
+            standing: Standing::Greeting(Spelled::new()),
             starved: false,
         }
     }

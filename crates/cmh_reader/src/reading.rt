@@ -6,9 +6,8 @@ ghost use Rattle.cmh_frames.specs.declared.edition.Edition.{Edition};
 ghost use Rattle.cmh_frames.specs.declared.frame.Frame.{Frame};
 ghost use Rattle.cmh_reader.specs.Stream.{HasMore, Reads, IsPending};
 
-use crate::rest::{MAX_FRAME_LEN, Rest};
 use crate::standing::Standing;
-use cmh_frames::{Edition, Frame, Front, HELLO_LEN, SiteId, decode_front, decode_hello};
+use cmh_frames::{Edition, Frame, Front, HELLO_LEN, SiteId, Spelled, decode_front, decode_hello};
 use std::alloc::{AllocError, Global};
 
 /// The frames that a piece made whole, and what the stream has come to behind it.
@@ -23,7 +22,7 @@ pub fn greet(
     alloc: Global,
     edition: Edition,
     senders: &[SiteId],
-    begun: &Rest,
+    begun: &Spelled,
     piece: &[u8],
 ) -> Result<Progress, AllocError>
     requires { length begun.now < 6 }
@@ -63,7 +62,7 @@ pub fn greet(
 pub fn read_on(
     alloc: Global,
     sender: SiteId,
-    begun: &Rest,
+    begun: &Spelled,
     offset: u64,
     piece: &[u8],
 ) -> Result<Progress, AllocError>
@@ -76,7 +75,7 @@ pub fn read_on(
         → Reads edition senders stream before (Standing.Open sender begun.now offset)
         → HasMore edition senders (stream ++ piece.now) before) }
 {
-    let bytes = begun.joined(piece, MAX_FRAME_LEN);
+    let bytes = begun.joined(piece, Spelled::MAX_LEN);
     let mut frames = Vec::new(alloc);
     match decode_front(bytes.as_slice()) {
         Front::Whole(frame, len) => {
@@ -131,7 +130,7 @@ fn read_frames(
                     frames,
                     standing: Standing::Open {
                         sender,
-                        rest: Rest::new().joined(&bytes[used..], MAX_FRAME_LEN),
+                        rest: Spelled::new().joined(&bytes[used..], Spelled::MAX_LEN),
                         offset: offset.saturating_add(used as u64),
                     },
                 });

@@ -4,14 +4,13 @@ ghost use Rattle.std.specs.Prelude.{◌≡◌};
 ghost use Rattle.cmh_reader.specs.Stream.{fault_of, sender_of, rest_of};
 
 use crate::fault::ReadFault;
-use crate::rest::Rest;
-use cmh_frames::SiteId;
+use cmh_frames::{SiteId, Spelled};
 
 /// What a stream has come to.
 #[derive(Debug, Drop)]
 pub enum Standing {
     /// These bytes of a hello that isn't whole.
-    Greeting(Rest),
+    Greeting(Spelled),
     /// Six bytes that are no hello.
     NoHello,
     /// The hello of a site that isn't expected.
@@ -19,7 +18,7 @@ pub enum Standing {
     /// A hello of `sender`, frames, and these bytes of a frame that isn't whole, whose first is at `offset`.
     Open {
         sender: SiteId,
-        rest: Rest,
+        rest: Spelled,
         offset: u64,
     },
     /// A hello of `sender`, frames, and no frame at `offset`.

@@ -2,8 +2,8 @@
 //!
 //! Each scenario makes calls, of which one may be refused memory, and looks at their answers: each is the undisturbed
 //! one or names want of memory, nothing has changed by a refusal, and the same call then gives the undisturbed answer.
-//! `cmh_refusals` runs all scenarios, `cmh_refusals NAME` one. Behind a name, `idle` leaves out those calls that take no
-//! memory, and `busy` does not. What is printed is the same whatever was refused.
+//! `cmh_refusals` runs all scenarios, `cmh_refusals NAME` one. Behind a name, `idle` leaves out those calls that take
+//! no memory, and `busy` does not. What is printed is the same whatever was refused.
 #![tactic(auto)]
 
 mod audits;
@@ -29,7 +29,8 @@ use std::{env, io};
 /// How often a scenario makes each call that takes no memory.
 const ROUNDS: u32 = 100;
 
-/// Runs a scenario, and once more where memory was refused to the scenario itself, since just one allocation is refused.
+/// Runs a scenario, and once more where memory was refused to the scenario itself, since just one allocation is
+/// refused.
 fn hold(alloc: Global, scenario: Scenario, rounds: u32) -> Result<(), Failure> {
     match scenario.run(alloc, rounds) {
         Err(Failure::Memory) => scenario.run(alloc, rounds),

@@ -13,13 +13,9 @@ use Rattle.cmh_frames.specs.declared.frame.Frame.TheVariants.{Probe}
 use Rattle.cmh_model.specs.Relation.{Relation, pair_cmp, has, has_some}
 use Rattle.cmh_model.proofs.PathLemmas.{path_ends_here}
 use Rattle.cmh_waits.specs.Held.{Held, is_member, IsMember}
-use Rattle.cmh_rules.specs.Verdicts.{AreProbesOf, AreProbesFrom, Reaches, acts}
-use Rattle.cmh_model.proofs.Fits.{all_append}
+use Rattle.cmh_rules.specs.Verdicts.{AreProbesOf, AreProbesFrom, Reaches, acts, probe_along}
+use Rattle.cmh_frames.proofs.Each.{all_append}
 use Rattle.cmh_model.proofs.Ascending.{head_below}
-
--- the probe along a wait
-abbrev pub along : ℕ → ℕ × ℕ → Frame
-along origin edge = Probe (origin, edge.0, edge.1)
 
 pub none_yet : (v : Held) (origin : ℕ) → AreProbesOf v origin [] []
 unfolding IsStrictlySortedBy
@@ -95,14 +91,14 @@ more_probes v processes p targets origin frames below up each so_far =
               Contains-append_right so_far.edges new edge (subst (λ q. Contains {X = ℕ × ℕ} new (q, edge.1)) is (in_pairs p targets edge.1 ((each edge.1).1 (subst (λ q. has v.waits q edge.1 ≡ true) (sym is) h.1, h.2))))
         ],
       );
-      are = ap (λ fs. fs ++ map (λ to. Probe (origin, p, to)) targets) so_far.are ∙ sym (map-append (along origin) so_far.edges new ∙ ap (λ fs. map (along origin) so_far.edges ++ fs) (along_pairs targets));
+      are = ap (λ fs. fs ++ map (λ to. Probe (origin, p, to)) targets) so_far.are ∙ sym (map-append (probe_along origin) so_far.edges new ∙ ap (λ fs. map (probe_along origin) so_far.edges ++ fs) (along_pairs targets));
     }
   where
     only : {q : ℕ} → Contains (p ∷ []) q → p ≡ q
     only (zero, h, e) = e
     only (suc n, h, e) = absurd (omega arith)
 
-    along_pairs : (ks : List ℕ) → map (along origin) (map (λ to. (p, to)) ks) ≡ map (λ to. Probe (origin, p, to)) ks
+    along_pairs : (ks : List ℕ) → map (probe_along origin) (map (λ to. (p, to)) ks) ≡ map (λ to. Probe (origin, p, to)) ks
     along_pairs [] = refl
     along_pairs (k ∷ ks) = ap (λ fs. Probe (origin, p, k) ∷ fs) (along_pairs ks)
 

@@ -1,12 +1,11 @@
 -- What the rules say of a start and of a probe, in terms of what a site holds of its members.
-use Rattle.std.specs.Prelude.{◌≡◌, ℕ, Bool, true, false, ◌↔◌, List, map, Contains}
-use Rattle.std.specs.List.Sorted.{IsStrictlySortedBy}
+use Rattle.std.specs.Prelude.{◌≡◌, ℕ, Bool, true, false, List, Contains}
 use Rattle.std.specs.FinSet as set
 use Rattle.cmh_frames.specs.declared.frame.Frame.{Frame}
 use Rattle.cmh_frames.specs.declared.frame.Frame.TheVariants.{Probe}
-use Rattle.cmh_model.specs.Relation.{Relation, pair_cmp, has}
+use Rattle.cmh_model.specs.Relation.{Relation, has}
 use Rattle.cmh_model.specs.Paths.{ReachesAmong, DependsOnItselfAmong}
-use Rattle.cmh_model.specs.Rules.{probe_acts}
+use Rattle.cmh_model.specs.Rules.{AreOneForEach, probe_acts}
 use Rattle.cmh_waits.specs.Held.{Held, is_member, IsMember}
 use Rattle.cmh_rules.specs.declared.starts.StartVerdict.{StartVerdict}
 use Rattle.cmh_rules.specs.declared.starts.StartVerdict.TheVariants.{Declared as Declared_at_start, Send}
@@ -25,22 +24,19 @@ DependsOnItself v p = DependsOnItselfAmong (λ r. IsMember v r) v.waits p
 abbrev pub LeavesFrom : Held → ℕ → ℕ × ℕ → Type 0
 LeavesFrom v from edge = Reaches v from edge.0 × (has v.waits edge.0 edge.1 ≡ true) × (is_member v edge.1 ≡ false)
 
--- the probes of `origin` along each of some waits
-pub record AreProbesAlong (IsEdge : ℕ × ℕ → Type 0) (origin : ℕ) (frames : List Frame) : Type 0 where
-  pub edges : List (ℕ × ℕ)
-  pub ascending : IsStrictlySortedBy pair_cmp edges
-  pub all : (edge : ℕ × ℕ) → Contains edges edge ↔ IsEdge edge
-  pub are : frames ≡ map (λ (edge : ℕ × ℕ). Probe (origin, edge.0, edge.1)) edges
+-- the probe of `origin` along a wait
+abbrev pub probe_along : ℕ → ℕ × ℕ → Frame
+probe_along origin edge = Probe (origin, edge.0, edge.1)
 
--- those along each wait that leaves the site from some of its members
+-- the probes of `origin` along each wait that leaves the site from some of its members
 abbrev pub AreProbesOf : Held → ℕ → List ℕ → List Frame → Type 0
 AreProbesOf v origin processes frames =
-    AreProbesAlong (λ edge.
-    Contains processes edge.0 × (has v.waits edge.0 edge.1 ≡ true) × (is_member v edge.1 ≡ false)) origin frames
+    AreOneForEach (λ edge.
+    Contains processes edge.0 × (has v.waits edge.0 edge.1 ≡ true) × (is_member v edge.1 ≡ false)) (probe_along origin) frames
 
 -- those along each wait that leaves the site from what `from` reaches
 abbrev pub AreProbesFrom : Held → ℕ → ℕ → List Frame → Type 0
-AreProbesFrom v origin from frames = AreProbesAlong (LeavesFrom v from) origin frames
+AreProbesFrom v origin from frames = AreOneForEach (LeavesFrom v from) (probe_along origin) frames
 
 -- ---- the verdicts
 

@@ -4,5 +4,5 @@
 mod entry_text;
 mod shown;
 
-pub use crate::entry_text::{EntryLines, EntryText};
+pub use crate::entry_text::{EntryLines, EntryText, EventText};
 pub use crate::shown::{Rest, Shown, read_shown};

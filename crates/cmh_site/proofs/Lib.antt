@@ -1,6 +1,2 @@
-pub mod PlayedLines
-pub mod Dialogues
-mod Named
-pub mod Plays
-pub mod SiteTurns
-pub mod KeptPlays
+pub mod Endings
+mod SiteTurns

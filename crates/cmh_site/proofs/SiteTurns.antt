@@ -1,8 +1,8 @@
 -- Lines that were answered for a site.
 use Rattle.std.proofs.Common.{◌≡◌, ℕ, Bool, List, Option, subst}
-use Rattle.cmh_site.specs.Dialogue.{HasAnswered}
+use Rattle.cmh_running.specs.Dialogue.{HasAnswered}
 use Rattle.cmh_site.specs.SiteTalk.{IsTurnOfSite}
-use Rattle.cmh_site.specs.declared.dialogue.Flow.{Flow}
+use Rattle.cmh_running.specs.declared.dialogue.Flow.{Flow}
 
 -- a line that was answered for this site
 pub for_site : (now site : ℕ) (was is : Bool) (flow : Flow) (said old new : Option (List ℕ)) → now ≡ site

@@ -1,7 +1,3 @@
-pub mod Dialogue
-pub mod Keeping
-pub mod Play
-pub mod Replies
+pub mod Endings
 pub mod SiteReplies
-pub mod SiteScript
 pub mod SiteTalk

@@ -9,20 +9,19 @@ use Rattle.cmh_station.specs.Journaled.{Journaled}
 use Rattle.cmh_station.specs.Steps.{NotStepped, Stepped}
 use Rattle.cmh_station.specs.declared.refusal.StationRefusal.{StationRefusal}
 use Rattle.cmh_station.specs.declared.refusal.StationRefusal.TheVariants.{Rule}
-use Rattle.cmh_files.specs.Audits.{AuditEnds}
 use Rattle.cmh_site.specs.SiteReplies.{reply_text}
-use Rattle.cmh_site.specs.SiteScript.{SaysToCluster, SaysToSite}
-use Rattle.cmh_site.specs.declared.dialogue.Flow.{Flow}
-use Rattle.cmh_site.specs.declared.dialogue.Flow.TheVariants.{Awaits, Ends}
+use Rattle.cmh_running.specs.SiteScript.{SaysToCluster, SaysToSite}
+use Rattle.cmh_running.specs.declared.dialogue.Flow.{Flow}
+use Rattle.cmh_running.specs.declared.dialogue.Flow.TheVariants.{Awaits, Ends}
 use Rattle.cmh_site.specs.declared.site_reply.SiteReply.{SiteReply}
 use Rattle.cmh_site.specs.declared.site_reply.SiteReply.TheVariants.{Silent, BadLine, BadLink, Late, Taken, Refused, Declared, Connected, Links}
-use Rattle.cmh_site.specs.declared.site_script.ClusterLine.{ClusterLine}
-use Rattle.cmh_site.specs.declared.site_script.ClusterLine.TheVariants.{Declared as DeclaredOf, Event as ClusterEvent}
-use Rattle.cmh_site.specs.declared.site_script.EventLine.{EventLine}
-use Rattle.cmh_site.specs.declared.site_script.EventLine.TheVariants.{Silent as SilentEvent, Bad as BadEvent, Act as ActEvent}
-use Rattle.cmh_site.specs.declared.site_script.Order.TheVariants.{Declared as DeclaredOrder, Connect as ConnectOrder, Links as LinksOrder, Quit}
-use Rattle.cmh_site.specs.declared.site_script.SiteLine.{SiteLine}
-use Rattle.cmh_site.specs.declared.site_script.SiteLine.TheVariants.{Order as SiteOrder, Event as SiteEvent}
+use Rattle.cmh_running.specs.declared.site_script.ClusterLine.{ClusterLine}
+use Rattle.cmh_running.specs.declared.site_script.ClusterLine.TheVariants.{Declared as DeclaredOf, Event as ClusterEvent}
+use Rattle.cmh_running.specs.declared.site_script.EventLine.{EventLine}
+use Rattle.cmh_running.specs.declared.site_script.EventLine.TheVariants.{Silent as SilentEvent, Bad as BadEvent, Act as ActEvent}
+use Rattle.cmh_running.specs.declared.site_script.Order.TheVariants.{Declared as DeclaredOrder, Connect as ConnectOrder, Links as LinksOrder, Quit}
+use Rattle.cmh_running.specs.declared.site_script.SiteLine.{SiteLine}
+use Rattle.cmh_running.specs.declared.site_script.SiteLine.TheVariants.{Order as SiteOrder, Event as SiteEvent}
 
 -- A station took the event, by the rules, and its entry was kept. Which station it was is not told: what comes out of a lock
 -- is known by its type alone.
@@ -107,9 +106,3 @@ pub record IsTurnOfCluster (t : Topology) (line : Option (List ℕ)) (text : Lis
   pub says : WasSaidToCluster line said
   pub answers : AnswersCluster t said reply
   pub text_is : text ≡ reply_text reply
-
--- some files were audited, behind what was written before: its text, or why there is none
-pub record AuditsSome (topology : List ℕ) (new : Option (List ℕ)) (has_failed is_flushed : Bool) (err_old err_new : Option (List ℕ)) (err_failed : Bool) (status : ℕ) : Type 0 where
-  pub files : List (List ℕ)
-  pub before : Option (List ℕ)
-  pub ends : AuditEnds topology files before new has_failed is_flushed err_old err_new err_failed status

@@ -1,30 +1,29 @@
 //! The command `cluster`: all sites of a topology as threads of one program, driven by a script.
 
-ghost use Rattle.std.specs.Prelude.{◌≡◌, ◌⊎◌, MatchOption, IfOk, IfErr, IfSome};
+ghost use Rattle.std.specs.Prelude.{◌≡◌, ◌⊎◌, None, true, MatchOption, IfOk, IfErr, IfSome, OnOk, length, map};
 ghost use Rattle.cmh_controller.specs.declared.refusal.Refusal.TheVariants.{UnknownProcess};
 ghost use Rattle.cmh_files.specs.Status.{IsStatus};
-ghost use Rattle.cmh_frames.specs.Topology.{home};
-ghost use Rattle.cmh_site.specs.Dialogue.{Conversed, HasAnswered, line_of};
-ghost use Rattle.cmh_site.specs.Play.{IsAnswerFault, IsPlayFault};
+ghost use Rattle.cmh_frames.specs.Topology.{home, sites_of};
+ghost use Rattle.cmh_running.specs.Dialogue.{Conversed, HasAnswered, line_of};
+ghost use Rattle.cmh_site.specs.Endings.{Answered, AuditsSome, IsRunFault, IsStartFault, NamesClosed};
+ghost use Rattle.cmh_play.specs.Play.{IsAnswerFault, IsPlayFault};
 ghost use Rattle.cmh_site.specs.declared.site_reply.SiteReply.TheVariants.{Refused};
 ghost use Rattle.cmh_station.specs.declared.refusal.StationRefusal.TheVariants.{Rule};
-ghost use Rattle.cmh_site.specs.SiteTalk.{AnswersCluster, AuditsSome, IsDeclared, IsTurnOfCluster, WasSaidToCluster, WasSteppedOrAway};
+ghost use Rattle.cmh_site.specs.SiteTalk.{AnswersCluster, IsDeclared, IsTurnOfCluster, WasSaidToCluster, WasSteppedOrAway};
 
-use crate::dialogue::Flow;
-use crate::journal_file::{can_be_made, path_in};
-use crate::ports::Ports;
-use crate::settling::Tally;
 use crate::site_reply::{ClosedLink, SiteReply};
-use crate::site_script::{ClusterLine, EventLine, parse_for_cluster};
 use crate::starting::{FileStation, Opened, Running, declared, open_station, start_threads, step};
-use cmh_carriers::{Listen, TcpListen};
+use cmh_carriers::{Dial, Listen, TcpDial, TcpListen};
 use cmh_controller::Refusal;
 use cmh_files::{Fault, read_topology_file_with_ports, run_audit};
 use cmh_frames::{ProcId, SiteId, Topology};
+use cmh_journal::{FileSink, Sink};
 use cmh_links::{LinkFault, LinkState};
 use cmh_model::Event;
+use cmh_play::path_in;
+use cmh_running::{ClusterLine, EventLine, Flow, Ports, Tally, can_be_made, parse_for_cluster};
 use cmh_script::{Device, NextLine, read_line};
-use cmh_station::{BoardReader, StationRefusal};
+use cmh_station::{BoardReader, KeptBoard, Listing, StationRefusal};
 use std::alloc::{AllocError, Global};
 use std::fs::File;
 use std::io::{ErrorKind, Read, Write};
@@ -65,8 +64,8 @@ where
     ensures status { IsStatus result }
 
     // At status 0 the files that were read back were audited and accepted.
-    ensures audit { result ≡ 0 → AuditsSome topology.now (W.contents out.new.inner) out.new.has_failed out.new.is_flushed
-        (E.contents err.old.inner) (E.contents err.new.inner) err.new.has_failed result }
+    ensures audit { result ≡ 0 → AuditsSome topology.now (W.contents out.new.inner) out.new.has_failed
+        out.new.is_flushed (E.contents err.old.inner) (E.contents err.new.inner) err.new.has_failed result }
 {
     match cluster_into(rt, alloc, topology, script, dir, out) {
         Ok(Some(journals)) => run_audit(alloc, topology, &journals, out, err),
@@ -134,7 +133,10 @@ fn read_back<R: Files<File = File> + AllocGlobal>(
     alloc: Global,
     world: &Topology,
     dir: &str,
-) -> Result<Vec<Vec<u8>>, Fault> {
+) -> Result<Vec<Vec<u8>>, Fault>
+    ensures one_each { IfOk result (λ journals. length journals.items ≡ length (sites_of world.now)) }
+    ensures fault { IfErr result (λ fault. (fault ≡ Fault.OutFile) ⊎ (fault ≡ Fault.Memory)) }
+{
     let mut journals = Vec::with_capacity(alloc, world.sites().len())?;
     for site in world.sites() {
         let path = path_in(alloc, dir, *site)?;
@@ -199,6 +201,9 @@ where
         + Send
         + Drop
         + 'static,
+    FileSink<File>: Sink,
+    KeptBoard<R>: Listing,
+    TcpDial<R>: Dial,
 {
     rt: R,
     alloc: Global,
@@ -222,13 +227,18 @@ where
         + 'static,
 {
     /// Starts all sites, answers the script, and tells which links closed.
+    #[tactic(auto, using(crate::proofs::Endings::answered, crate::proofs::Endings::none_closed))]
     fn play<W: Write>(
         &mut self,
         ports: &Ports,
         dir: &str,
         script: &[u8],
         out: &mut Device<W>,
-    ) -> Result<(), Fault> {
+    ) -> Result<(), Fault>
+        ensures answered { OnOk result (Answered self.old.topology.now script.now
+            (W.contents out.old.inner) (W.contents out.new.inner)) }
+        ensures fault { IfErr result (IsRunFault out.new.has_failed) }
+    {
         self.start_all(ports, dir)?;
         for threads in self.running.iter_mut() {
             let _ = threads.connect();
@@ -248,7 +258,10 @@ where
 
     /// Every port is taken first, so that sites which run already keep their journals; then every journal is made, and
     /// only then does any site start.
-    fn start_all(&mut self, ports: &Ports, dir: &str) -> Result<(), Fault> {
+    fn start_all(&mut self, ports: &Ports, dir: &str) -> Result<(), Fault>
+        ensures topology { self.new.topology ≡ self.old.topology }
+        ensures fault { IfErr result IsStartFault }
+    {
         let listens = self.listen_all(ports, dir)?;
         let opened = self.open_all(dir)?;
         let sites = self.topology.sites();
@@ -265,7 +278,10 @@ where
         ports: &Ports,
         opened: Opened<R>,
         listen: TcpListen,
-    ) -> Result<(), Fault> {
+    ) -> Result<(), Fault>
+        ensures topology { self.new.topology ≡ self.old.topology }
+        ensures fault { IfErr result IsStartFault }
+    {
         if listen.faults() != 0 {
             // Never so: nothing was asked of it yet.
             return Err(Fault::Listen);
@@ -291,7 +307,9 @@ where
     }
 
     /// Listens for all sites. Where a port is taken and a journal can't be made, the journal is named.
-    fn listen_all(&self, ports: &Ports, dir: &str) -> Result<Vec<TcpListen>, Fault> {
+    fn listen_all(&self, ports: &Ports, dir: &str) -> Result<Vec<TcpListen>, Fault>
+        ensures { IfErr result IsStartFault }
+    {
         let mut listens = Vec::with_capacity(self.alloc, self.topology.sites().len())?;
         let mut is_taken = false;
         for site in self.topology.sites() {
@@ -312,7 +330,9 @@ where
         Err(Fault::Listen)
     }
 
-    fn open_all(&self, dir: &str) -> Result<Vec<Opened<R>>, Fault> {
+    fn open_all(&self, dir: &str) -> Result<Vec<Opened<R>>, Fault>
+        ensures { IfErr result IsStartFault }
+    {
         let mut opened = Vec::with_capacity(self.alloc, self.topology.sites().len())?;
         for site in self.topology.sites() {
             let path = path_in(self.alloc, dir, *site)?;
@@ -478,7 +498,11 @@ where
     }
 
     /// A line for each link that is closed, ascending.
-    fn write_closed<W: Write>(&self, out: &mut Device<W>) -> Result<(), Fault> {
+    #[tactic(auto, using(crate::proofs::Endings::none_closed, crate::proofs::Endings::one_more_closed))]
+    fn write_closed<W: Write>(&self, out: &mut Device<W>) -> Result<(), Fault>
+        ensures closed { OnOk result (NamesClosed (W.contents out.old.inner) (W.contents out.new.inner)) }
+        ensures fault { IfErr result (IsRunFault out.new.has_failed) }
+    {
         for (i, from) in self.topology.sites().iter().enumerate() {
             for (k, to) in self.topology.sites().iter().enumerate() {
                 if let Some(fault) = self.fault_of(i, k) {

@@ -1,24 +1,26 @@
 //! The command `site`: one site, driven by the lines of an input.
 
-ghost use Rattle.std.specs.Prelude.{◌≡◌, true, IfOk, IfErr, IfSome, MatchBool};
+ghost use Rattle.std.specs.Prelude.{◌≡◌, ◌≢◌, ◌⊎◌, true, IfOk, IfErr, IfSome, MatchBool, OnOk};
+ghost use Rattle.cmh_files.specs.Faults.{NamesFault};
 ghost use Rattle.cmh_files.specs.Status.{IsStatus};
-ghost use Rattle.cmh_site.specs.Dialogue.{Conversed, HasAnswered, line_of};
-ghost use Rattle.cmh_site.specs.Play.{IsAnswerFault, IsPlayFault};
+ghost use Rattle.cmh_running.specs.Dialogue.{Conversed, HasAnswered, line_of};
+ghost use Rattle.cmh_site.specs.Endings.{IsSiteFault, Served, Welcomed};
+ghost use Rattle.cmh_play.specs.Play.{IsAnswerFault, IsPlayFault};
 ghost use Rattle.cmh_site.specs.SiteTalk.{AnswersSite, IsConnected, IsTurnOfSite, WasSaidToSite};
 
-use crate::dialogue::Flow;
-use crate::journal_file::{NoFile, can_be_made, keep_old};
-use crate::ports::Ports;
 use crate::site_reply::SiteReply;
-use crate::site_script::{EventLine, Order, SiteLine, parse_for_site};
 use crate::starting::{
     FileStation, Running, declared, link_ends, open_station, start_threads, step,
 };
-use cmh_carriers::TcpListen;
+use cmh_carriers::{Dial, TcpDial, TcpListen};
 use cmh_files::{Fault, read_topology_file_with_ports};
 use cmh_frames::{SiteId, Topology};
+use cmh_journal::{FileSink, Sink};
+use cmh_running::{
+    EventLine, Flow, NoFile, Order, Ports, SiteLine, can_be_made, keep_old, parse_for_site,
+};
 use cmh_script::{Device, NextLine, read_line};
-use cmh_station::BoardReader;
+use cmh_station::{BoardReader, KeptBoard, Listing};
 use std::alloc::{AllocError, Global};
 use std::fs::File;
 use std::io::{Read, Write};
@@ -53,6 +55,17 @@ where
         + Drop
         + 'static,
     ensures status { IsStatus result }
+
+    // At status 0 it said that it listens, answered each line in its order, and said that it stopped.
+    ensures served { result ≡ 0 → IfSome (I.remaining input.old.inner)
+        (λ bytes. Served site bytes (W.contents out.old.inner) (W.contents out.new.inner)) }
+    ensures flushed { result ≡ 0 → out.new.is_flushed ≡ true }
+    ensures silent { result ≡ 0 → err.new ≡ err.old }
+
+    // Else a fault is named that has a cause.
+    ensures fault { result ≢ 0 → NamesFault
+        (IsSiteFault topology.now site (I.remaining input.old.inner) input.new.has_failed out.new.has_failed)
+        result (E.contents err.old.inner) (E.contents err.new.inner) err.new.has_failed }
 {
     match site_into(rt, alloc, topology, site, journal, input, out) {
         Ok(()) => 0,
@@ -60,6 +73,7 @@ where
     }
 }
 
+#[tactic(auto, using(crate::proofs::Endings::served))]
 fn site_into<R, I: Read, W: Write>(
     rt: R,
     alloc: Global,
@@ -78,6 +92,11 @@ where
         + Send
         + Drop
         + 'static,
+    ensures served { OnOk result (IfSome (I.remaining input.old.inner)
+        (λ bytes. Served site bytes (W.contents out.old.inner) (W.contents out.new.inner))) }
+    ensures flushed { OnOk result (out.new.is_flushed ≡ true) }
+    ensures fault { IfErr result
+        (IsSiteFault topology.now site (I.remaining input.old.inner) input.new.has_failed out.new.has_failed) }
 {
     let (file, ports) = read_topology_file_with_ports(alloc, topology)?;
     let world = Topology::new(alloc, file.edition, &file.rows)?;
@@ -129,7 +148,8 @@ where
 fn listen_at<R>(rt: &R, alloc: Global, port: u16, journal: &str) -> Result<TcpListen, Fault>
 where
     R: Net<Listener = TcpListener, Stream = TcpStream> + Files<File = File>,
-    ensures { IfOk result (λ listen. listen.faults ≡ 0) }
+    ensures listens { IfOk result (λ listen. listen.faults ≡ 0) }
+    ensures fault { IfErr result (λ fault. (fault ≡ Fault.Listen) ⊎ (fault ≡ Fault.JournalDisk)) }
 {
     match TcpListen::bind(rt, alloc, port) {
         Ok(listen) => Ok(listen),
@@ -148,6 +168,9 @@ where
         + Send
         + Drop
         + 'static,
+    FileSink<File>: Sink,
+    KeptBoard<R>: Listing,
+    TcpDial<R>: Dial,
 {
     rt: R,
     alloc: Global,
@@ -174,7 +197,12 @@ where
         &mut self,
         input: &mut Device<I>,
         out: &mut Device<W>,
-    ) -> Result<(), Fault> {
+    ) -> Result<(), Fault>
+        ensures served { IfSome (I.remaining input.old.inner) (λ bytes.
+            Welcomed self.old.site self.old.has_connected bytes
+            (W.contents out.old.inner) (W.contents out.new.inner) out.new.has_failed result) }
+        ensures fault { IfErr result (IsPlayFault (I.remaining input.old.inner) input.new.has_failed out.new.has_failed) }
+    {
         out.write_line("listening")?;
         out.flush()?;
         self.answer_all(input, out)

@@ -1,9 +1,9 @@
 //! A running site: its station over a file, its threads, and the calls that lines make.
 
-ghost use Rattle.std.specs.Prelude.{◌≡◌, IfOk, IfErr};
+ghost use Rattle.std.specs.Prelude.{◌≡◌, ◌⊎◌, IfOk, IfErr};
+ghost use Rattle.cmh_site.specs.Endings.{IsNewStation};
 ghost use Rattle.cmh_site.specs.SiteTalk.{IsDeclared, IsLinks, WasStepped};
 
-use crate::ports::Ports;
 use crate::site_reply::{LinkEnds, SiteReply};
 use cmh_carriers::{TcpDial, TcpListen};
 use cmh_files::Fault;
@@ -12,6 +12,7 @@ use cmh_journal::FileSink;
 use cmh_links::SiteThreads;
 use cmh_model::Event;
 use cmh_playground::Done;
+use cmh_running::Ports;
 use cmh_station::{BoardReader, KeptBoard, LinkTap, SharedStation, Station, StationRefusal};
 use std::alloc::{AllocError, Global};
 use std::fs::File;
@@ -45,6 +46,8 @@ pub(crate) fn open_station<R>(
 ) -> Result<Opened<R>, Fault>
 where
     R: Wait + Files<File = File> + Copy + Drop,
+    ensures fresh { IfOk result (λ opened. IsNewStation topology.now site opened.station.core) }
+    ensures fault { IfErr result (λ fault. (fault ≡ disk) ⊎ (fault ≡ Fault.Memory)) }
 {
     let Ok(sink) = FileSink::create(&rt, path) else {
         return Err(disk);
@@ -86,6 +89,7 @@ where
         + Drop
         + 'static,
     requires { listen.faults ≡ 0 }
+    ensures fault { IfErr result (λ fault. fault ≡ Fault.Memory) }
 {
     let Opened {
         station,

@@ -228,8 +228,8 @@ fn a_second_connection_of_a_site_is_refused(rt: HostRuntime) -> Result<(), Fail>
     Ok(())
 }
 
-/// Whether ten megabytes that are no hello are refused. The site closes the connection behind the first bytes, so that writing
-/// fails.
+/// Whether ten megabytes that are no hello are refused. The site closes the connection behind the first bytes, so that
+/// writing fails.
 fn is_noise_refused<R: Net<Stream = TcpStream>>(rt: &R, port: u16) -> Result<bool, Fail> {
     let mut noisy = open(rt, port)?;
     let noise = [0xFF; 4096];

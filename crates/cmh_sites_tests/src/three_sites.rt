@@ -6,20 +6,25 @@ use crate::fixture::{Shared, listen, process, receipts, sendings, share, site, s
 use cmh_carriers::{TcpDial, TcpListen};
 use cmh_frames::{SiteId, Topology};
 use cmh_journal::MemSink;
-use cmh_links::SiteThreads;
+use cmh_links::{LinkState, SiteThreads};
 use cmh_model::{Event, Targets};
 use cmh_station::{KeptBoard, ParkingTap};
 use std::alloc::Global;
 use std::net::{Net, TcpListener, TcpStream};
 use std::sync::{Arc, Wait};
 use std::test::Fail;
+use std::thread;
 use std::thread::Threads;
+use std::time::{Clock, Duration};
 
 /// How many processes each site has.
 const PROCESSES: u16 = 17;
 
 /// How often each site starts a probe computation.
 const STARTS: usize = 150;
+
+/// How many milliseconds a link may take to be read.
+const PATIENCE: usize = 20_000;
 
 /// The threads of a site of the test.
 type Running<R> = SiteThreads<R, MemSink, KeptBoard<R>, TcpDial<R>>;
@@ -135,6 +140,34 @@ where
     (connected, failed)
 }
 
+/// Whether each site has read the hello of each other one.
+fn have_all_come_in<R>(rt: &R, running: &[Running<R>], topology: &Topology) -> bool
+where
+    R: Wait + Threads + Net<Stream = TcpStream> + Copy + Send + Drop + 'static,
+{
+    for threads in running {
+        for other in topology.sites() {
+            if threads.links().lock(rt).state_in(*other) == Some(LinkState::Fresh) {
+                return false;
+            }
+        }
+    }
+    true
+}
+
+/// Waits until all links are read, for some seconds at most: a connection that was not accepted before the end is lost.
+fn let_all_come_in<R>(rt: &R, running: &[Running<R>], topology: &Topology)
+where
+    R: Wait + Clock + Threads + Net<Stream = TcpStream> + Copy + Send + Drop + 'static,
+{
+    for _ in 0..PATIENCE {
+        if have_all_come_in(rt, running, topology) {
+            return;
+        }
+        thread::sleep(rt, Duration::from_millis(1));
+    }
+}
+
 /// Lets the writing threads of all end.
 fn end_all<R>(running: &[Running<R>])
 where
@@ -168,8 +201,8 @@ fn others(alloc: Global, first: u16) -> Result<Targets, Fail> {
     Ok(Targets::new(targets))
 }
 
-/// The site's first process asks all but the first of the next site, and then starts its computations. Says how many steps were
-/// taken.
+/// The site's first process asks all but the first of the next site, and then starts its computations. Says how many
+/// steps were taken.
 fn act<R: Wait + Drop>(
     rt: &R,
     alloc: Global,
@@ -246,12 +279,13 @@ struct Done {
 fn run_all<R>(
     rt: &R,
     alloc: Global,
+    topology: &Topology,
     started: Result<(), Fail>,
     mut running: Vec<Running<R>>,
     stations: &[Shared<R, MemSink>],
 ) -> Result<Done, Fail>
 where
-    R: Wait + Threads + Net<Stream = TcpStream> + Copy + Send + Drop + 'static,
+    R: Wait + Clock + Threads + Net<Stream = TcpStream> + Copy + Send + Drop + 'static,
 {
     if let Err(fail) = started {
         let _ = stop_all(running);
@@ -259,6 +293,7 @@ where
     }
     let connected = connect_all(&mut running);
     let connected_again = connect_all(&mut running);
+    let_all_come_in(rt, &running, topology);
     let steps = act_all(rt, alloc, stations);
     let taps = stop_all(running);
     Ok(Done {
@@ -288,7 +323,7 @@ fn each_links_receipts_are_its_sendings(rt: HostRuntime) -> Result<(), Fail> {
     let stations = stations_of(rt.alloc(), &all)?;
     let mut running = Vec::with_capacity(rt.alloc(), 3)?;
     let started = start_all(rt, rt.alloc(), &topology, all, &mut running);
-    let done = run_all(&rt, rt.alloc(), started, running, &stations)?;
+    let done = run_all(&rt, rt.alloc(), &topology, started, running, &stations)?;
     let wanted = Done {
         connected: (6, 0),
         connected_again: (0, 0),

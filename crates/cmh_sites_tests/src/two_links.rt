@@ -217,8 +217,8 @@ fn make_sink(alloc: Global, syncs: &Arc<AtomicU64>) -> Result<Counting, AllocErr
     })
 }
 
-/// The first link's connection gives its frame once the station has taken one of the second's, which gives another once the
-/// station has taken that of the first. (The first sync is that of the journal's header.)
+/// The first link's connection gives its frame once the station has taken one of the second's, which gives another once
+/// the station has taken that of the first. (The first sync is that of the journal's header.)
 fn gated_arrivals(alloc: Global, syncs: &Arc<AtomicU64>) -> Result<Arrivals, Fail>
     ensures { IfOk result (λ arrivals. arrivals.faults ≡ 0) }
 {

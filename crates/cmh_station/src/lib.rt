@@ -1,5 +1,5 @@
-//! A site's station: its controller with a journal that a sink keeps, its ends of the links to the other sites, and a board
-//! of what it has declared; and the lock under which threads share it.
+//! A site's station: its controller with a journal that a sink keeps, its ends of the links to the other sites, and a
+//! board of what it has declared; and the lock under which threads share it.
 #![tactic(auto)]
 
 mod batch;

@@ -20,8 +20,8 @@ pub struct SharedStation<S: Sink, B: Listing> {
 }
 
 impl<S: Sink, B: Listing> SharedStation<S, B> {
-    /// The station under a lock, and its taps, each with a parker of its own, in their order. Where memory is refused all
-    /// comes back.
+    /// The station under a lock, and its taps, each with a parker of its own, in their order. Where memory is refused
+    /// all comes back.
     pub fn new(
         alloc: Global,
         station: Station<S, B>,
@@ -43,8 +43,8 @@ impl<S: Sink, B: Listing> SharedStation<S, B> {
         Ok((shared, with_parkers(taps, parkers, parking)))
     }
 
-    /// The station, lent until the guard is dropped. It waits for whoever holds it; a thread that holds it and asks again
-    /// waits for ever.
+    /// The station, lent until the guard is dropped. It waits for whoever holds it; a thread that holds it and asks
+    /// again waits for ever.
     pub fn lock<R: Wait>(&self, rt: &R) -> MutexGuard<'_, Station<S, B>> {
         self.station.lock(rt)
     }

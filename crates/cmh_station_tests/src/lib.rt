@@ -4,7 +4,17 @@
 #[cfg(test)]
 mod batches;
 #[cfg(test)]
+mod boards;
+#[cfg(test)]
+mod failing;
+#[cfg(test)]
 mod links;
+#[cfg(test)]
+mod locking;
+#[cfg(test)]
+mod many;
+#[cfg(test)]
+mod sinks;
 #[cfg(test)]
 mod steps;
 #[cfg(test)]

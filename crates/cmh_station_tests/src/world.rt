@@ -77,7 +77,7 @@ pub fn told(answer: &Result<Outcome, StationRefusal>) -> Result<usize, u8> {
     }
 }
 
-/// A station of site 1 and the tap of its one link.
+/// A station and the tap of its one link.
 #[derive(Drop)]
 pub struct Opened {
     pub station: JournaledController<MemSink>,
@@ -85,10 +85,19 @@ pub struct Opened {
 }
 
 impl Opened {
-    /// Over a sink of this room.
+    /// Of site 1, over a sink of this room.
     pub fn new(alloc: Global, topology: &Topology, room: u64) -> Result<Opened, Fail> {
-        let sink = MemSink::new(alloc, Some(room));
-        let Ok((station, mut taps)) = JournaledController::new(alloc, topology, site(1)?, sink)
+        Opened::at(alloc, topology, 1, Some(room))
+    }
+
+    pub fn at(
+        alloc: Global,
+        topology: &Topology,
+        number: u16,
+        room: Option<u64>,
+    ) -> Result<Opened, Fail> {
+        let sink = MemSink::new(alloc, room);
+        let Ok((station, mut taps)) = JournaledController::new(alloc, topology, site(number)?, sink)
         else {
             return Err(Fail::new("no station"));
         };
@@ -100,6 +109,20 @@ impl Opened {
 
     pub fn step(&mut self, event: &Event) -> Result<usize, u8> {
         told(&self.station.step(event))
+    }
+
+    /// A step that is passed over where it is refused.
+    pub fn pass(&mut self, event: &Event) {
+        let _ = self.station.step(event);
+    }
+
+    /// A step of a frame from this site, if there is one.
+    pub fn deliver(&mut self, from: u16, frame: Option<Frame>) -> Result<(), Fail> {
+        if let Some(frame) = frame {
+            let from = site(from)?;
+            self.pass(&Event::Got { from, frame });
+        }
+        Ok(())
     }
 
     /// How many frames can be taken.

@@ -55,14 +55,14 @@ got_sites t w s a (Reply_frame (x, y)) acc = (site_listed t x a acc.1, site_list
 got_sites t w s a (Probe (o, x, y)) acc = (site_listed t x a acc.1, site_listed t y s acc.2)
 
 -- how the measure falls: where a reply came, and where another frame did
+pub times_one_more : (a p : ℕ) → (a + 1) * p ≡ a * p + p
+times_one_more a p = omega arith
+
 reply_falls : (f f' u u' a a' p : ℕ) → f' + 1 ≤ f → u' ≤ p → a' + 1 ≤ a → f' + (u' + a' * p) + 1 ≤ f + (u + a * p)
 reply_falls f f' u u' a a' p less few fewer =
     let product = mul-le-mul_right p fewer in
     let one_more : (a' + 1) * p ≡ a' * p + p = times_one_more a' p in
     omega arith
-  where
-    times_one_more : (a p : ℕ) → (a + 1) * p ≡ a * p + p
-    times_one_more a p = omega arith
 
 other_falls : (f f' l u u' a a' p : ℕ) → f' + 1 ≤ f + l → u' + l ≤ u → a' ≤ a → f' + (u' + a' * p) + 1 ≤ f + (u + a * p)
 other_falls f f' l u u' a a' p less fewer same =

@@ -17,7 +17,8 @@ use Rattle.cmh_model.specs.Waits.{IsCycle}
 use Rattle.cmh_model.specs.LastAsker.{is_ask_of, AskedLast}
 use Rattle.cmh_model.specs.Settling.{GoesOn, IsSettled, EachRunComesToRest, EachDeadlockFound, RestTells, most_deliveries, is_any_reply, is_delivery, most_probes}
 use Rattle.cmh_model.proofs.Deliveries.{site_listed}
-use Rattle.cmh_model.proofs.Fits.{FrameFits, under_way_fits, all_append}
+use Rattle.cmh_frames.proofs.Each.{all_append}
+use Rattle.cmh_model.proofs.Fits.{FrameFits, under_way_fits}
 use Rattle.cmh_model.proofs.Journals.{run_front, whole, sent_on, got_on}
 use Rattle.cmh_model.proofs.Lawful.{lawful_states}
 use Rattle.cmh_model.proofs.Places.{frame_from-yes}
@@ -28,7 +29,7 @@ use Rattle.cmh_world.proofs.RunsSoFar.{world_of, one_step, dark_path}
 use Rattle.cmh_world.proofs.LastAsker.{last_ask, waited}
 use Rattle.cmh_world.proofs.DrainedRuns.{last_asker_declared, each_cycle_declared}
 use Rattle.cmh_world.proofs.Delivered.{deliverable}
-use Rattle.cmh_world.proofs.Measure.{frames_left, still_open, measure, open_few, delivery_is, falls}
+use Rattle.cmh_world.proofs.Measure.{frames_left, still_open, measure, open_few, delivery_is, times_one_more, falls}
 
 -- each of the entries is a delivery
 abbrev AreDeliveries : List WorldEvent → Type 0
@@ -39,9 +40,6 @@ AreDeliveries more = AllByRecursion (λ (e : WorldEvent). is_delivery e.entry.ev
 -- the measure in plain numbers
 measure_within : (f u a p : ℕ) → u ≤ p → f + (u + a * p) ≤ f + (a + 1) * p
 measure_within f u a p few = let one_more : (a + 1) * p ≡ a * p + p = times_one_more a p in omega arith
-  where
-    times_one_more : (a p : ℕ) → (a + 1) * p ≡ a * p + p
-    times_one_more a p = omega arith
 
 module _ (t : Topology) (formed : IsWellFormed t) where
   -- a delivery makes the measure of the run less

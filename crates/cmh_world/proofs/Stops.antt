@@ -9,7 +9,7 @@ use Rattle.cmh_model.specs.Runs.{entries_of, sendings, receipts, IsBeginningOf, 
 use Rattle.cmh_model.specs.Journals.{sendings_of, receipts_of, IsLawful}
 use Rattle.cmh_model.specs.Stops.{IsConsistent}
 use Rattle.cmh_model.specs.Laws.{StopsAnywhere}
-use Rattle.cmh_model.proofs.Beginnings.{beginning_trans, length-beginning, sendings_of-beginning}
+use Rattle.cmh_model.proofs.Beginnings.{beginning_take, beginning_trans, length-beginning, sendings_of-beginning}
 use Rattle.cmh_model.proofs.Journals.{entries_here, entries_elsewhere, entries_of-append, receipts_of-append, lawful_front}
 
 -- ---- beginnings
@@ -25,10 +25,6 @@ shorter_begins (x ∷ xs) (y ∷ ys) (z ∷ zs) h g l =
     let second : ys ++ g.0 ≡ zs = cc (g.1) in
     let r = shorter_begins xs ys zs (h.0, first) (g.0, second) (omega arith) in
     (r.0, λ i. same i ∷ r.1 i)
-
--- the first n are a beginning
-take_begins : {X : Type 0} (n : ℕ) (xs : List X) → IsBeginningOf (take n xs) xs
-take_begins n xs = (drop n xs, take-append-drop n xs)
 
 -- the first n of a beginning begin the first n
 take_of_front : {X : Type 0} (n : ℕ) (xs ys : List X) → IsBeginningOf (take n xs) (take n (xs ++ ys))
@@ -116,7 +112,7 @@ module _ (t : Topology) (events : List WorldEvent) (run : IsRun t events) (stop 
   in_order_within front begins a b =
       let parts : (s : ℕ) → entries_of s front ++ entries_of s begins.0 ≡ entries_of s events = λ s. sym (entries_of-append s front begins.0) ∙ ap (entries_of s) begins.1 in
       let got : IsBeginningOf (receipts_of a (take (stop b) (entries_of b front))) (sendings a b front) =
-      beginning_trans _ (receipts a b front) _ (got_begins a _ _ (take_begins (stop b) (entries_of b front))) (run.in_order front begins a b) in
+      beginning_trans _ (receipts a b front) _ (got_begins a _ _ (beginning_take (stop b) (entries_of b front))) (run.in_order front begins a b) in
       elim (cases_lt (stop a) (length (entries_of a front))) [
         | inr all ↦ subst (λ z. IsBeginningOf (receipts_of a (take (stop b) (entries_of b front))) (sendings_of b z)) (sym (take_all (stop a) (entries_of a front) all)) got
         | inl short ↦
@@ -125,7 +121,7 @@ module _ (t : Topology) (events : List WorldEvent) (run : IsRun t events) (stop 
             let fewer = length-beginning _ _ (got_begins a _ _ later) in
             let bound = consistent a b in
             let long = ap (λ z. length (sendings_of b z)) same in
-            shorter_begins _ _ (sendings a b front) got (sendings_of-beginning b _ _ (take_begins (stop a) (entries_of a front))) (omega arith)
+            shorter_begins _ _ (sendings a b front) got (sendings_of-beginning b _ _ (beginning_take (stop a) (entries_of a front))) (omega arith)
       ]
 
   -- what is left of a run is a run

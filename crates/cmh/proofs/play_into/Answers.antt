@@ -1,7 +1,7 @@
 use Rattle.std.proofs.Common.{ℕ, List, sym, subst}
 use Rattle.std.specs.Prelude.{IfSome}
-use Rattle.cmh_site.proofs.Plays.{answered_none}
-use Rattle.cmh_site.specs.Play.{Answered}
+use Rattle.cmh_play.proofs.Plays.{answered_none}
+use Rattle.cmh_play.specs.Play.{Answered}
 use Rattle.cmh.proofs.play_into.Goals as goal
 
 pub returns-in-Err-clause-answers : goal.returns-in-Err-clause-answers

@@ -1,10 +1,10 @@
-use Rattle.std.proofs.Common.{◌≡◌, ℕ, List, ap, subst, sym, ◌∙◌}
+use Rattle.std.proofs.Common.{◌≡◌, ℕ, List, refl, ap, subst, sym, ◌∙◌}
 use Rattle.cmh_journal.specs.Sink.{TookPart, known_and}
 use Rattle.cmh_links.proofs.Writes.{goes_first, goes_on, ends, fails_first, fails_at}
 use Rattle.cmh_links.proofs.writing.run_writer.Goals as goal
 
-pub returns-in-Err : goal.returns-in-Err
-returns-in-Err g c =
+pub returns-in-Err-clause-wrote : goal.returns-in-Err-clause-wrote
+returns-in-Err-clause-wrote g c =
     let e = c.in-Err.ensures in
     fails_first c.args.edition c.args.site (g.F.FrameSource.given c.args.source.now) (g.O.Outgoing.taken c.args.out.now) (g.O.Outgoing.failures c.args.out.now)
     (g.F.FrameSource.is_over c.args.source.now) (g.O.Outgoing.taken c.write_whole.new.out) (g.O.Outgoing.failures c.write_whole.new.out)
@@ -19,15 +19,16 @@ loop-init g c =
       goes = goes_first c.args.edition c.args.site (g.F.FrameSource.given c.args.source.now) (g.O.Outgoing.taken c.args.out.now) (g.O.Outgoing.failures c.args.out.now)
           (g.O.Outgoing.taken c.write_whole.new.out) (g.O.Outgoing.failures c.write_whole.new.out)
           (e.whole ∙ ap (known_and (g.O.Outgoing.taken c.args.out.now)) c.encode_hello-hello.ensures) e.ok;
+      link = refl;
     }
 
-pub returns-in-Err-write_whole : goal.returns-in-Err-write_whole
-returns-in-Err-write_whole g c =
+pub returns-in-Err-write_whole-clause-wrote : goal.returns-in-Err-write_whole-clause-wrote
+returns-in-Err-write_whole-clause-wrote g c =
     let e = c.in-Err-write_whole.ensures in
     fails_at c.args.edition c.args.site (g.F.FrameSource.given c.args.source.now) (g.O.Outgoing.taken c.args.out.now) (g.O.Outgoing.failures c.args.out.now)
     (g.F.FrameSource.given c.loop.source) (g.F.FrameSource.given c.next-in-loop.new.self) (g.F.FrameSource.given c.gather.new.source) (g.F.FrameSource.is_over c.gather.new.source)
     (g.O.Outgoing.taken c.loop.out) (g.O.Outgoing.taken c.write_whole-in-loop.new.out) (g.O.Outgoing.failures c.loop.out) (g.O.Outgoing.failures c.write_whole-in-loop.new.out)
-    c.in-Some-next.frame c.gather.new.bytes.items c.loop.invariant.goes c.in-Some-next.ensures.some c.gather.ensures
+    c.in-Some-next.frame c.gather.new.bytes.items c.loop.invariant.goes c.in-Some-next.ensures.some c.gather.ensures.gathers
     (subst (λ (x : List ℕ). TookPart (g.O.Outgoing.taken c.loop.out) x (g.O.Outgoing.taken c.write_whole-in-loop.new.out)) c.as_slice.ensures.value e.part) e.err
 
 pub loop-preserved : goal.loop-preserved
@@ -39,6 +40,7 @@ loop-preserved g c =
       goes = goes_on c.args.edition c.args.site (g.F.FrameSource.given c.args.source.now) (g.O.Outgoing.taken c.args.out.now) (g.O.Outgoing.failures c.args.out.now)
           (g.F.FrameSource.given c.loop.source) (g.F.FrameSource.given c.next-in-loop.new.self) (g.F.FrameSource.given c.gather.new.source)
           (g.O.Outgoing.taken c.loop.out) (g.O.Outgoing.taken c.write_whole-in-loop.new.out) (g.O.Outgoing.failures c.loop.out) (g.O.Outgoing.failures c.write_whole-in-loop.new.out)
-          c.in-Some-next.frame c.gather.new.bytes.items c.loop.invariant.goes c.in-Some-next.ensures.some c.gather.ensures
+          c.in-Some-next.frame c.gather.new.bytes.items c.loop.invariant.goes c.in-Some-next.ensures.some c.gather.ensures.gathers
           (e.whole ∙ ap (known_and (g.O.Outgoing.taken c.loop.out)) c.as_slice.ensures.value) e.ok;
+      link = c.gather.ensures.link ∙ c.next-in-loop.ensures.link ∙ c.loop.invariant.link;
     }

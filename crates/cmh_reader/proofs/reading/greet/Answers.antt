@@ -26,7 +26,7 @@ returns-clause-reads c =
     let expected : Contains senders sender = search rules in
     IfOk-weaker c.read_frames.result _ _
     (λ progress reads stream before is.
-    let whole = greeted c.args.edition senders stream before begun piece c.as_slice.result.now sender is.1 is.2 c.requires (c.as_slice.ensures ∙ c.joined-bytes.ensures) c.in-Some.ensures.some.0 c.in-Some.ensures.some.1 expected in
+    let whole = greeted c.args.edition senders stream before begun piece c.as_slice.result.now sender is.1 is.2 c.requires (c.as_slice.ensures.value ∙ c.joined-bytes.ensures) c.in-Some.ensures.some.0 c.in-Some.ensures.some.1 expected in
     let now = subst (λ fs. Reads c.args.edition senders (stream ++ take at piece) (before ++ fs) (Open sender [] 6)) (sym c.new-frames.ensures.items)
     (subst (λ k. Reads c.args.edition senders (stream ++ take k piece) (before ++ []) (Open sender [] 6)) at_is whole) in
     subst (λ b. Reads c.args.edition senders b (before ++ progress.frames.items) progress.standing)
@@ -45,7 +45,7 @@ returns-clause-refused c =
     let expected : Contains senders sender = search rules in
     on_err_weaker c.read_frames.result
     (λ refused stream before is.
-    let whole = greeted c.args.edition senders stream before begun piece c.as_slice.result.now sender is.1 is.2 c.requires (c.as_slice.ensures ∙ c.joined-bytes.ensures) c.in-Some.ensures.some.0 c.in-Some.ensures.some.1 expected in
+    let whole = greeted c.args.edition senders stream before begun piece c.as_slice.result.now sender is.1 is.2 c.requires (c.as_slice.ensures.value ∙ c.joined-bytes.ensures) c.in-Some.ensures.some.0 c.in-Some.ensures.some.1 expected in
     let now = subst (λ fs. Reads c.args.edition senders (stream ++ take at piece) (before ++ fs) (Open sender [] 6)) (sym c.new-frames.ensures.items)
     (subst (λ k. Reads c.args.edition senders (stream ++ take k piece) (before ++ []) (Open sender [] 6)) at_is whole) in
     subst (λ b. HasMore c.args.edition senders b before)

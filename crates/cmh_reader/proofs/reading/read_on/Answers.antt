@@ -11,13 +11,13 @@ use Rattle.cmh_reader.proofs.reading.read_on.Goals as goal
 
 pub slice_bounds-read_frames-count : goal.slice_bounds-read_frames-count
 slice_bounds-read_frames-count c =
-    let bytes_are = c.as_slice.ensures ∙ c.joined-bytes.ensures in
+    let bytes_are = c.as_slice.ensures.value ∙ c.joined-bytes.ensures in
     let h = finish_in_range c.args.begun.now c.args.piece.now c.in-Whole.len (subst (λ b. c.in-Whole.len ≤ length b) bytes_are c.in-Whole.ensures.0) in
     omega arith
 
 pub slice_bounds-read_frames-start : goal.slice_bounds-read_frames-start
 slice_bounds-read_frames-start c =
-    let bytes_are = c.as_slice.ensures ∙ c.joined-bytes.ensures in
+    let bytes_are = c.as_slice.ensures.value ∙ c.joined-bytes.ensures in
     let h = finish_in_range c.args.begun.now c.args.piece.now c.in-Whole.len (subst (λ b. c.in-Whole.len ≤ length b) bytes_are c.in-Whole.ensures.0) in
     search rules
 
@@ -25,7 +25,7 @@ pub returns-in-Short-clause-reads : goal.returns-in-Short-clause-reads
 returns-in-Short-clause-reads c edition senders stream before is =
     let begun = c.args.begun.now in
     let piece = c.args.piece.now in
-    let short = subst IsShort c.as_slice.ensures c.in-Short.ensures in
+    let short = subst IsShort c.as_slice.ensures.value c.in-Short.ensures in
     let now = begun_short edition senders stream c.args.sender c.args.offset before begun piece c.joined-bytes.result is c.joined-bytes.ensures short in
     let none : before ≡ before ++ c.new-frames.result.items = sym (ap (λ new. before ++ new) c.new-frames.ensures.items ∙ append-nil before) in
     subst (λ fs. Reads edition senders (stream ++ piece) fs (Open c.args.sender c.joined-bytes.result c.args.offset)) none now
@@ -34,7 +34,7 @@ pub returns-in-Bad-clause-reads : goal.returns-in-Bad-clause-reads
 returns-in-Bad-clause-reads c edition senders stream before is =
     let begun = c.args.begun.now in
     let piece = c.args.piece.now in
-    let bad = subst (λ b. IsFront b Bad) c.as_slice.ensures c.in-Bad.ensures in
+    let bad = subst (λ b. IsFront b Bad) c.as_slice.ensures.value c.in-Bad.ensures in
     let now = begun_bad edition senders stream c.args.sender c.args.offset before begun piece c.joined-bytes.result is c.joined-bytes.ensures bad in
     let none : before ≡ before ++ c.new-frames.result.items = sym (ap (λ new. before ++ new) c.new-frames.ensures.items ∙ append-nil before) in
     subst (λ fs. Reads edition senders (stream ++ piece) fs (Broken c.args.sender c.args.offset)) none now
@@ -47,7 +47,7 @@ returns-in_ok-push-in-Whole-clause-reads c =
     let n = c.in-Whole.len in
     let at = n - c.len.result in
     let next = c.saturating_add.result in
-    let bytes_are = c.as_slice.ensures in
+    let bytes_are = c.as_slice.ensures.value in
     let cut = subst (λ b. n ≤ length b) bytes_are c.in-Whole.ensures.0 in
     let spells = subst (λ b. Spells (take n b) f) bytes_are c.in-Whole.ensures.1 in
     let at_is : n - length begun ≡ at = ap (λ k. n - k) (sym c.len.ensures) in
@@ -66,8 +66,8 @@ pub returns-in_err-push-in-Whole-clause-refused : goal.returns-in_err-push-in-Wh
 returns-in_err-push-in-Whole-clause-refused c =
     let f = c.in-Whole.frame in
     let n = c.in-Whole.len in
-    let cut = subst (λ b. n ≤ length b) c.as_slice.ensures c.in-Whole.ensures.0 in
-    let spells = subst (λ b. Spells (take n b) f) c.as_slice.ensures c.in-Whole.ensures.1 in
+    let cut = subst (λ b. n ≤ length b) c.as_slice.ensures.value c.in-Whole.ensures.0 in
+    let spells = subst (λ b. Spells (take n b) f) c.as_slice.ensures.value c.in-Whole.ensures.1 in
     on_err c.from_residual.result (λ edition senders stream before is.
     begun_wanted edition senders stream c.args.sender c.args.offset before c.args.begun.now c.args.piece.now c.joined-bytes.result f n is c.joined-bytes.ensures cut spells)
 
@@ -75,7 +75,7 @@ pub returns-in_ok-push-in-Whole-clause-refused : goal.returns-in_ok-push-in-Whol
 returns-in_ok-push-in-Whole-clause-refused c =
     let f = c.in-Whole.frame in
     let n = c.in-Whole.len in
-    let cut = subst (λ b. n ≤ length b) c.as_slice.ensures c.in-Whole.ensures.0 in
-    let spells = subst (λ b. Spells (take n b) f) c.as_slice.ensures c.in-Whole.ensures.1 in
+    let cut = subst (λ b. n ≤ length b) c.as_slice.ensures.value c.in-Whole.ensures.0 in
+    let spells = subst (λ b. Spells (take n b) f) c.as_slice.ensures.value c.in-Whole.ensures.1 in
     on_err c.read_frames.result (λ edition senders stream before is.
     begun_wanted edition senders stream c.args.sender c.args.offset before c.args.begun.now c.args.piece.now c.joined-bytes.result f n is c.joined-bytes.ensures cut spells)

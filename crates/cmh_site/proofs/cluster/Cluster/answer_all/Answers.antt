@@ -1,9 +1,9 @@
 use Rattle.std.proofs.Common.{inr, refl, subst, ◌∙◌}
 use Rattle.std.specs.Prelude.{Option, List, ℕ}
 use Rattle.cmh_files.specs.declared.faults.Fault.TheVariants.{Input}
-use Rattle.cmh_site.proofs.Dialogues.{begun, endless_talk, read_err, talked_all, talked_err, talked_fault_err, talked_more, talked_some, talked_to_end}
+use Rattle.cmh_running.proofs.Dialogues.{begun, endless_talk, read_err, talked_all, talked_err, talked_fault_err, talked_more, talked_some, talked_to_end}
 use Rattle.cmh_site.proofs.cluster.Cluster.answer_all.Goals as goal
-use Rattle.cmh_site.specs.Dialogue.{HasAnswered, line_of}
+use Rattle.cmh_running.specs.Dialogue.{HasAnswered, line_of}
 use Rattle.cmh_site.specs.SiteTalk.{IsTurnOfCluster}
 
 pub loop-turn-init : goal.loop-turn-init

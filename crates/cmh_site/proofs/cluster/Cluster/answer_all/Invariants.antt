@@ -1,5 +1,5 @@
 use Rattle.std.specs.Prelude.{◌≡◌, Bool}
-use Rattle.cmh_site.proofs.Dialogues.{HasTalked}
+use Rattle.cmh_running.proofs.Dialogues.{HasTalked}
 use Rattle.cmh_site.proofs.cluster.Cluster.answer_all.Given as goal
 use Rattle.cmh_site.specs.SiteTalk.{IsTurnOfCluster}
 

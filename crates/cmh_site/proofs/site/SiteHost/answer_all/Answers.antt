@@ -1,6 +1,6 @@
 use Rattle.std.proofs.Common.{inr, refl, ◌∙◌}
 use Rattle.cmh_files.specs.declared.faults.Fault.TheVariants.{Input}
-use Rattle.cmh_site.proofs.Dialogues.{begun, endless_talk, read_err, talked_all, talked_err, talked_fault_err, talked_more, talked_some, talked_to_end}
+use Rattle.cmh_running.proofs.Dialogues.{begun, endless_talk, read_err, talked_all, talked_err, talked_fault_err, talked_more, talked_some, talked_to_end}
 use Rattle.cmh_site.proofs.SiteTurns.{for_site}
 use Rattle.cmh_site.proofs.site.SiteHost.answer_all.Goals as goal
 

@@ -1,5 +1,5 @@
 use Rattle.std.proofs.Common.{◌≡◌, Bool}
-use Rattle.cmh_site.proofs.Dialogues.{HasTalked}
+use Rattle.cmh_running.proofs.Dialogues.{HasTalked}
 use Rattle.cmh_site.specs.SiteTalk.{IsTurnOfSite}
 use Rattle.cmh_site.proofs.site.SiteHost.answer_all.Given as goal
 

@@ -1,0 +1,9 @@
+pub mod Each
+pub mod Passages
+pub mod Columns
+pub mod Marks
+pub mod Places
+pub mod Looks
+pub mod Svg
+pub mod Dot
+pub mod Pictures

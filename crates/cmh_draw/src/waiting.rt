@@ -1,0 +1,221 @@
+//! Who waits for whom at the end.
+
+ghost use Rattle.std.specs.Prelude.{◌≡◌, ◌≤◌, ◌++◌, ◌==◌, IfOk, OnOk, length, Option};
+ghost use Rattle.std.specs.List.{list_any};
+ghost use Rattle.cmh_audit.specs.Reports.{cycle_of};
+ghost use Rattle.cmh_draw.specs.Each.{each_from, number_from};
+ghost use Rattle.cmh_draw.specs.Marks as spec;
+ghost use Rattle.cmh_draw.specs.Marks.{IsWaitsPicture};
+
+use crate::mark::{Mark, Spot};
+use crate::picture::{Kind, Picture};
+use crate::running::row_of;
+use cmh_audit::{Report, Verdict};
+use cmh_frames::{ProcId, SiteId, Topology};
+use std::alloc::{AllocError, Global};
+
+/// The picture of who waits for whom at the end of the run from which the journals of this verdict come: each site with
+/// its processes, and each wait. Where they come from none, nobody is known to wait, and each site that stops says
+/// where.
+///
+/// The only error is want of memory.
+pub fn waits_picture(
+    alloc: Global,
+    topology: &Topology,
+    verdict: &Verdict,
+) -> Result<Picture, AllocError>
+    ensures { IfOk result (IsWaitsPicture topology.now verdict.now) }
+{
+    let mut marks = Vec::new(alloc);
+    add_homes(topology, &mut marks)?;
+    match verdict {
+        Verdict::Accepted(report) => {
+            add_waits(topology, report, &mut marks)?;
+            add_all_processes(topology, report.declared(), &mut marks)?;
+        }
+        Verdict::Refused(stops) => {
+            add_halts(topology, stops.rows(), &mut marks)?;
+            add_all_processes(topology, &[], &mut marks)?;
+        }
+    }
+    Ok(Picture {
+        kind: Kind::Waits,
+        columns: topology.sites().len() as u32,
+        rows: height_of(topology),
+        marks,
+    })
+}
+
+/// How many processes the largest site has, and 1 at least.
+fn height_of(topology: &Topology) -> u32 {
+    let mut height = 1;
+    for site in topology.sites() {
+        height = height.max(topology.members(*site).len() as u32);
+    }
+    height
+}
+
+fn add_homes(topology: &Topology, marks: &mut Vec<Mark>) -> Result<(), AllocError>
+    ensures { OnOk result (marks.new.items ≡ marks.old.items ++ spec.home_marks topology.now) }
+{
+    for (column, site) in topology.sites().iter().enumerate() {
+        let members = topology.members(*site).len() as u32;
+        marks.push(Mark::Home {
+            site: *site,
+            column: column as u32,
+            members,
+        })?;
+    }
+    Ok(())
+}
+
+fn add_halts(
+    topology: &Topology,
+    stops: &[(SiteId, usize)],
+    marks: &mut Vec<Mark>,
+) -> Result<(), AllocError>
+    ensures { OnOk result (marks.new.items ≡ marks.old.items ++ spec.halt_marks topology.now stops.now) }
+{
+    for (site, number) in stops {
+        let column = row_of(topology.sites(), *site);
+        marks.push(Mark::Halt {
+            site: *site,
+            column,
+            number: *number,
+        })?;
+    }
+    Ok(())
+}
+
+fn add_waits(topology: &Topology, report: &Report, marks: &mut Vec<Mark>) -> Result<(), AllocError>
+    ensures { OnOk result (marks.new.items ≡ marks.old.items ++ spec.report_marks topology.now report.now) }
+{
+    for (asker, holder) in report.waits() {
+        let from = spot_of(topology, *asker);
+        let to = spot_of(topology, *holder);
+        let is_on_cycle = is_on_cycle(report, *asker, *holder);
+        marks.push(Mark::Wait {
+            asker: *asker,
+            holder: *holder,
+            from,
+            to,
+            is_on_cycle,
+        })?;
+    }
+    Ok(())
+}
+
+fn add_all_processes(
+    topology: &Topology,
+    declared: &[ProcId],
+    marks: &mut Vec<Mark>,
+) -> Result<(), AllocError>
+    ensures { OnOk result (marks.new.items ≡ marks.old.items ++ spec.process_marks topology.now declared.now) }
+{
+    for (column, site) in topology.sites().iter().enumerate() {
+        let members = topology.members(*site);
+        add_processes(declared, column as u32, *site, members, marks)?;
+    }
+    Ok(())
+}
+
+fn add_processes(
+    declared: &[ProcId],
+    column: u32,
+    site: SiteId,
+    members: &[ProcId],
+    marks: &mut Vec<Mark>,
+) -> Result<(), AllocError>
+    requires { length members.now ≤ 64 }
+    ensures { OnOk result (marks.new.items ≡ marks.old.items
+        ++ spec.member_marks declared.now column site members.now) }
+{
+    for (row, process) in members.iter().enumerate() {
+        let spot = Spot {
+            column,
+            row: row as u32,
+        };
+        let is_declared = is_among(declared, *process);
+        marks.push(Mark::Process {
+            process: *process,
+            site,
+            spot,
+            is_declared,
+        })?;
+    }
+    Ok(())
+}
+
+fn is_among(processes: &[ProcId], process: ProcId) -> bool
+    ensures { result ≡ list_any (λ q. q == process) processes.now }
+{
+    processes.contains(&process)
+}
+
+/// Where a process is drawn.
+fn spot_of(topology: &Topology, process: ProcId) -> Spot
+    ensures { result ≡ spec.process_spot topology.now process }
+{
+    match topology.home(process) {
+        Some(site) => Spot {
+            column: row_of(topology.sites(), site),
+            row: place_of(topology.members(site), process),
+        },
+        None => Spot { column: 0, row: 0 },
+    }
+}
+
+/// The place of a process among these, from 0; 0 where it is none of them.
+fn place_of(members: &[ProcId], process: ProcId) -> u32
+    requires { length members.now ≤ 64 }
+    ensures { result ≡ number_from 0 members.now process }
+{
+    for (row, other) in members.iter().enumerate() {
+        if *other == process {
+            return row as u32;
+        }
+    }
+    0
+}
+
+/// Whether the wait is one of the cycle of a declared process.
+fn is_on_cycle(report: &Report, asker: ProcId, holder: ProcId) -> bool
+    ensures { result ≡ spec.is_on_cycle report.now asker holder }
+{
+    for process in report.declared() {
+        if is_on_cycle_of(report, *process, asker, holder) {
+            return true;
+        }
+    }
+    false
+}
+
+fn is_on_cycle_of(report: &Report, process: ProcId, asker: ProcId, holder: ProcId) -> bool
+    ensures { result ≡ spec.is_step_of (cycle_of report.now process) asker holder }
+{
+    match report.cycle(process) {
+        Some(members) => has_step(members, asker, holder),
+        None => false,
+    }
+}
+
+/// Whether the asker stands right before the holder.
+fn has_step(members: &[ProcId], asker: ProcId, holder: ProcId) -> bool
+    ensures { result ≡ spec.has_step asker holder members.now }
+{
+    for (i, member) in members.iter().enumerate() {
+        if *member == asker && begins_with(&members[i + 1..], holder) {
+            return true;
+        }
+    }
+    false
+}
+
+fn begins_with(members: &[ProcId], process: ProcId) -> bool
+    ensures { result ≡ spec.begins_with process members.now }
+{
+    match members.split_first() {
+        Some((first, _)) => *first == process,
+        None => false,
+    }
+}

@@ -1,0 +1,36 @@
+-- An audit with the reasons for its stops.
+use Rattle.std.specs.Prelude.{◌≡◌, ℕ, Bool, true, ◌⊎◌, List, [], ◌++◌, Option}
+use Rattle.std.specs.Io.KnownBytes.{Appends}
+use Rattle.cmh_frames.specs.declared.edition.Edition.{Edition}
+use Rattle.cmh_frames.specs.Topology.{Topology}
+use Rattle.cmh_journal.specs.Journal.{Journal}
+use Rattle.cmh_audit.specs.declared.verdict.Verdict.{Verdict}
+use Rattle.cmh_audit.specs.declared.verdict.Verdict.TheVariants.{Accepted, Refused}
+use Rattle.cmh_files.specs.AuditTexts.{cuts_text, verdict_text}
+use Rattle.cmh_files.specs.Audits.{Audits, IsCause, status_of}
+use Rattle.cmh_files.specs.Faults.{NamesFault}
+use Rattle.cmh_why.specs.Lines.{AreReasonLines}
+
+-- behind a verdict on these journals: a line for each stop, with its reason
+abbrev pub AreReasons : Topology → List Journal → Verdict → List ℕ → Type 0
+AreReasons t journals (Accepted report) text = text ≡ []
+AreReasons t journals (Refused stops) text = AreReasonLines t journals stops.rows stops.rows text
+
+-- the status is that of an audit whose lines were written, and its reasons behind them
+pub record WroteExplained (topology : List ℕ) (files : List (List ℕ)) (old new : Option (List ℕ))
+    (status : ℕ) : Type 0 where
+  pub edition : Edition
+  pub cuts : List (ℕ × ℕ)
+  pub verdict : Verdict
+  pub audits : Audits topology files edition cuts verdict
+  pub status_is : status ≡ status_of verdict
+  pub reasons : List ℕ
+  pub are_reasons : AreReasons audits.world audits.journals verdict reasons
+  pub wrote : Appends old new (cuts_text cuts ++ verdict_text edition verdict ++ reasons)
+
+-- an audit wrote its lines with the reasons, flushed, and nothing else, or named why it couldn't
+abbrev pub ExplainEnds : List ℕ → List (List ℕ) → Option (List ℕ) → Option (List ℕ) → Bool → Bool → Option (List ℕ)
+    → Option (List ℕ) → Bool → ℕ → Type 0
+ExplainEnds topology files old new has_failed is_flushed err_old err_new err_failed status =
+    (WroteExplained topology files old new status × (is_flushed ≡ true) × (err_new ≡ err_old))
+    ⊎ NamesFault (IsCause topology files old new has_failed) status err_old err_new err_failed

@@ -1,0 +1,95 @@
+//! The command `audit --why`: an audit, and where the journals come from no run the reason for which each site stops.
+
+ghost use Rattle.std.specs.Prelude.{◌≡◌, ◌++◌, ℕ, List, true, OnOk, IfOk, IfErr, map, string_bytes};
+ghost use Rattle.cmh_audit.specs.Stops.{AreStops};
+ghost use Rattle.cmh_audit.specs.Verdicts.{IfRefused};
+ghost use Rattle.cmh_files.specs.AuditTexts.{cuts_text, verdict_text};
+ghost use Rattle.cmh_files.specs.Audits.{IsCause};
+ghost use Rattle.cmh_files.specs.Explains.{AreReasons, ExplainEnds, WroteExplained};
+ghost use Rattle.cmh_files.specs.Status.{IsStatus};
+
+use crate::auditing::{Audited, audit_files, status_of, text_of};
+use crate::faults::Fault;
+use cmh_audit::Verdict;
+use cmh_script::Device;
+use cmh_why::reason_lines;
+use std::alloc::{AllocError, Global};
+use std::io::Write;
+
+/// Audits journals as `run_audit` does, and where they come from no run writes behind the verdict a line for each stop:
+/// why that site can't take the entry at it.
+///
+/// The answer, the faults and the lines of the verdict are those of `run_audit`.
+pub fn run_audit_why<W: Write, E: Write>(
+    alloc: Global,
+    topology: &[u8],
+    journals: &[Vec<u8>],
+    out: &mut Device<W>,
+    err: &mut Device<E>,
+) -> u8
+    ensures status { IsStatus result }
+
+    // A verdict is written with its reasons, or a fault is named, and nothing else.
+    ensures ends { ExplainEnds topology.now (map (λ file. file.items) journals.now) (W.contents out.old.inner)
+        (W.contents out.new.inner) out.new.has_failed out.new.is_flushed
+        (E.contents err.old.inner) (E.contents err.new.inner) err.new.has_failed result }
+{
+    match explain_into(alloc, topology, journals, out) {
+        Ok(status) => status,
+        Err(fault) => fault.name_on(err),
+    }
+}
+
+/// Writes what the audit comes to, with the reasons; answers the status.
+fn explain_into<W: Write>(
+    alloc: Global,
+    topology: &[u8],
+    journals: &[Vec<u8>],
+    out: &mut Device<W>,
+) -> Result<u8, Fault>
+    ensures wrote { IfOk result (WroteExplained topology.now (map (λ file. file.items) journals.now)
+        (W.contents out.old.inner) (W.contents out.new.inner)) }
+    ensures flushed { OnOk result (out.new.is_flushed ≡ true) }
+    ensures fault { IfErr result (IsCause topology.now (map (λ file. file.items) journals.now)
+        (W.contents out.old.inner) (W.contents out.new.inner) out.new.has_failed) }
+{
+    let audited = audit_files(alloc, topology, journals)?;
+    let text = explained_text(alloc, &audited)?;
+    let status = status_of(&audited.verdict);
+    out.write_text(text.as_str())?;
+    out.flush()?;
+    Ok(status)
+}
+
+/// The lines of the audit, and then those of the reasons.
+fn explained_text(alloc: Global, audited: &Audited) -> Result<String, AllocError>
+    requires { IfRefused audited.now.verdict
+        (λ stops. AreStops audited.now.world audited.now.journals.items stops.rows) }
+    ensures { IfOk result (λ text. (reasons : List ℕ)
+        × AreReasons audited.now.world audited.now.journals.items audited.now.verdict reasons
+        × (string_bytes text ≡ cuts_text audited.now.cuts.items ++ verdict_text audited.now.edition audited.now.verdict
+        ++ reasons)) }
+{
+    let reasons = reasons_of(alloc, audited)?;
+    let mut text = text_of(alloc, audited)?;
+    text.push_str(reasons.as_str())?;
+    Ok(text)
+}
+
+/// The lines of the reasons; none where the journals come from a run.
+fn reasons_of(alloc: Global, audited: &Audited) -> Result<String, AllocError>
+    requires { IfRefused audited.now.verdict
+        (λ stops. AreStops audited.now.world audited.now.journals.items stops.rows) }
+    ensures { IfOk result (λ text.
+        AreReasons audited.now.world audited.now.journals.items audited.now.verdict (string_bytes text)) }
+{
+    match &audited.verdict {
+        Verdict::Accepted(_) => Ok(String::new(alloc)),
+        Verdict::Refused(stops) => reason_lines(
+            alloc,
+            &audited.world,
+            &audited.journals,
+            stops.rows(),
+        ),
+    }
+}

@@ -1,0 +1,150 @@
+-- A script that is played, and whose journals are kept.
+use Rattle.std.proofs.Common.{◌≡◌, ◌≢◌, ℕ, Bool, List, [], Option, None, Some, refl, sym, subst, inl, inr, true≢false}
+use Rattle.std.specs.Prelude.{◌⊎◌, IfErr, IfSome, IsErr, IsErrAnd, OnOk, Result, Ok, Err}
+use Rattle.std.specs.Io.KnownBytes.{Keeps}
+use Rattle.cmh_files.proofs.TextLemmas.{appends-kept}
+use Rattle.cmh_files.specs.Faults.{NamesFault, status_of}
+use Rattle.cmh_files.specs.declared.faults.Fault.{Fault}
+use Rattle.cmh_files.specs.declared.faults.Fault.TheVariants.{Memory}
+use Rattle.cmh_journal.specs.Journal.{Journal}
+use Rattle.cmh_script.proofs.LinesSeen.{if_some}
+use Rattle.cmh_script.specs.Lines.{IsNextLine}
+use Rattle.cmh_script.specs.declared.lines.NextLine.{NextLine}
+use Rattle.cmh_script.specs.declared.lines.NextLine.TheVariants.{End}
+use Rattle.cmh_play.proofs.Plays.{HasPlayed, answer_fault, answered_fault, answered_some, at_some, fault_not_0}
+use Rattle.cmh_play.specs.Keeping.{AnsweredAndKept, IsKeptPlayFault, IsUnanswered, KeepsAt, KeepsWorld, PlayedToEnd}
+use Rattle.cmh_play.specs.Play.{Answered, IsAnswerFault, IsPlayFault, Plays, status_after}
+use Rattle.cmh_play.specs.declared.play.Game.{Game}
+use Rattle.cmh_play.specs.declared.reply.Reply.{Reply}
+use Rattle.cmh_play.specs.declared.reply.Reply.TheVariants.{Silent, Ok as OkReply, BadLine, Late, Topology, Step, Delivery, Severance, Report}
+use Rattle.cmh_audit.specs.declared.verdict.Verdict.{Verdict}
+use Rattle.cmh_frames.specs.declared.edition.Edition.{Edition}
+
+-- ---- a line
+
+-- nothing is kept for a reply that is no report
+pub keeps_none : {K : Type 0} → (Kept : K → List Journal → K → Type 0) (reply : Reply) (game : Game) (old new : K)
+    → ((edition : Edition) (verdict : Verdict) → reply ≢ Report edition verdict) → new ≡ old → KeepsAt Kept reply game old new
+keeps_none Kept Silent game old new other same = same
+keeps_none Kept OkReply game old new other same = same
+keeps_none Kept BadLine game old new other same = same
+keeps_none Kept Late game old new other same = same
+keeps_none Kept (Topology fault) game old new other same = same
+keeps_none Kept (Step step) game old new other same = same
+keeps_none Kept (Delivery delivery) game old new other same = same
+keeps_none Kept (Severance severance) game old new other same = same
+keeps_none Kept (Report edition verdict) game old new other same = absurd (other edition verdict refl)
+
+-- nothing was written before journals were to be kept
+pub unkept : (Fails : Fault → Type 0) (out : Option (List ℕ)) (has_failed : Bool) (fault : Fault) → (fault ≡ Memory) ⊎ Fails fault → IsUnanswered Fails out out has_failed fault
+unkept Fails out has_failed fault (inl memory) = inl (subst (IsAnswerFault out out has_failed) (sym memory) refl)
+unkept Fails out has_failed fault (inr fails) = inr (fails, refl)
+
+pub unkept_err : {X : Type 0} → (Fails : Fault → Type 0) (out : Option (List ℕ)) (has_failed : Bool) (r : Result X Fault) (lower : Fault) → IsErrAnd r (λ fault. fault ≡ lower) → (lower ≡ Memory) ⊎ Fails lower
+    → IfErr r (IsUnanswered Fails out out has_failed)
+unkept_err Fails out has_failed (Ok x) lower is h = tt
+unkept_err Fails out has_failed (Err fault) lower is h = subst (IsUnanswered Fails out out has_failed) (sym is) (unkept Fails out has_failed lower h)
+
+-- ---- the lines so far
+
+module _ (start now old out : Option (List ℕ)) (game : Game) (n : ℕ) (so_far : HasPlayed start now old out game n) where
+  -- no line is left
+  pub played_to_end : (next : NextLine) (line : List ℕ) → IfSome now (λ bytes. IsNextLine bytes line next) → next ≡ End
+      → IfSome start (λ bytes. PlayedToEnd bytes old out game)
+  played_to_end next line is ends = if_some start _ (λ bytes e.
+      let s = so_far bytes e in
+      let none : s.rest ≡ [] = subst (IsNextLine s.rest line) ends (at_some now (λ bytes. IsNextLine bytes line next) s.rest s.now_is is) in
+      record {
+        text = s.text;
+        plays = subst (λ (rest : List ℕ). Plays bytes rest s.text game) none s.plays;
+        wrote = s.wrote;
+      })
+
+  -- a line is not answered
+  unanswered : (Fails : Fault → Type 0) (after : Option (List ℕ)) (has_failed : Bool) (fault : Fault) → IsUnanswered Fails out after has_failed fault
+      → IfSome start (λ bytes. Answered bytes old after has_failed (status_of fault))
+  unanswered Fails after has_failed fault (inl why) = answered_fault start now old out game n so_far after has_failed fault why
+  unanswered Fails after has_failed fault (inr why) =
+      subst (λ (o : Option (List ℕ)). IfSome start (λ bytes. Answered bytes old o has_failed (status_of fault))) (sym why.1)
+      (answered_some start now old out game n so_far has_failed fault)
+
+  pub unanswered_err : (Fails : Fault → Type 0) (after : Option (List ℕ)) (has_failed : Bool) (r : Result (Unit {0}) Fault) (lower : Fault) → IsErrAnd r (λ fault. fault ≡ lower)
+      → IsUnanswered Fails out after has_failed lower → IfSome start (λ bytes. Answered bytes old after has_failed (status_after r))
+  unanswered_err Fails after has_failed (Ok x) lower is h = absurd is
+  unanswered_err Fails after has_failed (Err fault) lower is h = unanswered Fails after has_failed fault (subst (IsUnanswered Fails out after has_failed) (sym is) h)
+
+-- ---- faults
+
+pub kept_fault : (Fails : Fault → Type 0) (start : Option (List ℕ)) (read_failed write_failed : Bool) (r : Result (Unit {0}) Fault) → IfErr r (IsPlayFault start read_failed write_failed)
+    → IfErr r (IsKeptPlayFault Fails start read_failed write_failed)
+kept_fault Fails start read_failed write_failed (Ok x) h = tt
+kept_fault Fails start read_failed write_failed (Err fault) h = inl h
+
+unanswered_fault : (Fails : Fault → Type 0) (start out after : Option (List ℕ)) (read_failed has_failed : Bool) (fault : Fault) → IsUnanswered Fails out after has_failed fault
+    → IsKeptPlayFault Fails start read_failed has_failed fault
+unanswered_fault Fails start out after read_failed has_failed fault (inl why) = inl (answer_fault start out after read_failed has_failed fault why)
+unanswered_fault Fails start out after read_failed has_failed fault (inr why) = inr why.0
+
+pub unanswered_fault_err : (Fails : Fault → Type 0) (start out after : Option (List ℕ)) (read_failed has_failed : Bool) (r : Result (Unit {0}) Fault) (lower : Fault)
+    → IsErrAnd r (λ fault. fault ≡ lower) → IsUnanswered Fails out after has_failed lower → IfErr r (IsKeptPlayFault Fails start read_failed has_failed)
+unanswered_fault_err Fails start out after read_failed has_failed (Ok x) lower is h = tt
+unanswered_fault_err Fails start out after read_failed has_failed (Err fault) lower is h =
+    subst (IsKeptPlayFault Fails start read_failed has_failed) (sym is) (unanswered_fault Fails start out after read_failed has_failed lower h)
+
+-- ---- the end
+
+-- no journals are kept where the script ends by a fault
+pub kept_none : {K : Type 0} → (Kept : K → List Journal → K → Type 0) (start old new : Option (List ℕ)) (has_failed : Bool) (r : Result (Unit {0}) Fault) (keeper : K)
+    → IfSome start (λ bytes. Answered bytes old new has_failed (status_after r)) → IsErr r
+    → IfSome start (λ bytes. AnsweredAndKept Kept bytes old new has_failed (status_after r) keeper)
+kept_none Kept None old new has_failed r keeper answered err = tt
+kept_none Kept (Some bytes) old new has_failed (Ok x) keeper answered err = absurd (true≢false (sym err))
+kept_none Kept (Some bytes) old new has_failed (Err fault) keeper answered err = record {
+  answered = answered;
+  kept = λ zero. absurd (fault_not_0 fault zero);
+}
+
+-- the answers are flushed, and then the journals are kept, or are not
+pub kept_at_end : {K : Type 0} → (Kept : K → List Journal → K → Type 0) (start old out new : Option (List ℕ)) (has_failed : Bool) (game : Game) (before after : K) (r : Result (Unit {0}) Fault)
+    → IfSome start (λ bytes. PlayedToEnd bytes old out game) → Keeps out new → OnOk r (KeepsWorld Kept game before after)
+    → IfSome start (λ bytes. AnsweredAndKept Kept bytes old new has_failed (status_after r) after)
+kept_at_end Kept None old out new has_failed game before after r played flushed kept = tt
+kept_at_end Kept (Some bytes) old out new has_failed game before after (Ok x) played flushed kept = record {
+  answered = record {
+    rest = [];
+    text = played.text;
+    game = game;
+    plays = played.plays;
+    wrote = inr (appends-kept old out new played.text played.wrote flushed);
+    all = λ _. refl;
+  };
+  kept = λ _. (before, kept);
+}
+kept_at_end Kept (Some bytes) old out new has_failed game before after (Err fault) played flushed kept = record {
+  answered = record {
+    rest = [];
+    text = played.text;
+    game = game;
+    plays = played.plays;
+    wrote = inr (appends-kept old out new played.text played.wrote flushed);
+    all = λ _. refl;
+  };
+  kept = λ zero. absurd (fault_not_0 fault zero);
+}
+
+-- what is left of it where nobody looks at the journals
+pub answered_alone : {K : Type 0} → (Kept : K → List Journal → K → Type 0) (start old new : Option (List ℕ)) (has_failed : Bool) (status : ℕ) (keeper : K)
+    → IfSome start (λ bytes. AnsweredAndKept Kept bytes old new has_failed status keeper) → IfSome start (λ bytes. Answered bytes old new has_failed status)
+answered_alone Kept None old new has_failed status keeper h = tt
+answered_alone Kept (Some bytes) old new has_failed status keeper h = h.answered
+
+-- a keeper that never fails adds no fault
+pub named_alone : (start : Option (List ℕ)) (read_failed write_failed : Bool) (status : ℕ) (err_old err_new : Option (List ℕ)) (err_failed : Bool)
+    → NamesFault (IsKeptPlayFault (λ _. ⊥) start read_failed write_failed) status err_old err_new err_failed
+    → NamesFault (IsPlayFault start read_failed write_failed) status err_old err_new err_failed
+named_alone start read_failed write_failed status err_old err_new err_failed named = record {
+  fault = named.fault;
+  cause = elim named.cause [ inl why ↦ why | inr none ↦ absurd none ];
+  status_is = named.status_is;
+  named = named.named;
+}

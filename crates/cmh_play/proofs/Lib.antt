@@ -1,0 +1,3 @@
+pub mod PlayedLines
+pub mod Plays
+pub mod KeptPlays

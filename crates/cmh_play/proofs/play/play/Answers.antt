@@ -1,0 +1,25 @@
+use Rattle.cmh_play.proofs.KeptPlays.{kept_at_end, kept_fault, kept_none}
+use Rattle.cmh_play.proofs.Plays.{answered_none_err, answered_ended}
+use Rattle.cmh_play.proofs.play.play.Goals as goal
+
+pub returns-in_err-game-clause-answers : goal.returns-in_err-game-clause-answers
+returns-in_err-game-clause-answers g c =
+    kept_none _ _ _ _ _ c.from_residual.result _ (answered_none_err _ _ c.args.alloc _ _ c.from_residual.ensures.0) c.from_residual.ensures.0
+
+pub returns-in_err-played-clause-answers : goal.returns-in_err-played-clause-answers
+returns-in_err-played-clause-answers g c =
+    kept_none _ _ _ _ _ c.from_residual-in_err-played.result _
+    (answered_ended _ _ _ _ _ _ _ c.flush-flushed.result c.from_residual-in_err-played.result c.answer_all-played.ensures.answers c.flush-flushed.ensures.bytes
+    c.flush-flushed.ensures.ok c.flush-flushed.ensures.err c.from_residual-in_err-played.ensures.0)
+    c.from_residual-in_err-played.ensures.0
+
+pub returns-in_err-flushed-clause-answers : goal.returns-in_err-flushed-clause-answers
+returns-in_err-flushed-clause-answers g c =
+    kept_none _ _ _ _ _ c.from_residual-in_err-flushed.result _
+    (answered_ended _ _ _ _ _ _ _ c.flush-flushed.result c.from_residual-in_err-flushed.result c.answer_all-played.ensures.answers c.flush-flushed.ensures.bytes
+    c.flush-flushed.ensures.ok c.flush-flushed.ensures.err c.from_residual-in_err-flushed.ensures.0)
+    c.from_residual-in_err-flushed.ensures.0
+
+pub returns-clause-answers : goal.returns-clause-answers
+returns-clause-answers g c =
+    kept_at_end _ _ _ _ _ _ _ _ _ c.keep.result c.in_ok-played.ensures.all c.flush-flushed.ensures.bytes c.keep.ensures.kept

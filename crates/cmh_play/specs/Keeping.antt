@@ -1,0 +1,56 @@
+-- A script that is played, and whose journals are kept.
+use Rattle.std.specs.Prelude.{◌≡◌, ℕ, Bool, ◌⊎◌, List, [], Option, ⊤}
+use Rattle.std.specs.Io.KnownBytes.{Appends}
+use Rattle.cmh_journal.specs.Journal.{Journal}
+use Rattle.cmh_playground.specs.declared.playground.Playground.{Playground}
+use Rattle.cmh_script.specs.declared.lines.NextLine.{NextLine}
+use Rattle.cmh_files.specs.declared.faults.Fault.{Fault}
+use Rattle.cmh_files.specs.declared.faults.Fault.TheVariants.{OutFile, Memory}
+use Rattle.cmh_play.specs.Play.{Answered, AnswersLine, IsAnswerFault, IsPlayFault, IsWorldOf, Plays}
+use Rattle.cmh_play.specs.declared.play.Game.{Game}
+use Rattle.cmh_play.specs.declared.reply.Reply.{Reply}
+use Rattle.cmh_play.specs.declared.reply.Reply.TheVariants.{Report}
+
+-- why the journals of a world are not kept
+abbrev pub IsUnkept : Fault → Type 0
+IsUnkept OutFile = ⊤
+IsUnkept Memory = ⊤
+IsUnkept fault = ⊥
+
+-- the journals of the game's world were kept; of a draft those of its sites, which are empty
+pub record KeepsWorld {K : Type 0} (Keeps : K → List Journal → K → Type 0) (game : Game) (old new : K) : Type 0 where
+  pub world : Playground
+  pub stands : IsWorldOf game world
+  pub kept : Keeps old world.journals.items new
+
+-- a report comes after the journals were kept; other replies leave the keeper as it was
+abbrev pub KeepsAt : {K : Type 0} → (K → List Journal → K → Type 0) → Reply → Game → K → K → Type 0
+KeepsAt Keeps (Report edition verdict) game old new = KeepsWorld Keeps game old new
+KeepsAt Keeps reply game old new = new ≡ old
+
+-- a line was answered, and journals were kept where it asked for a report
+pub record AnswersAndKeeps {K : Type 0} (Keeps : K → List Journal → K → Type 0) (old new : Game) (next : NextLine)
+    (line : List ℕ) (out_old out_new : Option (List ℕ)) (keeper_old keeper_new : K) : Type 0 where
+  pub answers : AnswersLine old new next line out_old out_new
+  pub keeps : KeepsAt Keeps answers.reply new keeper_old keeper_new
+
+-- all lines of the bytes were answered, and led to the game
+pub record PlayedToEnd (bytes : List ℕ) (old new : Option (List ℕ)) (game : Game) : Type 0 where
+  pub text : List ℕ
+  pub plays : Plays bytes [] text game
+  pub wrote : Appends old new text
+
+-- lines of a script were answered; at its end the journals of its world were kept
+pub record AnsweredAndKept {K : Type 0} (Keeps : K → List Journal → K → Type 0) (bytes : List ℕ)
+    (old new : Option (List ℕ)) (has_failed : Bool) (status : ℕ) (keeper : K) : Type 0 where
+  pub answered : Answered bytes old new has_failed status
+  pub kept : status ≡ 0 → (before : K) × KeepsWorld Keeps answered.game before keeper
+
+-- why a line was not answered: before a report, also that the journals were not kept
+abbrev pub IsUnanswered : (Fault → Type 0) → Option (List ℕ) → Option (List ℕ) → Bool → Fault → Type 0
+IsUnanswered Fails old new has_failed fault = IsAnswerFault old new has_failed fault ⊎ (Fails fault × (new ≡ old))
+
+-- why a script is not played to its end, or its journals are not kept
+abbrev pub IsKeptPlayFault : (Fault → Type 0) → Option (List ℕ) → Bool → Bool → Fault → Type 0
+IsKeptPlayFault Fails bytes read_failed write_failed fault =
+    IsPlayFault bytes read_failed write_failed fault ⊎ Fails fault

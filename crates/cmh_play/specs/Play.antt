@@ -1,0 +1,163 @@
+-- A script that is played: what each line does to the game, and what is written for it.
+use Rattle.std.specs.Prelude.{◌≡◌, ℕ, ◌<◌, Bool, true, ◌==◌, nat_lt, ◌⊎◌, List, [], ◌∷◌, ◌++◌, length, Option, None, Some, Result, Ok as Ok_result, Err, MatchBool, ⊤}
+use Rattle.std.specs.Io.BufRead.{first_line, drop_through}
+use Rattle.std.specs.Io.KnownBytes.{Appends}
+use Rattle.cmh_frames.specs.declared.edition.Edition.{Edition}
+use Rattle.cmh_frames.specs.declared.edition.Edition.TheVariants.{One}
+use Rattle.cmh_frames.specs.declared.rows.TopologyFault.{TopologyFault}
+use Rattle.cmh_frames.specs.Rows.{Row, IsFaultOf, fault_of}
+use Rattle.cmh_frames.specs.Topology.{IsTopologyOf}
+use Rattle.cmh_play.specs.Replies.{reply_text}
+use Rattle.cmh_audit.specs.Verdicts.{IsAccepted, IsVerdictOn}
+use Rattle.cmh_script.specs.Device.{Tells}
+use Rattle.cmh_playground.specs.Draft.{Draft}
+use Rattle.cmh_script.specs.Lines.{IsEndless}
+use Rattle.cmh_playground.specs.Playground.{entries_at, link_at, IsStepOf, IsDelivery, IsSeverance}
+use Rattle.cmh_playground.specs.Runs.{IsPlayed, IsWantOfRoom}
+use Rattle.cmh_playground.specs.declared.playground.Delivery.TheVariants.{Refused as DeliveryRefused}
+use Rattle.cmh_script.specs.Script.{Says}
+use Rattle.cmh_files.specs.Faults.{status_of}
+use Rattle.cmh_files.specs.declared.faults.Fault.{Fault}
+use Rattle.cmh_files.specs.declared.faults.Fault.TheVariants.{Input, Output, Memory}
+use Rattle.cmh_script.specs.declared.lines.NextLine.{NextLine}
+use Rattle.cmh_script.specs.declared.lines.NextLine.TheVariants.{Line as NextLine_line, TooLong, End}
+use Rattle.cmh_play.specs.declared.play.Game.{Game}
+use Rattle.cmh_play.specs.declared.play.Game.TheVariants.{Named, Played}
+use Rattle.cmh_play.specs.declared.reply.Reply.{Reply}
+use Rattle.cmh_play.specs.declared.reply.Reply.TheVariants.{Silent as NoReply, Ok, BadLine, Late, Topology, Step as StepReply, Delivery as DeliveryReply, Severance as SeveranceReply, Report as ReportReply}
+use Rattle.cmh_playground.specs.declared.playground.Playground.{Playground}
+use Rattle.cmh_script.specs.declared.script.Command.{Command}
+use Rattle.cmh_script.specs.declared.script.Command.TheVariants.{Act, Deliver, Cut, Report}
+use Rattle.cmh_script.specs.declared.script.Line.{Line}
+use Rattle.cmh_script.specs.declared.script.Line.TheVariants.{Silent, Bad, Edition as Edition_line, Site, Command as Command_line}
+
+-- ---- what a line does
+
+-- a world in which nothing has happened yet, of the sites of a draft
+pub record IsNewWorld (draft : Draft) (world : Playground) : Type 0 where
+  pub topology : IsTopologyOf draft.edition draft.rows world.topology
+  pub journals : (s : ℕ) → entries_at world s ≡ []
+  pub links : (a b : ℕ) → link_at world a b ≡ Some []
+
+-- the world of a game is this one; that of a draft is new
+abbrev pub IsWorldOf : Game → Playground → Type 0
+IsWorldOf (Named draft) world = IsNewWorld draft world
+IsWorldOf (Played played) world = played ≡ world
+
+-- a command, what it does to the world, and what is written for it
+abbrev pub CarriesOut : Playground → Playground → Command → Reply → Type 0
+CarriesOut old new (Act process event) (StepReply step) = IsStepOf old new process event step
+CarriesOut old new (Deliver from to) (DeliveryReply delivery) = IsDelivery old new from to delivery
+CarriesOut old new (Cut from to) (SeveranceReply severance) = IsSeverance old new from to severance
+CarriesOut old new Report (ReportReply edition verdict) =
+    (new ≡ old) × (edition ≡ old.topology.edition) × IsVerdictOn old.topology old.journals.items verdict
+CarriesOut old new command reply = ⊥
+
+-- the first command makes the world of the draft
+pub record Commands (old new : Game) (command : Command) (reply : Reply) : Type 0 where
+  pub before : Playground
+  pub after : Playground
+  pub stands : IsWorldOf old before
+  pub done : CarriesOut before after command reply
+  pub kept : new ≡ Played after
+
+-- nothing has changed, and this is answered
+abbrev pub OnlyAnswers : Game → Game → Reply → Reply → Type 0
+OnlyAnswers old new reply answer = (new ≡ old) × (reply ≡ answer)
+
+-- the edition is set while no site is named
+abbrev pub SetsEdition : Game → Game → Edition → Reply → Type 0
+SetsEdition (Played world) new edition reply = OnlyAnswers (Played world) new reply Late
+SetsEdition (Named draft) new edition reply = MatchBool (length draft.rows == 0)
+    ((reply ≡ Ok) × (new ≡ Named (record { edition = edition; rows = [] })))
+    (OnlyAnswers (Named draft) new reply Late)
+
+-- a row with which the rows are no topology is left out
+abbrev pub AddsRow : Draft → Game → Row → Reply → Type 0
+AddsRow draft new row reply = let rows = draft.rows ++ row ∷ [] in
+    ((fault_of draft.edition rows ≡ None) × (reply ≡ Ok)
+    × (new ≡ Named (record { edition = draft.edition; rows = rows })))
+    ⊎ ((fault : TopologyFault) × IsFaultOf draft.edition rows fault
+    × OnlyAnswers (Named draft) new reply (Topology fault))
+
+abbrev pub AddsSite : Game → Game → Row → Reply → Type 0
+AddsSite (Played world) new row reply = OnlyAnswers (Played world) new reply Late
+AddsSite (Named draft) new row reply = AddsRow draft new row reply
+
+abbrev pub Replies : Game → Game → Line → Reply → Type 0
+Replies old new Silent reply = OnlyAnswers old new reply NoReply
+Replies old new Bad reply = OnlyAnswers old new reply BadLine
+Replies old new (Edition_line edition) reply = SetsEdition old new edition reply
+Replies old new (Site row) reply = AddsSite old new row reply
+Replies old new (Command_line command) reply = Commands old new command reply
+
+-- ---- a whole script
+
+-- neither sites nor commands
+abbrev pub IsNewGame : Game → Type 0
+IsNewGame game = game ≡ Named (record { edition = One; rows = [] })
+
+-- what was read of a script says this; a line that is too long is a bad one
+abbrev pub IsSaidBy : NextLine → List ℕ → Line → Type 0
+IsSaidBy NextLine_line bytes line = Says bytes line
+IsSaidBy TooLong bytes line = line ≡ Bad
+IsSaidBy End bytes line = line ≡ Bad
+
+-- what was read of a script did this to the game, and its reply was written
+pub record AnswersLine (old new : Game) (next : NextLine) (line : List ℕ)
+    (out_old out_new : Option (List ℕ)) : Type 0 where
+  pub said : Line
+  pub reply : Reply
+  pub says : IsSaidBy next line said
+  pub replies : Replies old new said reply
+  pub wrote : Appends out_old out_new (reply_text reply)
+
+-- why it was not answered
+abbrev pub IsAnswerFault : Option (List ℕ) → Option (List ℕ) → Bool → Fault → Type 0
+IsAnswerFault old new has_failed Output = has_failed ≡ true
+IsAnswerFault old new has_failed Memory = new ≡ old
+IsAnswerFault old new has_failed fault = ⊥
+
+-- what the first line of the bytes says; one of more than 1,024 bytes is a bad line
+abbrev pub FirstSays : List ℕ → Line → Type 0
+FirstSays bytes line = MatchBool (nat_lt 1024 (length (first_line bytes))) (line ≡ Bad) (Says (first_line bytes) line)
+
+-- a game whose world, if it has one, is at the end of a run
+abbrev pub IsOfRun : Game → Type 0
+IsOfRun (Named draft) = ⊤
+IsOfRun (Played world) = IsPlayed world
+
+-- A frame is refused only for want of room, and a report is that of accepted journals.
+abbrev pub IsOfHonestSites : Reply → Type 0
+IsOfHonestSites (DeliveryReply (DeliveryRefused refused)) = IsWantOfRoom refused
+IsOfHonestSites (ReportReply edition verdict) = IsAccepted verdict
+IsOfHonestSites reply = ⊤
+
+-- Of the bytes of a script the lines before the rest were answered by the text, and led to the game. The world of each
+-- game is at the end of a run, so no frame is refused but for want of room, and each report is accepted.
+pub data Plays (bytes : List ℕ) : List ℕ → List ℕ → Game → Type 0 where
+  begin : (game : Game) → IsNewGame game → Plays bytes bytes [] game
+  answer : (rest text : List ℕ) (old new : Game) (line : Line) (reply : Reply) → Plays bytes rest text old
+      → 0 < length rest → FirstSays rest line → Replies old new line reply
+      → IsOfHonestSites reply → IsOfRun new → Plays bytes (drop_through 10 rest) (text ++ reply_text reply) new
+
+-- lines of a script were answered, where the reader tells its bytes: all of them at status 0
+pub record Answered (bytes : List ℕ) (old new : Option (List ℕ)) (has_failed : Bool) (status : ℕ) : Type 0 where
+  pub rest : List ℕ
+  pub text : List ℕ
+  pub game : Game
+  pub plays : Plays bytes rest text game
+  pub wrote : Tells old new has_failed text
+  pub all : status ≡ 0 → rest ≡ []
+
+-- the status of a script's end, or of a fault
+abbrev pub status_after : Result (Unit {0}) Fault → ℕ
+status_after (Ok_result played) = 0
+status_after (Err fault) = status_of fault
+
+-- why a script is not played to its end; of want of memory nothing is said
+abbrev pub IsPlayFault : Option (List ℕ) → Bool → Bool → Fault → Type 0
+IsPlayFault bytes read_failed write_failed Input = (read_failed ≡ true) ⊎ IsEndless bytes
+IsPlayFault bytes read_failed write_failed Output = write_failed ≡ true
+IsPlayFault bytes read_failed write_failed Memory = ⊤
+IsPlayFault bytes read_failed write_failed fault = ⊥

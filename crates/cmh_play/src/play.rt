@@ -1,0 +1,256 @@
+//! The command `play`: all sites of a world in memory, driven by a script.
+
+ghost use Rattle.std.specs.Prelude.{◌≡◌, ◌≢◌, ◌⊎◌, true, false, IfOk, IfErr, IfSome, OnOk, OnErr, Some};
+ghost use Rattle.cmh_files.specs.Faults.{NamesFault};
+ghost use Rattle.cmh_play.specs.Keeping.{AnsweredAndKept, AnswersAndKeeps, IsKeptPlayFault, IsUnanswered, KeepsAt, KeepsWorld, PlayedToEnd};
+ghost use Rattle.cmh_play.specs.Play.{AddsSite, Answered, AnswersLine, CarriesOut, Commands, IsAnswerFault, IsNewGame, IsPlayFault, IsSaidBy, Replies, SetsEdition, status_after};
+ghost use Rattle.cmh_files.specs.Status.{IsStatus};
+
+use crate::keeper::{Keeper, NoKeeper};
+use crate::reply::Reply;
+use cmh_files::Fault;
+use cmh_frames::{Edition, SiteRow};
+use cmh_playground::{Draft, Playground};
+use cmh_script::{Command, Device, Line, NextLine, parse, read_line};
+use std::alloc::{AllocError, Global};
+use std::io::{Read, Write};
+
+/// Plays a script, and answers the status of the program: 0 at the script's end, 1 where memory ran out, 3 where the
+/// script can't be read or the answers can't be written. A fault is named on `err`, and a write to it that fails is
+/// ignored. Each answer is flushed before the next line is read. The lines before a fault are answered, of which the
+/// contract says no more than that nothing else is written.
+pub fn run_play<R: Read, W: Write, E: Write>(
+    alloc: Global,
+    input: &mut Device<R>,
+    out: &mut Device<W>,
+    err: &mut Device<E>,
+) -> u8
+    ensures status { IsStatus result }
+
+    // What is written answers the script line by line: all of it where the status is 0.
+    ensures answers { IfSome (R.remaining input.old.inner) (λ bytes. Answered bytes (W.contents out.old.inner)
+        (W.contents out.new.inner) out.new.has_failed result) }
+    ensures silent { result ≡ 0 → err.new ≡ err.old }
+
+    // What was written is flushed, also before a fault.
+    ensures flushed { result ≡ 0 → out.new.is_flushed ≡ true }
+    ensures left { out.new.has_failed ≡ false → (out.new.is_flushed ≡ true) ⊎ (out.new ≡ out.old) }
+    ensures fault { result ≢ 0 → NamesFault (IsPlayFault (R.remaining input.old.inner) input.new.has_failed
+        out.new.has_failed) result (E.contents err.old.inner) (E.contents err.new.inner) err.new.has_failed }
+{
+    run_play_keeping(alloc, input, out, err, &mut NoKeeper)
+}
+
+/// The same, where the journals of all sites are kept: before each report is written, and at the script's end, once all
+/// answers are flushed. A keeper that fails ends the command with its fault.
+pub fn run_play_keeping<R: Read, W: Write, E: Write, K: Keeper>(
+    alloc: Global,
+    input: &mut Device<R>,
+    out: &mut Device<W>,
+    err: &mut Device<E>,
+    keeper: &mut K,
+) -> u8
+    ensures status { IsStatus result }
+
+    // What is written answers the script line by line, and the journals of the world that it leads to are kept.
+    ensures answers { IfSome (R.remaining input.old.inner) (λ bytes. AnsweredAndKept K.keeps bytes
+        (W.contents out.old.inner) (W.contents out.new.inner) out.new.has_failed result keeper.new) }
+    ensures silent { result ≡ 0 → err.new ≡ err.old }
+
+    // What was written is flushed, also before a fault.
+    ensures flushed { result ≡ 0 → out.new.is_flushed ≡ true }
+    ensures left { out.new.has_failed ≡ false → (out.new.is_flushed ≡ true) ⊎ (out.new ≡ out.old) }
+    ensures fault { result ≢ 0 → NamesFault (IsKeptPlayFault K.fails (R.remaining input.old.inner)
+        input.new.has_failed out.new.has_failed) result (E.contents err.old.inner) (E.contents err.new.inner)
+        err.new.has_failed }
+{
+    match play(alloc, input, out, keeper) {
+        Ok(()) => 0,
+        Err(fault) => fault.name_on(err),
+    }
+}
+
+fn play<R: Read, W: Write, K: Keeper>(
+    alloc: Global,
+    input: &mut Device<R>,
+    out: &mut Device<W>,
+    keeper: &mut K,
+) -> Result<(), Fault>
+    ensures answers { IfSome (R.remaining input.old.inner) (λ bytes. AnsweredAndKept K.keeps bytes
+        (W.contents out.old.inner) (W.contents out.new.inner) out.new.has_failed (status_after result) keeper.new) }
+    ensures fault { IfErr result (IsKeptPlayFault K.fails (R.remaining input.old.inner) input.new.has_failed
+        out.new.has_failed) }
+    ensures flushed { OnOk result (out.new.is_flushed ≡ true) }
+    ensures left { out.new.has_failed ≡ false → (out.new.is_flushed ≡ true) ⊎ (out.new ≡ out.old) }
+{
+    let mut game = Game::new(alloc)?;
+    let played = answer_all(alloc, &mut game, input, out, keeper);
+    let flushed = out.flush();
+    played?;
+    flushed?;
+    game.keep(alloc, keeper)
+}
+
+/// Reads and answers line after line.
+fn answer_all<R: Read, W: Write, K: Keeper>(
+    alloc: Global,
+    game: &mut Game,
+    input: &mut Device<R>,
+    out: &mut Device<W>,
+    keeper: &mut K,
+) -> Result<(), Fault>
+    requires { IsNewGame game.old }
+    ensures answers { IfSome (R.remaining input.old.inner) (λ bytes. Answered bytes (W.contents out.old.inner)
+        (W.contents out.new.inner) out.new.has_failed (status_after result)) }
+    ensures all { OnOk result (IfSome (R.remaining input.old.inner) (λ bytes. PlayedToEnd bytes
+        (W.contents out.old.inner) (W.contents out.new.inner) game.new)) }
+    ensures fault { IfErr result (IsKeptPlayFault K.fails (R.remaining input.old.inner) input.new.has_failed
+        out.new.has_failed) }
+{
+    let mut line = Vec::new(alloc);
+    for turn in 0..u64::MAX {
+        let next = read_line(input, &mut line)?;
+        if next.is_end() {
+            return Ok(());
+        }
+        game.answer_line(alloc, next, &line, out, keeper)?;
+    }
+    Err(Fault::Input)
+}
+
+/// What a line says; one that is too long is a bad one.
+fn said_by(alloc: Global, next: NextLine, line: &[u8]) -> Result<Line, AllocError>
+    ensures { IfOk result (IsSaidBy next line.now) }
+{
+    match next {
+        NextLine::Line => parse(alloc, line),
+        NextLine::TooLong | NextLine::End => Ok(Line::Bad),
+    }
+}
+
+/// A world that a script names and then plays: the first command closes the draft.
+#[derive(Drop)]
+enum Game {
+    Named(Draft),
+    Played(Playground),
+}
+
+impl Game {
+    fn new(alloc: Global) -> Result<Game, AllocError>
+        ensures { IfOk result IsNewGame }
+    {
+        Ok(Game::Named(Draft::new(alloc)?))
+    }
+
+    /// Keeps the journals of the world; of a draft those of its sites, which are empty.
+    fn keep<K: Keeper>(&self, alloc: Global, keeper: &mut K) -> Result<(), Fault>
+        ensures kept { OnOk result (KeepsWorld K.keeps self.now keeper.old keeper.new) }
+        ensures fault { IfErr result (λ fault. (fault ≡ Fault.Memory) ⊎ K.fails fault) }
+    {
+        match self {
+            Game::Played(world) => keeper.keep(alloc, world.journals()),
+            Game::Named(draft) => {
+                let world = Playground::new(alloc, draft.topology())?;
+                keeper.keep(alloc, world.journals())
+            }
+        }
+    }
+
+    /// Keeps the journals where the reply is a report.
+    fn keep_for<K: Keeper>(&self, alloc: Global, reply: &Reply, keeper: &mut K) -> Result<(), Fault>
+        ensures kept { OnOk result (KeepsAt K.keeps reply.now self.now keeper.old keeper.new) }
+        ensures fault { IfErr result (λ fault. (fault ≡ Fault.Memory) ⊎ K.fails fault) }
+    {
+        match reply {
+            Reply::Report(_, _) => self.keep(alloc, keeper),
+            _ => Ok(()),
+        }
+    }
+
+    /// Answers what was read of a script. The journals are kept before a report is written.
+    fn answer_line<W: Write, K: Keeper>(
+        &mut self,
+        alloc: Global,
+        next: NextLine,
+        line: &[u8],
+        out: &mut Device<W>,
+        keeper: &mut K,
+    ) -> Result<(), Fault>
+        ensures answers { OnOk result (AnswersAndKeeps K.keeps self.old self.new next line.now
+            (W.contents out.old.inner) (W.contents out.new.inner) keeper.old keeper.new) }
+        ensures fault { IfErr result (IsUnanswered K.fails (W.contents out.old.inner)
+            (W.contents out.new.inner) out.new.has_failed) }
+    {
+        let said = said_by(alloc, next, line)?;
+        let reply = self.answer(alloc, said)?;
+        self.keep_for(alloc, &reply, keeper)?;
+        out.write_text(&reply)?;
+        out.flush()?;
+        Ok(())
+    }
+
+    fn answer(&mut self, alloc: Global, line: Line) -> Result<Reply, Fault>
+        ensures replies { IfOk result (Replies self.old self.new line) }
+        ensures fault { OnErr result (result ≡ Err Fault.Memory) }
+    {
+        match line {
+            Line::Silent => Ok(Reply::Silent),
+            Line::Bad => Ok(Reply::BadLine),
+            Line::Edition(edition) => Ok(self.set_edition(edition)?),
+            Line::Site(row) => Ok(self.add(row)?),
+            Line::Command(command) => self.command(alloc, command),
+        }
+    }
+
+    fn set_edition(&mut self, edition: Edition) -> Result<Reply, AllocError>
+        ensures { IfOk result (SetsEdition self.old self.new edition) }
+    {
+        match self {
+            Game::Named(draft) if draft.is_empty() => {
+                draft.set_edition(edition)?;
+                Ok(Reply::Ok)
+            }
+            _ => Ok(Reply::Late),
+        }
+    }
+
+    fn add(&mut self, row: SiteRow) -> Result<Reply, AllocError>
+        ensures { IfOk result (AddsSite self.old self.new row) }
+    {
+        match self {
+            Game::Named(draft) => match draft.add(row)? {
+                None => Ok(Reply::Ok),
+                Some(fault) => Ok(Reply::Topology(fault)),
+            },
+            Game::Played(_) => Ok(Reply::Late),
+        }
+    }
+
+    /// The first command closes the draft.
+    fn command(&mut self, alloc: Global, command: Command) -> Result<Reply, Fault>
+        ensures done { IfOk result (Commands self.old self.new command) }
+        ensures fault { OnErr result (result ≡ Err Fault.Memory) }
+    {
+        match self {
+            Game::Played(world) => carry_out(alloc, world, command),
+            Game::Named(draft) => {
+                let mut world = Playground::new(alloc, draft.topology())?;
+                let reply = carry_out(alloc, &mut world, command)?;
+                *self = Game::Played(world);
+                Ok(reply)
+            }
+        }
+    }
+}
+
+fn carry_out(alloc: Global, world: &mut Playground, command: Command) -> Result<Reply, Fault>
+    ensures done { IfOk result (CarriesOut world.old world.new command) }
+    ensures fault { OnErr result (result ≡ Err Fault.Memory) }
+{
+    match command {
+        Command::Act { process, event } => Ok(Reply::Step(world.act(process, event)?)),
+        Command::Deliver { from, to } => Ok(Reply::Delivery(world.deliver(from, to)?)),
+        Command::Cut { from, to } => Ok(Reply::Severance(world.cut(from, to)?)),
+        Command::Report => Ok(Reply::Report(world.edition(), world.audit(alloc)?)),
+    }
+}

@@ -1,0 +1,183 @@
+-- Lines that are answered one after the other.
+use Rattle.std.proofs.Common.{◌≡◌, ◌≢◌, ℕ, ◌+◌, ◌-◌, ◌^◌, ◌<◌, ◌≤◌, Bool, true, false, List, [], ◌++◌, Option, None, Some, length, nat_lt, refl, sym, ap, subst, ◌∙◌, arith, inl, inr, true≢false}
+use Rattle.std.specs.Prelude.{if◌then◌else◌, IfErr, IfSome, IsErr, IsErrAnd, Result, Ok, Err}
+use Rattle.std.specs.Io.BufRead.{first_line, drop_through}
+use Rattle.std.specs.Io.KnownBytes.{Appends}
+use Rattle.std.proofs.lemmas.Bool.{lt-ltb, le-ltb}
+use Rattle.cmh_script.proofs.LinesSeen.{if_some}
+use Rattle.cmh_script.specs.Lines.{IsNextLine, IsEndless, IsLineFault}
+use Rattle.cmh_script.specs.declared.lines.LineFault.{LineFault}
+use Rattle.cmh_script.specs.declared.lines.LineFault.TheVariants.{Input as NoInput, Memory as NoSpace}
+use Rattle.cmh_script.specs.declared.lines.NextLine.{NextLine}
+use Rattle.cmh_script.specs.declared.lines.NextLine.TheVariants.{Line, TooLong, End}
+use Rattle.cmh_files.specs.Faults.{of_line}
+use Rattle.cmh_files.specs.declared.faults.Fault.{Fault}
+use Rattle.cmh_files.specs.declared.faults.Fault.TheVariants.{TopologyFile, ScriptFile, OutFile, JournalFile, Json, Topology, Journal, Set, Site, JournalDisk, Listen, Input, Output, Memory}
+use Rattle.cmh_play.proofs.Plays.{appends-more, appends-none, at_some, length-drop_through, long_some}
+use Rattle.cmh_running.specs.Dialogue.{line_of, line_in, HasAnswered, Dialogue, begin, turn, Conversed}
+use Rattle.cmh_play.specs.Play.{IsAnswerFault, IsPlayFault}
+use Rattle.cmh_running.specs.declared.dialogue.Flow.{Flow}
+use Rattle.cmh_running.specs.declared.dialogue.Flow.TheVariants.{Awaits, Ends}
+
+-- what was read is the first line, and there is one
+first_is : (bytes line : List ℕ) (next : NextLine) → IsNextLine bytes line next → next ≢ End → (0 < length bytes) × (line_of next line ≡ line_in bytes)
+first_is bytes line Line is more =
+    let short : nat_lt 1024 (length (first_line bytes)) ≡ false = le-ltb 1024 (length (first_line bytes)) (subst (λ (l : List ℕ). length l ≤ 1024) is.1 is.2) in
+    (is.0, ap Some is.1 ∙ sym (ap (λ (b : Bool). if b then None else Some (first_line bytes)) short))
+first_is bytes line TooLong is more =
+    (long_some bytes is, sym (ap (λ (b : Bool). if b then None else Some (first_line bytes)) (lt-ltb 1024 (length (first_line bytes)) is)))
+first_is bytes line End is more = absurd (more refl)
+
+-- n lines of the bytes were answered
+pub record TalkedSoFar (S : Type 0) (answers : S → S → Option (List ℕ) → List ℕ → Flow → Type 0) (first : S) (bytes : List ℕ)
+    (now old out : Option (List ℕ)) (last : S) (n : ℕ) : Type 0 where
+  pub rest : List ℕ
+  pub text : List ℕ
+  pub now_is : now ≡ Some rest
+  pub dialogue : Dialogue S answers first bytes rest text last
+  pub wrote : Appends old out text
+  pub counted : n + length rest ≤ length bytes
+
+-- the same, where the reader tells its bytes
+abbrev pub HasTalked : (S : Type 0) → (S → S → Option (List ℕ) → List ℕ → Flow → Type 0) → S → Option (List ℕ) → Option (List ℕ) → Option (List ℕ) → Option (List ℕ) → S → ℕ → Type 0
+HasTalked S answers first start now old out last n = (bytes : List ℕ) → start ≡ Some bytes → TalkedSoFar S answers first bytes now old out last n
+
+module _ (S : Type 0) (answers : S → S → Option (List ℕ) → List ℕ → Flow → Type 0) (first : S) (start old : Option (List ℕ)) where
+  pub begun : HasTalked S answers first start start old old first 0
+  begun = λ bytes e. record {
+    rest = bytes;
+    text = [];
+    now_is = e;
+    dialogue = begin;
+    wrote = appends-none old;
+    counted = omega arith;
+  }
+
+  module _ (now out : Option (List ℕ)) (last : S) (n : ℕ) (so_far : HasTalked S answers first start now old out last n) where
+    -- one line more
+    pub talked_more : (after wrote : Option (List ℕ)) (next : NextLine) (line given : List ℕ) (later : S) (flow : Flow)
+        → IfSome now (λ bytes. IsNextLine bytes line next) → IfSome now (λ bytes. after ≡ Some (drop_through 10 bytes)) → next ≢ End → given ≡ line → flow ≡ Awaits
+        → HasAnswered (λ said text. answers last later said text flow) (line_of next given) out wrote → HasTalked S answers first start after old wrote later (n + 1)
+    talked_more after wrote next line given later flow is left more same awaits said = λ bytes e.
+        let s = so_far bytes e in
+        let answered = subst (λ (f : Flow). answers last later (line_of next line) said.text f) awaits
+        (subst (λ (l : List ℕ). answers last later (line_of next l) said.text flow) same said.answered) in
+        let one = first_is s.rest line next (at_some now (λ bytes. IsNextLine bytes line next) s.rest s.now_is is) more in
+        let shorter = length-drop_through 10 s.rest one.0 in
+        let counted = s.counted in
+        record {
+          rest = drop_through 10 s.rest;
+          text = s.text ++ said.text;
+          now_is = at_some now (λ bytes. after ≡ Some (drop_through 10 bytes)) s.rest s.now_is left;
+          dialogue = turn s.rest s.text said.text last later s.dialogue one.0 (subst (λ (l : Option (List ℕ)). answers last later l said.text Awaits) one.1 answered);
+          wrote = appends-more old out wrote s.text said.text s.wrote said.wrote;
+          counted = omega (arith, shorter, counted);
+        }
+
+    -- no line is left
+    pub talked_all : (next : NextLine) (line : List ℕ) (has_failed : Bool) (done : Unit {0}) → IfSome now (λ bytes. IsNextLine bytes line next) → next ≡ End
+        → IfSome start (λ bytes. Conversed answers first bytes old out has_failed (Ok done))
+    talked_all next line has_failed done is ends = if_some start _ (λ bytes e.
+        let s = so_far bytes e in
+        let none : s.rest ≡ [] = subst (IsNextLine s.rest line) ends (at_some now (λ bytes. IsNextLine bytes line next) s.rest s.now_is is) in
+        record {
+          text = s.text;
+          is = inl (record { last = last; dialogue = subst (λ (r : List ℕ). Dialogue S answers first bytes r s.text last) none s.dialogue });
+          wrote = s.wrote;
+        })
+
+    -- a line ends it
+    pub talked_to_end : (wrote : Option (List ℕ)) (next : NextLine) (line given : List ℕ) (later : S) (flow : Flow) (has_failed : Bool) (done : Unit {0})
+        → IfSome now (λ bytes. IsNextLine bytes line next) → next ≢ End → given ≡ line → flow ≡ Ends
+        → HasAnswered (λ said text. answers last later said text flow) (line_of next given) out wrote
+        → IfSome start (λ bytes. Conversed answers first bytes old wrote has_failed (Ok done))
+    talked_to_end wrote next line given later flow has_failed done is more same over said = if_some start _ (λ bytes e.
+        let s = so_far bytes e in
+        let answered = subst (λ (f : Flow). answers last later (line_of next line) said.text f) over
+        (subst (λ (l : List ℕ). answers last later (line_of next l) said.text flow) same said.answered) in
+        let one = first_is s.rest line next (at_some now (λ bytes. IsNextLine bytes line next) s.rest s.now_is is) more in
+        record {
+          text = s.text ++ said.text;
+          is = inr (record {
+            rest = s.rest;
+            before = s.text;
+            said = said.text;
+            old = last;
+            new = later;
+            dialogue = s.dialogue;
+            more = one.0;
+            ends = subst (λ (l : Option (List ℕ)). answers last later l said.text Ends) one.1 answered;
+            text_is = refl;
+          });
+          wrote = appends-more old out wrote s.text said.text s.wrote said.wrote;
+        })
+
+    -- a fault comes after these lines
+    pub talked_some : (has_failed : Bool) (fault : Fault) → IfSome start (λ bytes. Conversed answers first bytes old out has_failed (Err fault))
+    talked_some has_failed fault = if_some start _ (λ bytes e.
+        let s = so_far bytes e in
+        record { text = s.text; is = record { rest = s.rest; last = last; dialogue = s.dialogue }; wrote = inr s.wrote })
+
+    pub talked_err : (has_failed : Bool) (r : Result (Unit {0}) Fault) → IsErr r → IfSome start (λ bytes. Conversed answers first bytes old out has_failed r)
+    talked_err has_failed (Ok x) err = absurd (true≢false (sym err))
+    talked_err has_failed (Err fault) err = talked_some has_failed fault
+
+    talked_failed : (after : Option (List ℕ)) (has_failed : Bool) (fault : Fault) → has_failed ≡ true
+        → IfSome start (λ bytes. Conversed answers first bytes old after has_failed (Err fault))
+    talked_failed after has_failed fault failed = if_some start _ (λ bytes e.
+        let s = so_far bytes e in
+        record { text = s.text; is = record { rest = s.rest; last = last; dialogue = s.dialogue }; wrote = inl failed })
+
+    -- a line is not answered
+    talked_fault : (after : Option (List ℕ)) (has_failed : Bool) (fault : Fault) → IsAnswerFault out after has_failed fault
+        → IfSome start (λ bytes. Conversed answers first bytes old after has_failed (Err fault))
+    talked_fault after has_failed Output failed = talked_failed after has_failed Output failed
+    talked_fault after has_failed Memory same =
+        subst (λ (o : Option (List ℕ)). IfSome start (λ bytes. Conversed answers first bytes old o has_failed (Err Memory))) (sym same) (talked_some has_failed Memory)
+    talked_fault after has_failed TopologyFile none = absurd none
+    talked_fault after has_failed ScriptFile none = absurd none
+    talked_fault after has_failed OutFile none = absurd none
+    talked_fault after has_failed (JournalFile place) none = absurd none
+    talked_fault after has_failed Json none = absurd none
+    talked_fault after has_failed (Topology fault) none = absurd none
+    talked_fault after has_failed (Journal place fault) none = absurd none
+    talked_fault after has_failed (Set fault) none = absurd none
+    talked_fault after has_failed Site none = absurd none
+    talked_fault after has_failed JournalDisk none = absurd none
+    talked_fault after has_failed Listen none = absurd none
+    talked_fault after has_failed Input none = absurd none
+
+    pub talked_fault_err : (after : Option (List ℕ)) (has_failed : Bool) (r : Result (Unit {0}) Fault) (lower : Fault) → IsErrAnd r (λ fault. fault ≡ lower)
+        → IsAnswerFault out after has_failed lower → IfSome start (λ bytes. Conversed answers first bytes old after has_failed r)
+    talked_fault_err after has_failed (Ok x) lower is h = absurd is
+    talked_fault_err after has_failed (Err fault) lower is h = talked_fault after has_failed fault (subst (IsAnswerFault out after has_failed) (sym is) h)
+
+    endless_before : IsEndless now → IsEndless start
+    endless_before endless = go start (λ bytes e. so_far bytes e)
+      where
+        go : (s : Option (List ℕ)) → ((bytes : List ℕ) → s ≡ Some bytes → TalkedSoFar S answers first bytes now old out last n) → IsEndless s
+        go None h = tt
+        go (Some bytes) h =
+            let s = h bytes refl in
+            let many : 2 ^ 64 - 1 ≤ length s.rest = subst IsEndless s.now_is endless in
+            let counted = s.counted in
+            omega (arith, many, counted)
+
+    pub endless_talk : 2 ^ 64 - 1 ≤ n → IsEndless start
+    endless_talk many = go start (λ bytes e. so_far bytes e)
+      where
+        go : (s : Option (List ℕ)) → ((bytes : List ℕ) → s ≡ Some bytes → TalkedSoFar S answers first bytes now old out last n) → IsEndless s
+        go None h = tt
+        go (Some bytes) h =
+            let counted = (h bytes refl).counted in
+            omega (arith, many, counted)
+
+    read_fault : (read_failed write_failed : Bool) (fault : LineFault) → IsLineFault now read_failed fault → IsPlayFault start read_failed write_failed (of_line fault)
+    read_fault read_failed write_failed NoInput (inl failed) = inl failed
+    read_fault read_failed write_failed NoInput (inr endless) = inr (endless_before endless)
+    read_fault read_failed write_failed NoSpace h = tt
+
+    pub read_err : (read_failed write_failed : Bool) (r : Result (Unit {0}) Fault) (lower : LineFault) → IsErrAnd r (λ fault. fault ≡ of_line lower) → IsLineFault now read_failed lower
+        → IfErr r (IsPlayFault start read_failed write_failed)
+    read_err read_failed write_failed (Ok x) lower is h = tt
+    read_err read_failed write_failed (Err fault) lower is h = subst (IsPlayFault start read_failed write_failed) (sym is) (read_fault read_failed write_failed lower h)

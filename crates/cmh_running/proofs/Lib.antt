@@ -1,0 +1,3 @@
+pub mod Dialogues
+mod Named
+mod Tallies

@@ -1,0 +1,150 @@
+//! What the lines say that running sites are given.
+
+ghost use Rattle.std.specs.Prelude.{◌≡◌, ◌≢◌, ◌∷◌, [], List, ℕ, codes, IfOk, MatchOption};
+ghost use Rattle.cmh_script.specs.Words.{words_of};
+ghost use Rattle.cmh_running.specs.SiteScript.{IsEventOf, NamesNoSite, NamesSite, SaysEvent, SaysToCluster, SaysToSite, order_name};
+ghost use Rattle.cmh_script.specs.declared.script.Line.TheVariants as scripts;
+ghost use Rattle.cmh_running.specs.declared.site_script.Order as orders;
+
+use cmh_frames::ProcId;
+use cmh_model::Event;
+use cmh_script::{Command, Line, Words, number, parse};
+use std::alloc::{AllocError, Global};
+
+/// What a line says as it does in every script.
+#[derive(Debug, Drop)]
+pub enum EventLine {
+    /// An empty line or a comment, which has no answer.
+    Silent,
+    /// A line that is no event.
+    Bad,
+    /// An event of this process.
+    Act { process: ProcId, event: Event },
+}
+
+/// What a line of one word wants of a running site.
+#[derive(Clone, Copy, Debug, PartialEq, Eq)]
+pub enum Order {
+    /// The processes that it declared.
+    Declared,
+    /// Its outgoing links.
+    Connect,
+    /// The states of its links.
+    Links,
+    /// Its end.
+    Quit,
+}
+
+/// A line for one running site.
+#[derive(Debug, Drop)]
+pub enum SiteLine {
+    Order(Order),
+    Event(EventLine),
+}
+
+/// A line for all sites of a running topology.
+#[derive(Debug, Drop)]
+pub enum ClusterLine {
+    /// The processes that the site with this number declared.
+    Declared(u16),
+    Event(EventLine),
+}
+
+/// What a line says to one site.
+pub fn parse_for_site(alloc: Global, line: &[u8]) -> Result<SiteLine, AllocError>
+    ensures { IfOk result (SaysToSite line.now) }
+{
+    match order_of(line) {
+        Some(order) => Ok(SiteLine::Order(order)),
+        None => Ok(SiteLine::Event(parse_event(alloc, line)?)),
+    }
+}
+
+/// What a line says to all sites.
+pub fn parse_for_cluster(alloc: Global, line: &[u8]) -> Result<ClusterLine, AllocError>
+    ensures { IfOk result (SaysToCluster line.now) }
+{
+    match site_named(line) {
+        Some(site) => Ok(ClusterLine::Declared(site)),
+        None => Ok(ClusterLine::Event(parse_event(alloc, line)?)),
+    }
+}
+
+fn parse_event(alloc: Global, line: &[u8]) -> Result<EventLine, AllocError>
+    ensures { IfOk result (SaysEvent line.now) }
+{
+    match parse(alloc, line)? {
+        Line::Silent => Ok(EventLine::Silent),
+        Line::Bad => Ok(EventLine::Bad),
+        Line::Edition(_) => Ok(EventLine::Bad),
+        Line::Site(_) => Ok(EventLine::Bad),
+        Line::Command(command) => Ok(event_of(command)),
+    }
+}
+
+fn event_of(command: Command) -> EventLine
+    ensures { IsEventOf (scripts.Command command) result }
+{
+    match command {
+        Command::Act { process, event } => EventLine::Act { process, event },
+        Command::Deliver { from: _, to: _ } => EventLine::Bad,
+        Command::Cut { from: _, to: _ } => EventLine::Bad,
+        Command::Report => EventLine::Bad,
+    }
+}
+
+/// The order of this one word.
+fn order_of(line: &[u8]) -> Option<Order>
+    ensures { MatchOption result ((order : orders.Order) → words_of line.now ≢ order_name order ∷ [])
+        (λ order. words_of line.now ≡ order_name order ∷ []) }
+{
+    let mut words = Words::new(line);
+    let word = words.next_word()?;
+    if words.next_word().is_some() {
+        return None;
+    }
+    order_named(word)
+}
+
+fn order_named(word: &[u8]) -> Option<Order>
+    ensures { MatchOption result ((order : orders.Order) → word.now ≢ order_name order) (λ order. word.now ≡ order_name order) }
+{
+    if word == b"declared".as_slice() {
+        return Some(Order::Declared);
+    }
+    if word == b"connect".as_slice() {
+        return Some(Order::Connect);
+    }
+    if word == b"links".as_slice() {
+        return Some(Order::Links);
+    }
+    if word == b"quit".as_slice() {
+        return Some(Order::Quit);
+    }
+    None
+}
+
+/// The number of the site whose declarations a line asks for.
+fn site_named(line: &[u8]) -> Option<u16>
+    ensures { MatchOption result (NamesNoSite (words_of line.now)) (NamesSite (words_of line.now)) }
+{
+    let word = word_behind_declared(line)?;
+    number(word)
+}
+
+fn word_behind_declared(line: &[u8]) -> Option<&[u8]>
+    ensures { MatchOption result ((word : List ℕ) → words_of line.now ≢ codes "declared" ∷ word ∷ [])
+        (λ word. words_of line.now ≡ codes "declared" ∷ word.now ∷ []) }
+{
+    let mut words = Words::new(line);
+    let name = words.next_word()?;
+    let word = words.next_word()?;
+    if words.next_word().is_some() {
+        return None;
+    }
+    if name == b"declared".as_slice() {
+        Some(word)
+    } else {
+        None
+    }
+}
