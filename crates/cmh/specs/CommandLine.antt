@@ -7,6 +7,7 @@ use Rattle.clap.specs.Walk.{rows_of}
 use Rattle.cmh_files.specs.Audits.{AuditEnds}
 use Rattle.cmh_files.specs.Explains.{ExplainEnds}
 use Rattle.cmh_files.specs.Faults.{NamesFault}
+use Rattle.cmh_files.specs.RunAudits.{RunEnds}
 use Rattle.cmh_files.specs.Shows.{ShowEnds}
 use Rattle.cmh_files.specs.Status.{IsStatus}
 use Rattle.cmh_files.specs.declared.faults.Fault.{Fault}
@@ -20,6 +21,10 @@ NamesAudit matches = subcommand_name_of matches ≡ Some (codes "audit")
 abbrev pub NamesShow : ArgMatches → Type 0
 NamesShow matches = subcommand_name_of matches ≡ Some (codes "show")
 
+-- the command that is named is `draw`
+abbrev pub NamesDraw : ArgMatches → Type 0
+NamesDraw matches = subcommand_name_of matches ≡ Some (codes "draw")
+
 -- a command with this name is named
 abbrev pub Names : ArgMatches → List ℕ → Type 0
 Names matches name = subcommand_name_of matches ≡ Some name
@@ -30,6 +35,7 @@ pub record NamesNothing (matches : ArgMatches) : Type 0 where
   pub no_site : Names matches (codes "site") → ⊥
   pub no_cluster : Names matches (codes "cluster") → ⊥
   pub no_show : Names matches (codes "show") → ⊥
+  pub no_draw : Names matches (codes "draw") → ⊥
 
 -- no folder for journals is named
 abbrev pub NamesNoFolder : ArgMatches → Type 0
@@ -40,6 +46,22 @@ NamesNoFolder matches = (words : ArgMatches)
 -- an option without a value that is not given
 abbrev pub IsUnset : Option (List ℕ) → Type 0
 IsUnset told = (told ≡ None) ⊎ (told ≡ Some (codes "false"))
+
+-- an option of the command has this value
+abbrev pub NamesOption : ArgMatches → List ℕ → List ℕ → Type 0
+NamesOption matches name value = (words : ArgMatches)
+    → option_map (λ p. p.1) (subcommand_rows_of matches) ≡ Some (rows_of (found_of words))
+    → one_text (found_of words) name ≡ Some value
+
+-- a run is not asked for
+abbrev pub NamesNoRun : ArgMatches → Type 0
+NamesNoRun matches = (words : ArgMatches)
+    → option_map (λ p. p.1) (subcommand_rows_of matches) ≡ Some (rows_of (found_of words))
+    → IsUnset (one_text (found_of words) (codes "run"))
+
+-- it is asked for
+abbrev pub NamesRun : ArgMatches → Type 0
+NamesRun matches = NamesOption matches (codes "run") (codes "true")
 
 -- the reasons for stops are not asked for
 abbrev pub NamesNoReasons : ArgMatches → Type 0
@@ -79,6 +101,14 @@ abbrev pub ExplainsFiles : Option (List ℕ) → Option (List ℕ) → Bool → 
 ExplainsFiles old new has_failed is_flushed err_old err_new err_failed status =
     ((topology : List ℕ) × (files : List (List ℕ))
     × ExplainEnds topology files old new has_failed is_flushed err_old err_new err_failed status)
+    ⊎ ((new ≡ old) × NamesFault IsUnread status err_old err_new err_failed)
+
+-- the same, with a run
+abbrev pub ListsFiles : Option (List ℕ) → Option (List ℕ) → Bool → Bool
+    → Option (List ℕ) → Option (List ℕ) → Bool → ℕ → Type 0
+ListsFiles old new has_failed is_flushed err_old err_new err_failed status =
+    ((topology : List ℕ) × (files : List (List ℕ))
+    × RunEnds topology files old new has_failed is_flushed err_old err_new err_failed status)
     ⊎ ((new ≡ old) × NamesFault IsUnread status err_old err_new err_failed)
 
 -- the same of the lines of some journals

@@ -10,6 +10,8 @@ pub const AUDIT: &str = "audit";
 
 pub const SHOW: &str = "show";
 
+pub const DRAW: &str = "draw";
+
 pub const SITE: &str = "site";
 
 pub const CLUSTER: &str = "cluster";
@@ -26,6 +28,16 @@ pub const OUT: &str = "out";
 
 pub const WHY: &str = "why";
 
+pub const RUN: &str = "run";
+
+pub const KIND: &str = "kind";
+
+pub const FORMAT: &str = "format";
+
+const KINDS: &[&str] = &["waits", "run"];
+
+const FORMATS: &[&str] = &["dot", "svg"];
+
 /// The command line.
 pub fn command<'a>(alloc: Global, help: &'a Help) -> Result<Command<'a>, Error> {
     let cmh = Command::new(alloc, "cmh")
@@ -39,7 +51,8 @@ pub fn command<'a>(alloc: Global, help: &'a Help) -> Result<Command<'a>, Error> 
         .subcommand(site_command(alloc, help)?)?
         .subcommand(cluster_command(alloc, help)?)?
         .subcommand(audit_command(alloc, help)?)?
-        .subcommand(show_command(alloc, help)?)?;
+        .subcommand(show_command(alloc, help)?)?
+        .subcommand(draw_command(alloc, help)?)?;
     Ok(cmh)
 }
 
@@ -75,8 +88,26 @@ fn audit_command<'a>(alloc: Global, help: &'a Help) -> Result<Command<'a>, Error
         .after_help(help.audit.as_str())
         .arg(topology_arg(alloc))?
         .arg(why_arg(alloc))?
+        .arg(run_arg(alloc)?)?
         .arg(journals_arg(alloc).help("The journal files of all sites, in any order"))?;
     Ok(audit)
+}
+
+fn draw_command<'a>(alloc: Global, help: &'a Help) -> Result<Command<'a>, Error> {
+    let kind = word_arg(alloc, KIND, KINDS)
+        .default_value("waits")
+        .help("Who waits for whom at the end, or the run with its frames");
+    let format = word_arg(alloc, FORMAT, FORMATS)
+        .default_value("svg")
+        .help("A picture that a browser opens, or text for Graphviz");
+    let draw = Command::new(alloc, DRAW)
+        .about("Draws the journals of all sites: who waits for whom at their end, or what happened")
+        .after_help(help.draw.as_str())
+        .arg(topology_arg(alloc))?
+        .arg(kind)?
+        .arg(format)?
+        .arg(journals_arg(alloc).help("The journal files of all sites, in any order"))?;
+    Ok(draw)
 }
 
 fn site_command<'a>(alloc: Global, help: &'a Help) -> Result<Command<'a>, Error> {
@@ -128,12 +159,29 @@ fn why_arg<'a>(alloc: Global) -> Arg<'a> {
         .action(ArgAction::SetTrue)
 }
 
+fn run_arg<'a>(alloc: Global) -> Result<Arg<'a>, Error> {
+    let run = Arg::new(alloc, RUN)
+        .long(RUN)
+        .help("Lists, where the journals are accepted, one run that they come from")
+        .action(ArgAction::SetTrue)
+        .conflicts_with(WHY)?;
+    Ok(run)
+}
+
 /// The files of journals, one at least.
 fn journals_arg<'a>(alloc: Global) -> Arg<'a> {
     Arg::new(alloc, JOURNALS)
         .value_name("JOURNAL")
         .required(true)
         .action(ArgAction::Append)
+}
+
+/// An option whose value is one of these words.
+fn word_arg<'a>(alloc: Global, name: &'a str, words: &'a [&'a str]) -> Arg<'a> {
+    Arg::new(alloc, name)
+        .long(name)
+        .value_parser(words)
+        .action(ArgAction::Set)
 }
 
 /// An option whose value is a path.

@@ -93,6 +93,11 @@ With --why a line comes behind the stops for each of them, `why S at N REASON in
                                 site A has sent no more up to its own stop
 ";
 
+const AUDIT_RUN: &str = "\
+With --run a line comes behind an accepted report for each entry, in the order of one run that the journals come from:
+  S N ENTRY                     entry N of site S, in the words of `cmh show`
+";
+
 const AUDIT_STATUSES: &str = "\
 Statuses: 0 accepted, 1 refused or out of memory, 2 for a command line that isn't understood, 3 at a fault, which is
 named on standard error: `fault file P`, `fault json`, `fault topology N`, `fault journal P N`, `fault set N`,
@@ -124,9 +129,23 @@ that isn't understood, 3 at a fault, which is named on standard error: `fault fi
 Example: cmh show one.cmhj two.cmhj
 ";
 
+const DRAW_PICTURE: &str = "\
+The picture of `waits` has a box for each site with its processes, and an arrow from each process that waits at the end
+to each that it waits for; who was declared is drawn as an octagon. That of `run` has a line for each site with its
+entries, an arrow for each frame from the entry that sent it to the one that got it, frames that nobody got open at
+their end, and the entry at which a site stops where the journals are refused.
+
+Statuses: 0 where a picture was written, 1 where memory ran out, 2 for a command line that isn't understood, 3 at a
+fault, which is named on standard error as in `cmh audit --help`.
+
+Example: cmh draw --topology world.json --kind run one.cmhj two.cmhj > run.svg
+Example: cmh draw --topology world.json --format dot one.cmhj two.cmhj | dot -Tpng > waits.png
+";
+
 const COMMANDS: &str = "\
 `cmh play --help` has the language of scripts, `cmh site --help` and `cmh cluster --help` that of running sites,
-`cmh audit --help` the faults of files, `cmh show --help` the lines of a journal.
+`cmh audit --help` the faults of files, `cmh show --help` the lines of a journal,
+`cmh draw --help` what stands in its pictures.
 
 Example: cmh play < examples/cycle-over-two-sites.script
 ";
@@ -166,6 +185,7 @@ pub struct Help {
     pub cluster: String,
     pub audit: String,
     pub show: String,
+    pub draw: String,
 }
 
 impl Help {
@@ -179,6 +199,7 @@ impl Help {
             cluster: running(alloc, CLUSTER_LINES, CLUSTER_STATUSES)?,
             audit: audit(alloc)?,
             show: show(alloc)?,
+            draw: String::from_str(alloc, DRAW_PICTURE)?,
         })
     }
 }
@@ -244,7 +265,7 @@ fn audit(alloc: Global) -> Result<String, AllocError> {
     for fault in SET_FAULTS {
         row(&mut text, fault.number(), fault)?;
     }
-    write!(text, "\n{AUDIT_REASONS}\nRefusals, as in `refused 3`:\n")?;
+    write!(text, "\n{AUDIT_RUN}\n{AUDIT_REASONS}\nRefusals, as in `refused 3`:\n")?;
     for refusal in REFUSALS {
         row(&mut text, refusal.number(), refusal)?;
     }

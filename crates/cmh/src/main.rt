@@ -3,7 +3,12 @@
 
 ghost use Rattle.std.specs.Prelude.{◌≡◌, ◌≢◌, ◌⊎◌, true, IfErr, IfSome, Some, codes};
 ghost use Rattle.clap.specs.Matches.{found_of, one_text};
-ghost use Rattle.cmh.specs.CommandLine.{AuditsFiles, ExplainsFiles, IsEnd, IsUnread, IsUnset, NamesAudit, NamesNoFolder, NamesNoReasons, NamesNothing, NamesReasons, NamesShow, ShowsFiles};
+ghost use Rattle.cmh.specs.CommandLine.{AuditsFiles, ExplainsFiles, IsEnd, IsUnset, ListsFiles, NamesAudit, NamesDraw, NamesNoFolder, NamesNoReasons, NamesNoRun, NamesNothing, NamesOption, NamesReasons, NamesRun, NamesShow, ShowsFiles};
+ghost use Rattle.cmh.specs.Drawing.{DrawsFiles, DrawsSome};
+ghost use Rattle.cmh_draw.specs.Kinds.{kind_word};
+ghost use Rattle.cmh_draw.specs.declared.picture.Kind as kinds;
+ghost use Rattle.cmh_picture.specs.Formats.{format_word};
+ghost use Rattle.cmh_picture.specs.declared.format.Format as formats;
 ghost use Rattle.cmh_files.specs.Faults.{NamesFault};
 ghost use Rattle.cmh_play.specs.Keeping.{IsKeptPlayFault, IsUnkept};
 ghost use Rattle.cmh_play.specs.Play.{Answered, IsPlayFault};
@@ -11,17 +16,21 @@ ghost use Rattle.cmh_files.specs.Status.{IsStatus};
 ghost use Rattle.cmh_files.specs.declared.faults.Fault as faults;
 
 mod commands;
+mod drawing;
+mod files;
 mod help;
 
 use crate::commands::{
-    AUDIT, CLUSTER, JOURNAL, JOURNALS, OUT, PLAY, SCRIPT, SHOW, SITE, TOPOLOGY, WHY, command,
+    AUDIT, CLUSTER, DRAW, JOURNAL, JOURNALS, OUT, PLAY, RUN, SHOW, SITE, TOPOLOGY, WHY, command,
 };
+use crate::drawing::draw;
+use crate::files::{cluster_files_of, files_of, journals_of, read_file};
 use crate::help::Help;
 use clap::{ArgMatches, Error, error};
-use cmh_files::run_audit_why;
+use cmh_files::{run_audit_run, run_audit_why};
 use cmh_frames::SiteId;
 use cmh_site::{
-    Device, Fault, Folder, run_audit, run_cluster, run_play, run_play_keeping, run_show, run_site,
+    Ahead, Device, Fault, Folder, run_audit, run_cluster, run_play, run_play_keeping, run_show, run_site,
 };
 use std::fs::File;
 use std::io::{BufReader, BufWriter, ErrorKind, Read, Write};
@@ -30,7 +39,7 @@ use std::process::ExitCode;
 use std::rt::{Env, Files};
 use std::sync::Wait;
 use std::thread::Threads;
-use std::{env, fs, io};
+use std::{env, io};
 
 fn words<R: Env + AllocGlobal>(rt: &R) -> io::Result<Vec<String>> {
     let mut words = Vec::new(rt.alloc());
@@ -41,7 +50,7 @@ fn words<R: Env + AllocGlobal>(rt: &R) -> io::Result<Vec<String>> {
 }
 
 /// Reads the command line and runs the command; answers the status.
-fn run<R, I: Read, W: Write, E: Write>(
+fn run<R, I: Read + Ahead, W: Write, E: Write>(
     rt: &R,
     input: &mut Device<I>,
     out: &mut Device<W>,
@@ -100,7 +109,7 @@ fn print_words<R: Print + Eprint, E: Write>(rt: &R, error: &Error, err: &mut Dev
 }
 
 /// Runs the command that the words name; `play` where they name none.
-fn carry_out<R, I: Read, W: Write, E: Write>(
+fn carry_out<R, I: Read + Ahead, W: Write, E: Write>(
     rt: &R,
     matches: &ArgMatches<'_>,
     input: &mut Device<I>,
@@ -131,18 +140,23 @@ where
         → NamesFault (IsKeptPlayFault IsUnkept (I.remaining input.old.inner) input.new.has_failed out.new.has_failed)
         result (E.contents err.old.inner) (E.contents err.new.inner) err.new.has_failed }
 
-    // Where an audit is named, files are audited, and no script is read; the reasons for stops are told where they are
-    // asked for.
-    ensures audits { NamesAudit matches.now → NamesNoReasons matches.now
+    // Where an audit is named, files are audited, and no script is read; the reasons for stops, or a run, are told where
+    // they are asked for.
+    ensures audits { NamesAudit matches.now → NamesNoReasons matches.now → NamesNoRun matches.now
         → AuditsFiles (W.contents out.old.inner) (W.contents out.new.inner) out.new.has_failed out.new.is_flushed
         (E.contents err.old.inner) (E.contents err.new.inner) err.new.has_failed result }
     ensures explains { NamesAudit matches.now → NamesReasons matches.now
         → ExplainsFiles (W.contents out.old.inner) (W.contents out.new.inner) out.new.has_failed out.new.is_flushed
         (E.contents err.old.inner) (E.contents err.new.inner) err.new.has_failed result }
-    ensures audits_or_explains { NamesAudit matches.now
+    ensures lists { NamesAudit matches.now → NamesNoReasons matches.now → NamesRun matches.now
+        → ListsFiles (W.contents out.old.inner) (W.contents out.new.inner) out.new.has_failed out.new.is_flushed
+        (E.contents err.old.inner) (E.contents err.new.inner) err.new.has_failed result }
+    ensures audits_somehow { NamesAudit matches.now
         → AuditsFiles (W.contents out.old.inner) (W.contents out.new.inner) out.new.has_failed out.new.is_flushed
         (E.contents err.old.inner) (E.contents err.new.inner) err.new.has_failed result
         ⊎ ExplainsFiles (W.contents out.old.inner) (W.contents out.new.inner) out.new.has_failed out.new.is_flushed
+        (E.contents err.old.inner) (E.contents err.new.inner) err.new.has_failed result
+        ⊎ ListsFiles (W.contents out.old.inner) (W.contents out.new.inner) out.new.has_failed out.new.is_flushed
         (E.contents err.old.inner) (E.contents err.new.inner) err.new.has_failed result }
     ensures reads_nothing { NamesAudit matches.now → input.new ≡ input.old }
 
@@ -151,9 +165,23 @@ where
         → ShowsFiles (W.contents out.old.inner) (W.contents out.new.inner) out.new.has_failed out.new.is_flushed
         (E.contents err.old.inner) (E.contents err.new.inner) err.new.has_failed result }
     ensures shows_alone { NamesShow matches.now → input.new ≡ input.old }
+
+    // Where `draw` is named, some files are drawn, in the kind and the format that are asked for, and no script is read.
+    ensures draws { NamesDraw matches.now → (kind : kinds.Kind) → (format : formats.Format)
+        → NamesOption matches.now (codes "kind") (kind_word kind)
+        → NamesOption matches.now (codes "format") (format_word format)
+        → DrawsFiles kind format (W.contents out.old.inner) (W.contents out.new.inner) out.new.has_failed out.new.is_flushed
+        (E.contents err.old.inner) (E.contents err.new.inner) err.new.has_failed result }
+    ensures draws_some { NamesDraw matches.now
+        → DrawsSome (W.contents out.old.inner) (W.contents out.new.inner) out.new.has_failed out.new.is_flushed
+        (E.contents err.old.inner) (E.contents err.new.inner) err.new.has_failed result }
+    ensures draws_alone { NamesDraw matches.now → input.new ≡ input.old }
 {
     if let Some(audit) = matches.subcommand_matches(AUDIT) {
         return audit_files(rt, audit, out, err);
+    }
+    if let Some(words) = matches.subcommand_matches(DRAW) {
+        return draw(rt, words, out, err);
     }
     if let Some(words) = matches.subcommand_matches(SHOW) {
         return match journals_of(rt, words) {
@@ -175,7 +203,7 @@ where
     run_play(rt.alloc(), input, out, err)
 }
 
-/// Audits the files that the words name, and tells the reasons for stops where they ask for them.
+/// Audits the files that the words name, and tells the reasons for stops, or a run, where they ask for them.
 fn audit_files<R: AllocGlobal + Files, W: Write, E: Write>(
     rt: &R,
     words: &ArgMatches<'_>,
@@ -184,14 +212,21 @@ fn audit_files<R: AllocGlobal + Files, W: Write, E: Write>(
 ) -> u8
     ensures status { IsStatus result }
     ensures audits { IsUnset (one_text (found_of words.now) (codes "why"))
+        → IsUnset (one_text (found_of words.now) (codes "run"))
         → AuditsFiles (W.contents out.old.inner) (W.contents out.new.inner) out.new.has_failed out.new.is_flushed
         (E.contents err.old.inner) (E.contents err.new.inner) err.new.has_failed result }
     ensures explains { one_text (found_of words.now) (codes "why") ≡ Some (codes "true")
         → ExplainsFiles (W.contents out.old.inner) (W.contents out.new.inner) out.new.has_failed out.new.is_flushed
         (E.contents err.old.inner) (E.contents err.new.inner) err.new.has_failed result }
-    ensures audits_or_explains { AuditsFiles (W.contents out.old.inner) (W.contents out.new.inner) out.new.has_failed out.new.is_flushed
+    ensures lists { IsUnset (one_text (found_of words.now) (codes "why"))
+        → one_text (found_of words.now) (codes "run") ≡ Some (codes "true")
+        → ListsFiles (W.contents out.old.inner) (W.contents out.new.inner) out.new.has_failed out.new.is_flushed
+        (E.contents err.old.inner) (E.contents err.new.inner) err.new.has_failed result }
+    ensures audits_somehow { AuditsFiles (W.contents out.old.inner) (W.contents out.new.inner) out.new.has_failed out.new.is_flushed
         (E.contents err.old.inner) (E.contents err.new.inner) err.new.has_failed result
         ⊎ ExplainsFiles (W.contents out.old.inner) (W.contents out.new.inner) out.new.has_failed out.new.is_flushed
+        (E.contents err.old.inner) (E.contents err.new.inner) err.new.has_failed result
+        ⊎ ListsFiles (W.contents out.old.inner) (W.contents out.new.inner) out.new.has_failed out.new.is_flushed
         (E.contents err.old.inner) (E.contents err.new.inner) err.new.has_failed result }
 {
     let files = match files_of(rt, words) {
@@ -199,14 +234,16 @@ fn audit_files<R: AllocGlobal + Files, W: Write, E: Write>(
         Err(fault) => return fault.name_on(err),
     };
     if words.get_flag(WHY) {
-        run_audit_why(rt.alloc(), &files.topology, &files.journals, out, err)
-    } else {
-        run_audit(rt.alloc(), &files.topology, &files.journals, out, err)
+        return run_audit_why(rt.alloc(), &files.topology, &files.journals, out, err);
     }
+    if words.get_flag(RUN) {
+        return run_audit_run(rt.alloc(), &files.topology, &files.journals, out, err);
+    }
+    run_audit(rt.alloc(), &files.topology, &files.journals, out, err)
 }
 
 /// Plays a script, and keeps its journals in a folder.
-fn play_into<R: AllocGlobal + Files<File = File>, I: Read, W: Write, E: Write>(
+fn play_into<R: AllocGlobal + Files<File = File>, I: Read + Ahead, W: Write, E: Write>(
     rt: &R,
     path: &str,
     input: &mut Device<I>,
@@ -294,71 +331,6 @@ where
             err,
         ),
         Err(fault) => fault.name_on(err),
-    }
-}
-
-/// What the files of a cluster hold.
-#[derive(Drop)]
-struct ClusterFiles {
-    topology: Vec<u8>,
-    script: Vec<u8>,
-}
-
-/// Reads the files that the words name: the topology, and then the script.
-fn cluster_files_of<R: AllocGlobal + Files>(
-    rt: &R,
-    words: &ArgMatches<'_>,
-) -> Result<ClusterFiles, Fault>
-    ensures { IfErr result IsUnread }
-{
-    let path = words.get_str(TOPOLOGY).unwrap_or("");
-    let topology = read_file(rt, path, Fault::TopologyFile)?;
-    let path = words.get_str(SCRIPT).unwrap_or("");
-    let script = read_file(rt, path, Fault::ScriptFile)?;
-    Ok(ClusterFiles { topology, script })
-}
-
-/// What the files of an audit hold.
-#[derive(Drop)]
-struct AuditFiles {
-    topology: Vec<u8>,
-    journals: Vec<Vec<u8>>,
-}
-
-/// Reads the files that the words name: the topology, and then the journals in their order.
-fn files_of<R: AllocGlobal + Files>(rt: &R, words: &ArgMatches<'_>) -> Result<AuditFiles, Fault>
-    ensures { IfErr result IsUnread }
-{
-    let path = words.get_str(TOPOLOGY).unwrap_or("");
-    let topology = read_file(rt, path, Fault::TopologyFile)?;
-    let journals = journals_of(rt, words)?;
-    Ok(AuditFiles { topology, journals })
-}
-
-/// Reads the journals that the words name, in their order.
-fn journals_of<R: AllocGlobal + Files>(
-    rt: &R,
-    words: &ArgMatches<'_>,
-) -> Result<Vec<Vec<u8>>, Fault>
-    ensures { IfErr result IsUnread }
-{
-    let mut journals = Vec::new(rt.alloc());
-    if let Some(paths) = words.get_strs(JOURNALS) {
-        for (i, path) in paths.iter().enumerate() {
-            journals.push(read_file(rt, *path, Fault::JournalFile(i + 1))?)?;
-        }
-    }
-    Ok(journals)
-}
-
-/// What a file holds; the fault is the one given, but where memory was refused.
-fn read_file<R: AllocGlobal + Files>(rt: &R, path: &str, fault: Fault) -> Result<Vec<u8>, Fault>
-    ensures { IfErr result (λ named. (named ≡ fault) ⊎ (named ≡ Fault.Memory)) }
-{
-    match fs::read(rt, path) {
-        Ok(bytes) => Ok(bytes),
-        Err(error) if error.kind() == ErrorKind::OutOfMemory => Err(Fault::Memory),
-        Err(_) => Err(fault),
     }
 }
 

@@ -26,9 +26,10 @@ pub tries_fit : (entries n : ℕ) → entries ≤ n * 1000000 → n ≤ 64 → (
 tries_fit entries n limited few = let m = mul-le-mul_left (entries + 1) few in omega (arith, m, limited, few)
 
 -- without a stop all entries were taken
+pub all_taken : (t : Topology) (js : List Journal) (counts : List ℕ) → IsSet t js → IsStuck t js counts → stops_at (sites_of t) js counts ≡ [] → (s : ℕ) → journal_of js s ≡ taken_of js counts s
+all_taken t js counts set stuck none s = ap (λ rows. before_stop rows s (journal_of js s)) (sym none) ∙ before_is t js counts set stuck s
+
 pub all_left : (t : Topology) (js : List Journal) (counts : List ℕ) (links : Links) → IsSet t js → IsStuck t js counts → stops_at (sites_of t) js counts ≡ [] → AreLeft js counts links → AreAllLeft js links
 all_left t js counts links set stuck none left a b =
+    let all = all_taken t js counts set stuck none in
     ap (λ es. receipts_of a es ++ waiting links a b) (all b) ∙ left a b ∙ ap (sendings_of b) (sym (all a))
-  where
-    all : (s : ℕ) → journal_of js s ≡ taken_of js counts s
-    all s = ap (λ rows. before_stop rows s (journal_of js s)) (sym none) ∙ before_is t js counts set stuck s

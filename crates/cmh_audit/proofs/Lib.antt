@@ -21,3 +21,4 @@ pub mod AuditLemmas
 pub mod TryLemmas
 pub mod SetLemmas
 pub mod TransitLemmas
+pub mod OrderLemmas

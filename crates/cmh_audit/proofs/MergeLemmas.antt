@@ -9,7 +9,7 @@ use Rattle.cmh_frames.specs.Topology.{Topology}
 use Rattle.cmh_model.specs.declared.journal.Entry.{Entry}
 use Rattle.cmh_model.specs.declared.journal.WorldEvent.{WorldEvent}
 use Rattle.cmh_model.specs.Journals.{IsLawful, frames_to, frame_from, sendings_of, receipts_of}
-use Rattle.cmh_model.specs.Runs.{IsBeginningOf, ComeFromRun, entries_of}
+use Rattle.cmh_model.specs.Runs.{IsBeginningOf, IsRun, ComeFromRun, entries_of}
 use Rattle.cmh_model.proofs.Journals.{sendings_of-append, receipts_of-append}
 use Rattle.cmh_journal.specs.Journal.{Journal}
 use Rattle.cmh_audit.specs.Journals.{journal_of, OneEach}
@@ -117,7 +117,11 @@ module _ (t : Topology) (js : List Journal) (limits counts : List ℕ) (old new 
         subst P (sym (m.comes.2 j.site)) (subst Q (sym (m.comes.2 a)) (can_grow.got a));
   }
 
-  entries_more : (site : ℕ) → entries_of site (m.comes.0 ++ record { site = j.site; entry = e } ∷ []) ≡ taken_of js (set counts k (get_or counts k 0 + 1)) site
+  -- the run with this entry more
+  pub run_more : IsRun t (m.comes.0 ++ record { site = j.site; entry = e } ∷ [])
+  run_more = longer_run t m.comes.0 (record { site = j.site; entry = e }) m.comes.1 run_can_grow
+
+  pub entries_more : (site : ℕ) → entries_of site (m.comes.0 ++ record { site = j.site; entry = e } ∷ []) ≡ taken_of js (set counts k (get_or counts k 0 + 1)) site
   entries_more site =
       ⊎_elim
       (λ h. let P : ℕ → Type 0 = λ s. entries_of s (m.comes.0 ++ record { site = j.site; entry = e } ∷ []) ≡ taken_of js (set counts k (get_or counts k 0 + 1)) s in
@@ -140,7 +144,7 @@ module _ (t : Topology) (js : List Journal) (limits counts : List ℕ) (old new 
   merging_more = record {
     each = length-set counts k _ ∙ m.each;
     below = below_more;
-    comes = (m.comes.0 ++ record { site = j.site; entry = e } ∷ [], longer_run t m.comes.0 (record { site = j.site; entry = e }) m.comes.1 run_can_grow, entries_more);
+    comes = (m.comes.0 ++ record { site = j.site; entry = e } ∷ [], run_more, entries_more);
     frames = frames_more;
   }
 

@@ -359,7 +359,7 @@ work_step t js limits counts links lacks first ready next_ready after new tries 
 
 -- ---- a look, as the merge's loop has it: what it read is given by equations
 
-read_limit : (t : Topology) (js : List Journal) (limits : List ℕ) (i limit : ℕ) → AreLawfulLengths t js limits → i < length js → limit ≡ get_or limits i limit → limit ≡ get_or limits i 0
+pub read_limit : (t : Topology) (js : List Journal) (limits : List ℕ) (i limit : ℕ) → AreLawfulLengths t js limits → i < length js → limit ≡ get_or limits i limit → limit ≡ get_or limits i 0
 read_limit t js limits i limit are inside read = get_or_read limits i limit (subst (λ n. i < n) (sym (length-limits t js limits are)) inside) read 0
 
 -- no lawful entry is left

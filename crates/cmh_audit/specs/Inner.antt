@@ -11,3 +11,4 @@ pub mod Rows
 pub mod FoundCycles
 pub mod FoundStops
 pub mod AllSums
+pub mod Orders

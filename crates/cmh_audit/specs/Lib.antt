@@ -6,4 +6,5 @@ pub mod Cycles
 pub mod Transit
 pub mod Reports
 pub mod Verdicts
+pub mod Runs
 pub mod Inner

@@ -10,7 +10,9 @@ mod links;
 mod merge;
 mod report;
 mod row;
+mod runs;
 mod set;
+mod step;
 mod stops;
 #[cfg(test)]
 mod tests;
@@ -18,6 +20,8 @@ mod verdict;
 mod waits;
 
 pub use crate::report::Report;
+pub use crate::runs::run_of;
 pub use crate::set::{SetFault, check_set, place_of};
+pub use crate::step::Step;
 pub use crate::stops::Stops;
 pub use crate::verdict::{AuditMemory, Verdict, audit};

@@ -3,11 +3,13 @@
 ghost use Rattle.std.specs.Prelude.{◌≡◌, ◌↔◌, ◌+◌, ◌*◌, ◌≤◌, ◌<◌, ◌^◌, length, OnOk, IfOk, IsTrue, []};
 ghost use Rattle.cmh_audit.specs.Journals.{OneEach, entry_count};
 ghost use Rattle.cmh_audit.specs.Inner.Merging.{IsNextFrame, SendsFrames, MovesFrames, IsStuck, AreLeft, AreTried};
+ghost use Rattle.cmh_audit.specs.Inner.Orders.{IsOrder};
 ghost use Rattle.cmh_audit.specs.Inner.Ready.{Wakes, ArePlaces};
 
 use crate::lawful::lawful_lengths;
 use crate::links::{Links, next_frame, receive, send};
 use crate::set::place_of;
+use crate::step::Step;
 use cmh_frames::{Frame, SiteId, Topology};
 use cmh_journal::Journal;
 use cmh_model::{Entry, Event};
@@ -19,6 +21,8 @@ use std::collections::BTreeMap;
 pub struct Merged {
     /// How many entries of each journal were taken.
     pub taken: Vec<usize>,
+    /// The entries that were taken, in their order.
+    pub steps: Vec<Step>,
     pub links: Links,
     /// How often it was looked whether a site's next entry can be taken.
     pub tries: u64,
@@ -31,6 +35,7 @@ pub fn merge(alloc: Global, topology: &Topology, journals: &[Journal]) -> Result
     requires few { length journals.now ≤ 65536 }
     requires small { (entry_count journals.now + 1) * length journals.now < 2 ^ 64 }
     ensures stuck { IfOk result (λ m. IsStuck topology.now journals.now m.taken.items) }
+    ensures order { IfOk result (λ m. IsOrder topology.now journals.now m.taken.items m.steps.items) }
     ensures left { IfOk result (λ m. AreLeft journals.now m.taken.items m.links) }
     ensures tries { IfOk result (λ m. m.tries ≤ (entry_count journals.now + 1) * length journals.now) }
     ensures looked { IfOk result (λ m. AreTried journals.now m.taken.items [] m.tries) }
@@ -38,6 +43,7 @@ pub fn merge(alloc: Global, topology: &Topology, journals: &[Journal]) -> Result
     let limits = lawful_lengths(alloc, topology, journals)?;
     let mut links: Links = BTreeMap::new(alloc);
     let mut taken = vec![in alloc; 0; journals.len()]?;
+    let mut steps = Vec::new(alloc);
     let mut lacks: Vec<Option<SiteId>> = vec![in alloc; None; journals.len()]?;
     let mut ready = places(alloc, journals.len())?;
     let mut tries: u64 = 0;
@@ -53,14 +59,13 @@ pub fn merge(alloc: Global, topology: &Topology, journals: &[Journal]) -> Result
                 let entry = &entries[at];
                 if is_next(&links, site, &entry.event) {
                     move_frames(alloc, &mut links, site, entry)?;
+                    steps.push(Step {
+                        journal: i,
+                        entry: at,
+                    })?;
                     taken[i] = at + 1;
-                    wake(
-                        &mut ready,
-                        &mut lacks,
-                        journals,
-                        site,
-                        entry.sent.as_slice(),
-                    )?;
+                    let sent = entry.sent.as_slice();
+                    wake(&mut ready, &mut lacks, journals, site, sent)?;
                     ready.push(i)?;
                 } else if let Event::Got { from, .. } = &entry.event {
                     lacks[i] = Some(*from);
@@ -70,6 +75,7 @@ pub fn merge(alloc: Global, topology: &Topology, journals: &[Journal]) -> Result
     }
     Ok(Merged {
         taken,
+        steps,
         links,
         tries,
     })

@@ -1,6 +1,6 @@
 //! Worked audits. The journals are given by their entries' bytes.
 
-use crate::{Report, Verdict, audit, check_set};
+use crate::{Report, Verdict, audit, check_set, run_of};
 use cmh_frames::{Edition, SiteRow, Topology};
 use cmh_journal::{Journal, read_journal};
 use std::alloc::Global;
@@ -73,6 +73,24 @@ fn audit_text(alloc: Global, rows: Rows<'_>, files: Files<'_>) -> Result<String,
                 write!(out, ", stop {site} at {number}")?;
             }
         }
+    }
+    Ok(out)
+}
+
+/// The places of a run of these journals.
+fn run_text(alloc: Global, rows: Rows<'_>, files: Files<'_>) -> Result<String, Fail> {
+    let topology = topology_of(alloc, rows)?;
+    let journals = journals_of(alloc, files)?;
+    check_set(&topology, &journals)?;
+    let mut out = String::new(alloc);
+    match run_of(alloc, &topology, &journals)? {
+        Some(steps) => {
+            for step in &steps {
+                write!(out, "{} at {}, ", step.journal, step.entry)?;
+            }
+            write!(out, "whole")?;
+        }
+        None => write!(out, "no run")?,
     }
     Ok(out)
 }
@@ -202,6 +220,29 @@ fn the_first_fault_of_a_set_is_answered(rt: HostRuntime) -> Result<(), Fail> {
     ];
     for (files, want) in table {
         let text = audit_text(rt.alloc(), &TWO, files)?;
+        assert_eq!(rt; text.as_str(), want);
+    }
+    Ok(())
+}
+
+#[test]
+fn a_run_is_told_by_places(rt: HostRuntime) -> Result<(), Fail> {
+    let in_order: [u8; 20] = [0, 8, 4, 0, 1, 1, 0, 1, 0, 2, 0, 8, 4, 0, 1, 1, 0, 1, 0, 3];
+    let later_first: [u8; 20] = [0, 8, 4, 0, 1, 1, 0, 1, 0, 3, 0, 8, 4, 0, 1, 1, 0, 1, 0, 2];
+    let table: [(Files<'_>, &str); 4] = [
+        (
+            &[(1, &ASK_BOTH), (2, &in_order)],
+            "0 at 0, 1 at 0, 1 at 1, whole",
+        ),
+        (
+            &[(2, &in_order), (1, &ASK_BOTH)],
+            "1 at 0, 0 at 0, 0 at 1, whole",
+        ),
+        (&[(1, &[]), (2, &[])], "whole"),
+        (&[(1, &ASK_BOTH), (2, &later_first)], "no run"),
+    ];
+    for (files, want) in table {
+        let text = run_text(rt.alloc(), &TWO_AND_THREE, files)?;
         assert_eq!(rt; text.as_str(), want);
     }
     Ok(())

@@ -1,5 +1,5 @@
 -- Lists that begin the history of a board: the first so many of its entries.
-use Rattle.std.proofs.Common.{◌≡◌, ℕ, zero, suc, ◌≤◌, List, [], ◌∷◌, length, take, refl, ap, sym, ◌∙◌, arith}
+use Rattle.std.proofs.Common.{◌≡◌, ℕ, zero, suc, ◌≤◌, List, [], ◌∷◌, length, take, refl, ap, sym, ◌∙◌, subst, arith}
 use Rattle.cmh_model.specs.Runs.{IsBeginningOf}
 use Rattle.cmh_model.proofs.Beginnings.{beginning_refl, length-beginning}
 
@@ -32,6 +32,10 @@ take_whole (x ∷ xs) (z ∷ zs) p =
     let heads : x ≡ z = cc (p.1) in
     let rest : take (length xs) zs ≡ xs = take_whole xs zs (p.0, cc (p.1)) in
     cc
+
+-- equal lists begin each other
+pub beginning_same : {A : Type 0} (xs ys : List A) → xs ≡ ys → IsBeginningOf xs ys
+beginning_same xs ys e = subst (λ l. IsBeginningOf xs l) e (beginning_refl xs)
 
 -- beginnings of one list that are equally long are one
 pub same_length : {A : Type 0} (xs ys zs : List A) → IsBeginningOf xs zs → IsBeginningOf ys zs → length xs ≡ length ys → xs ≡ ys

@@ -31,7 +31,7 @@ unstuck b log n c x ops o seat k =
       book = k.book;
       shown = k.shown;
       final_book = ap (λ (s : State). s.1.book) e ∙ k.stuck_leads.0;
-      final_own = (let P : State → Type 0 = λ s. IsBeginningOf s.0 s.1.log in subst P (sym e) k.stuck_leads.1);
+      final_own = (let P : State → Type 0 = λ s. s.0 ≡ s.1.log in subst P (sym e) k.stuck_leads.1);
       stuck_leads = tt;
       list = subst (λ (s : State). IsBeginningOf s.0 log) (sym e) k.list;
       list_length = k.list_length ∙ ap (λ (s : State). length s.0) (sym e);
@@ -53,7 +53,7 @@ unstuck_all_list x ops (Some o) = unstuck_list x ops o
 -- all that was pending is published
 pub published : (b : Book) (log : List ℕ) (n c : ℕ) (x y : Published) (ops : List Add) (stuck : Option Add) (seat seat' : List ℕ) → Keeps b log n c x ops stuck seat → state_of y ≡ final x ops → IsBeginningOf (final x ops).0 log → seat' ≡ named y.seen.book → Keeps b log n c y [] stuck seat'
 published b log n c x y ops stuck seat seat' k e pre named_now =
-    let P : State → Type 0 = λ s. IsBeginningOf s.0 s.1.log in
+    let P : State → Type 0 = λ s. s.0 ≡ s.1.log in
     let Q : State → Type 0 = λ s. IfSome stuck (λ o. Leads b s.0 o) in
     let book' : y.seen.book ≡ b = ap (λ (s : State). s.1.book) e ∙ k.final_book in
     record {
@@ -108,7 +108,7 @@ one_more b log n c x ops o seat k same few book' log' =
       shown = beginning_trans x.list log o.seen.log k.shown front;
       final_book = k.final_book;
       final_own = k.final_own;
-      stuck_leads = (book', subst (λ (l : List ℕ). IsBeginningOf (added xs o.process) l) new (beginning_refl (added xs o.process)));
+      stuck_leads = (book', new);
       list = subst (λ (l : List ℕ). IsBeginningOf (added xs o.process) l) new (beginning_refl (added xs o.process));
       list_length = omega (arith, k.log_length, same, ap length new, ap length log', length-append log (o.process ∷ []));
       named_seat = k.named_seat;
@@ -124,7 +124,7 @@ fresh b log x ops seat no_log no_ops none book' log' named_now =
       book = book';
       shown = front;
       final_book = ap (λ (s : State). s.1.book) is ∙ book';
-      final_own = (let P : State → Type 0 = λ s. IsBeginningOf s.0 s.1.log in subst P (sym is) (subst (λ (l : List ℕ). IsBeginningOf l x.seen.log) (sym none) (beginning_nil x.seen.log)));
+      final_own = (let P : State → Type 0 = λ s. s.0 ≡ s.1.log in subst P (sym is) (none ∙ sym log'));
       stuck_leads = tt;
       list = subst (λ (s : State). IsBeginningOf s.0 log) (sym is) front;
       list_length = sym (ap (λ (s : State). length s.0) is ∙ ap length none);

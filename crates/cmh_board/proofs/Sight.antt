@@ -1,6 +1,5 @@
 -- The steps of the board keep its rule.
 use Rattle.std.proofs.Common.{◌≡◌, ℕ, ◌≢◌, List, [], ◌∷◌, ◌++◌, set, refl, sym, subst, inl, inr, ⊎_elim}
-use Rattle.cmh_model.specs.Runs.{IsBeginningOf}
 use mathlib.Core.Option.{some}
 use lib.ListN.{get_elem?}
 use Rattle.left_right.specs.Register.{Admits, Turns, TurnsAt, Forks, Merges}
@@ -17,7 +16,7 @@ snoc_fits : (b : Book) (views : List (List ℕ)) (w : List ℕ) → ((s : ℕ) (
 snoc_fits b views w h fits j u e = ⊎_elim (h j u) (λ (same : w ≡ u). subst (λ (z : List ℕ). Fits b z) same fits) (at_snoc views w u j e)
 
 -- a step of a seat, where the book stays and the published list goes on
-pub sees : (seat : ℕ) (v : List ℕ) (x y : Published) → y.seen.book ≡ x.seen.book → (IsBeginningOf x.list x.seen.log → IsBeginningOf y.list y.seen.log) → TurnsAt Kept seat v x y Saw
+pub sees : (seat : ℕ) (v : List ℕ) (x y : Published) → y.seen.book ≡ x.seen.book → (x.list ≡ x.seen.log → y.list ≡ y.seen.log) → TurnsAt Kept seat v x y Saw
 sees seat v x y same good views h at =
     let fits : Fits y.seen.book v = subst (λ (b : Book). Fits b v) (sym same) (h.1 seat v at) in
     let all : (s : ℕ) (u : List ℕ) → get_elem? views s ≡ some u → Fits y.seen.book u = λ s u e. subst (λ (b : Book). Fits b u) (sym same) (h.1 s u e) in (

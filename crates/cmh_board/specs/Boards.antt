@@ -40,20 +40,20 @@ abbrev pub with_stuck : List ℕ → Option Add → List ℕ
 with_stuck xs None = xs
 with_stuck xs (Some o) = added xs o.process
 
--- the operation leads to a beginning of its history
+-- the operation leads to its history
 abbrev pub Leads : Book → List ℕ → Add → Type 0
-Leads b xs o = (o.seen.book ≡ b) × IsBeginningOf (added xs o.process) o.seen.log
+Leads b xs o = (o.seen.book ≡ b) × (added xs o.process ≡ o.seen.log)
 
 -- Of the history `log` with its length, of the list with its count: the published list begins the list, which begins
--- the history, and what is published after the pending operations comes with a history that it begins. The writer's
--- seat knows the history's name.
+-- the history, and what is published after the pending operations is the history that comes with it. The writer's seat
+-- knows the history's name.
 pub record Keeps (b : Book) (log : List ℕ) (length' count : ℕ) (x : Published) (ops : List Add) (stuck : Option Add)
     (seat : List ℕ) : Type 0 where
   pub log_length : length' ≡ length log
   pub book : x.seen.book ≡ b
   pub shown : IsBeginningOf x.list log
   pub final_book : (final x ops).1.book ≡ b
-  pub final_own : IsBeginningOf (final x ops).0 (final x ops).1.log
+  pub final_own : (final x ops).0 ≡ (final x ops).1.log
   pub stuck_leads : IfSome stuck (λ o. Leads b (final x ops).0 o)
   pub list : IsBeginningOf (with_stuck (final x ops).0 stuck) log
   pub list_length : count ≡ length (with_stuck (final x ops).0 stuck)

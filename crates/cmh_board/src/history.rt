@@ -1,7 +1,7 @@
 //! The history of a board: all processes that were ever put on it, in their order. It exists in proofs alone; what runs
 //! is its length.
 
-ghost use Rattle.std.specs.Prelude.{◌≡◌, ◌+◌, ◌<◌, ◌^◌, ◌++◌, [], ◌∷◌, length as list_length, MatchResult};
+ghost use Rattle.std.specs.Prelude.{◌≡◌, ◌+◌, ◌<◌, ◌^◌, ◌++◌, [], ◌∷◌, length as list_length, IfErr, MatchResult};
 ghost use Rattle.cmh_model.specs.Runs.{IsBeginningOf};
 ghost use Rattle.cmh_board.specs.History.{head_of};
 
@@ -81,6 +81,7 @@ pub fn grow(head: &Head, seen: &mut SeenHistory, length: u64, process: ProcId) -
     ensures grows { IsBeginningOf seen.old.log seen.new.log }
     ensures added { MatchResult result (λ _. seen.new.log ≡ seen.old.log ++ process ∷ [])
         (λ found. found ≡ list_length seen.new.log) }
+    ensures longer { IfErr result (λ found. length < found) }
 {
     let mut offer: Offer<ProcId, u64, History, Nothing> = seen.plain::<Nothing, ProcId, Adding>(
         &process,

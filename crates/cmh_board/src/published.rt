@@ -8,7 +8,7 @@ use cmh_frames::ProcId;
 use left_right::Absorb;
 use std::alloc::AllocError;
 
-/// A published list, with a history that it begins.
+/// A published list, with the history that it is.
 #[derive(Drop)]
 pub struct Published {
     pub list: Declared,
@@ -27,7 +27,7 @@ impl Published {
     }
 }
 
-/// One more process, with a history that the longer list begins.
+/// One more process, with the history that the longer list is.
 #[derive(Drop)]
 pub struct Add {
     pub process: ProcId,

@@ -8,7 +8,7 @@ use crossbeam_utils::rule::{Outcome, Protocol};
 /// of numbers.
 pub type Known = [u64; 0];
 
-/// The published list begins the history that comes with it, and whoever knows the name of a history knows this one's.
+/// The published list is the history that comes with it, and whoever knows the name of a history knows this one's.
 pub struct BoardRule;
 
 impl Protocol<Published, Known> for BoardRule {

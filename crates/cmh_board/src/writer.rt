@@ -4,7 +4,6 @@ ghost use Rattle.std.specs.Option.{option_to_list};
 ghost use Rattle.std.specs.Prelude.{◌≡◌, ◌<◌, ◌≤◌, ◌++◌, ◌^◌, [], All, None, drop, IfOk, OnOk, OnErr};
 ghost use Rattle.std.specs.Vec.{vec_len, vec_capacity};
 ghost use Rattle.left_right.specs.Sides.{view as seat_view};
-ghost use Rattle.cmh_model.specs.Runs.{IsBeginningOf};
 ghost use Rattle.cmh_board.specs.Boards.{final, state_of, IsEmptyFront};
 ghost use Rattle.cmh_board.specs.Rule.{named};
 
@@ -20,13 +19,14 @@ use std::sync::Wait;
 
 pub(crate) type PublishedWriter = Writer<Published, Add, Known, BoardRule>;
 
-/// A writer of the empty list, for so many readers.
+/// A writer of the empty list, which is all of the history, for so many readers.
 pub fn open_writer(
     alloc: Global,
     seen: &SeenHistory,
     readers: usize,
 ) -> Result<PublishedWriter, AllocError>
     requires readers { (0 < readers) × (readers < 2 ^ 32) }
+    requires empty { seen.now.log ≡ [] }
     ensures list { IfOk result (λ w. w.desk.shown.value.list ≡ []) }
     ensures seen { IfOk result (λ w. w.desk.shown.value.seen ≡ seen.now) }
     ensures pending { IfOk result (λ w. drop w.behind w.log.items ≡ []) }
@@ -43,8 +43,8 @@ pub fn open_writer(
 pub fn publish_all<R: Wait>(rt: &R, writer: PublishedWriter) -> PublishedWriter
     requires book { (final writer.desk.shown.value (drop writer.behind writer.log.items)).1.book
         ≡ writer.desk.shown.value.seen.book }
-    requires begins { IsBeginningOf (final writer.desk.shown.value (drop writer.behind writer.log.items)).0
-        (final writer.desk.shown.value (drop writer.behind writer.log.items)).1.log }
+    requires own { (final writer.desk.shown.value (drop writer.behind writer.log.items)).0
+        ≡ (final writer.desk.shown.value (drop writer.behind writer.log.items)).1.log }
     ensures shown { state_of result.desk.shown.value ≡ final writer.desk.shown.value
         (drop writer.behind writer.log.items) }
     ensures pending { drop result.behind result.log.items ≡ [] }
@@ -61,8 +61,8 @@ pub fn publish_all<R: Wait>(rt: &R, writer: PublishedWriter) -> PublishedWriter
 pub fn publish_in<R: Wait>(rt: &R, writer: &mut PublishedWriter)
     requires book { (final writer.old.desk.shown.value (drop writer.old.behind writer.old.log.items)).1.book
         ≡ writer.old.desk.shown.value.seen.book }
-    requires begins { IsBeginningOf (final writer.old.desk.shown.value (drop writer.old.behind writer.old.log.items)).0
-        (final writer.old.desk.shown.value (drop writer.old.behind writer.old.log.items)).1.log }
+    requires own { (final writer.old.desk.shown.value (drop writer.old.behind writer.old.log.items)).0
+        ≡ (final writer.old.desk.shown.value (drop writer.old.behind writer.old.log.items)).1.log }
     ensures shown { state_of writer.new.desk.shown.value ≡ final writer.old.desk.shown.value
         (drop writer.old.behind writer.old.log.items) }
     ensures pending { drop writer.new.behind writer.new.log.items ≡ [] }

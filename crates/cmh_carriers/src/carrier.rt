@@ -1,7 +1,8 @@
 //! What carries bytes between two sites. Each failing call raises `faults` by one, and no other call changes it.
 
-ghost use Rattle.std.specs.Prelude.{◌≡◌, ℕ, ◌+◌, ◌-◌, ◌<◌, ◌≤◌, ◌^◌, Bool, true, List, length, take, Option, IfOk, OnOk, OnErr};
+ghost use Rattle.std.specs.Prelude.{◌≡◌, ℕ, ◌+◌, ◌-◌, ◌<◌, ◌≤◌, ◌^◌, Bool, true, false, List, [], length, take, Option, Result, IfOk, IfSome, OnOk, OnErr, ⊤};
 ghost use Rattle.cmh_journal.specs.Sink.{known_and};
+ghost use Rattle.cmh_carriers.specs.declared.carrier.IoFault.{IoFault};
 
 use crate::gate::Gate;
 use cmh_frames::SiteId;
@@ -29,6 +30,10 @@ pub trait Incoming {
     /// Whether it told its end.
     ghost is_over: { Self → Bool };
 
+    /// What a connection of this kind says beyond that of a read: of the connection before, the length of the buffer,
+    /// the answer, and the connection after.
+    ghost read_gives: { Self → ℕ → Result ℕ IoFault → Self → Type 0 } = { λ _ _ _ _. ⊤ };
+
     /// Gives the next bytes, and answers how many. Where the buffer isn't empty, 0 is the end. It may wait.
     fn read(&mut self, buffer: &mut [u8]) -> Result<usize, IoFault>
         requires countable { failures self.old < 2 ^ 64 - 1 }
@@ -37,7 +42,8 @@ pub trait Incoming {
         ensures over { result ≡ Ok 0 → 0 < length buffer.new → is_over self.new ≡ true }
         ensures ok { OnOk result (failures self.new ≡ failures self.old) }
         ensures none { OnErr result (given self.new ≡ given self.old) }
-        ensures err { OnErr result (failures self.new ≡ failures self.old + 1) };
+        ensures err { OnErr result (failures self.new ≡ failures self.old + 1) }
+        ensures gives { read_gives self.old (length buffer.new) result self.new };
 
     /// How many calls have failed.
     fn faults(&self) -> u64
@@ -55,6 +61,10 @@ pub trait Outgoing {
     /// The bytes that it took, where it tells them.
     ghost taken: { Self → Option (List ℕ) };
 
+    /// What a connection of this kind says beyond that of a write: of the connection before, the piece, the answer, and
+    /// the connection after.
+    ghost write_gives: { Self → List ℕ → Result ℕ IoFault → Self → Type 0 } = { λ _ _ _ _. ⊤ };
+
     /// Takes a beginning of the piece, at least one byte of it, and answers how many. It may wait.
     fn write(&mut self, piece: &[u8]) -> Result<usize, IoFault>
         requires countable { failures self.old < 2 ^ 64 - 1 }
@@ -63,7 +73,8 @@ pub trait Outgoing {
         ensures taken { IfOk result (λ count. taken self.new ≡ known_and (taken self.old) (take count piece.now)) }
         ensures ok { OnOk result (failures self.new ≡ failures self.old) }
         ensures none { OnErr result (taken self.new ≡ taken self.old) }
-        ensures err { OnErr result (failures self.new ≡ failures self.old + 1) };
+        ensures err { OnErr result (failures self.new ≡ failures self.old + 1) }
+        ensures gives { write_gives self.old piece.now result self.new };
 
     /// How many calls have failed.
     fn faults(&self) -> u64
@@ -83,6 +94,8 @@ pub trait Listen {
     fn accept(&mut self) -> Result<Self::In, IoFault>
         requires countable { failures self.old < 2 ^ 64 - 1 }
         ensures fresh { IfOk result (λ incoming. Self.In.failures incoming ≡ 0) }
+        ensures begins { IfOk result (λ incoming. Self.In.is_over incoming ≡ false) }
+        ensures unread { IfOk result (λ incoming. IfSome (Self.In.given incoming) (λ bytes. bytes ≡ [])) }
         ensures ok { OnOk result (failures self.new ≡ failures self.old) }
         ensures err { OnErr result (failures self.new ≡ failures self.old + 1) };
 
@@ -111,6 +124,7 @@ pub trait Dial {
     fn connect(&mut self, site: SiteId) -> Result<Self::Out, IoFault>
         requires countable { failures self.old < 2 ^ 64 - 1 }
         ensures fresh { IfOk result (λ outgoing. Self.Out.failures outgoing ≡ 0) }
+        ensures unwritten { IfOk result (λ outgoing. IfSome (Self.Out.taken outgoing) (λ bytes. bytes ≡ [])) }
         ensures ok { OnOk result (failures self.new ≡ failures self.old) }
         ensures err { OnErr result (failures self.new ≡ failures self.old + 1) };
 

@@ -1,5 +1,7 @@
 //! What lets go whoever waits for connections.
 
+ghost use Rattle.std.specs.Prelude.{◌≡◌, None, Some};
+
 use std::net::{Shutdown, TcpStream};
 use std::sync::Arc;
 
@@ -11,12 +13,16 @@ pub struct Gate {
 
 impl Gate {
     /// Of a listener in which nobody ever waits.
-    pub fn unguarded() -> Gate {
+    pub fn unguarded() -> Gate
+        ensures { result.socket ≡ None }
+    {
         Gate { socket: None }
     }
 
     /// Of a listening socket.
-    pub fn new(socket: Arc<TcpStream>) -> Gate {
+    pub fn new(socket: Arc<TcpStream>) -> Gate
+        ensures { result.socket ≡ Some socket }
+    {
         Gate {
             socket: Some(socket),
         }

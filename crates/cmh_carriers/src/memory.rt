@@ -61,11 +61,15 @@ impl MemIncoming {
 }
 
 impl Incoming for MemIncoming {
+    ghost use Rattle.cmh_carriers.specs.Memory.{AnswersRead};
+
     ghost failures = { λ s. s.faults };
 
     ghost given = { λ s. Some (take s.at s.bytes.items) };
 
     ghost is_over = { λ s. leb (vec_len s.bytes) s.at };
+
+    ghost read_gives = { AnswersRead };
 
     fn read(&mut self, buffer: &mut [u8]) -> Result<usize, IoFault> {
         if self.fuse.fails() {
@@ -125,9 +129,13 @@ impl MemOutgoing {
 }
 
 impl Outgoing for MemOutgoing {
+    ghost use Rattle.cmh_carriers.specs.Memory.{AnswersWrite};
+
     ghost failures = { λ s. s.faults };
 
     ghost taken = { λ s. Some s.bytes.items };
+
+    ghost write_gives = { AnswersWrite };
 
     fn write(&mut self, piece: &[u8]) -> Result<usize, IoFault> {
         if self.fuse.fails() {
@@ -135,10 +143,13 @@ impl Outgoing for MemOutgoing {
             return Err(IoFault);
         }
         let count = self.piece.min(piece.len());
-        if self.bytes.extend_from_slice(&piece[..count]).is_err() {
+        if self.bytes.reserve(count).is_err() {
             self.faults += 1;
             return Err(IoFault);
         }
+        let Ok(()) = self.bytes.extend_from_slice(&piece[..count]) else {
+            unreachable!();
+        };
         Ok(count)
     }
 

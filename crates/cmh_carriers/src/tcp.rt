@@ -1,6 +1,7 @@
 //! Connections over TCP on 127.0.0.1.
 
 ghost use Rattle.std.specs.Prelude.{◌≡◌, ◌≤◌, None, IfOk, length};
+ghost use Rattle.cmh_carriers.specs.Sockets.{TellsItsEnd};
 
 use crate::carrier::{Dial, Incoming, IoFault, Line, Listen, Outgoing};
 use crate::gate::Gate;
@@ -55,6 +56,8 @@ impl Incoming for TcpIncoming {
 
     ghost is_over = { λ s. s.over };
 
+    ghost read_gives = { TellsItsEnd };
+
     fn read(&mut self, buffer: &mut [u8]) -> Result<usize, IoFault> {
         let read = match &self.stream {
             Some(stream) => read_from(stream, buffer),
@@ -62,7 +65,7 @@ impl Incoming for TcpIncoming {
         };
         match read {
             Ok(count) => {
-                if count == 0 {
+                if count == 0 && !buffer.is_empty() {
                     self.over = true;
                 }
                 Ok(count)

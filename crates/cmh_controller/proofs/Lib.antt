@@ -6,3 +6,4 @@ pub mod OfSite
 pub mod Probing
 pub mod Replaying
 pub mod TakingBack
+pub mod Wants

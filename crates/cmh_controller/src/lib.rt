@@ -3,6 +3,7 @@
 
 mod beginning;
 mod controller;
+mod laws;
 mod prepared;
 mod proc_set;
 mod refusal;
@@ -10,6 +11,7 @@ mod replayed;
 mod sending;
 
 pub use crate::controller::Controller;
+pub use crate::laws::memory_law;
 pub use crate::prepared::Prepared;
 pub use crate::refusal::Refusal;
 pub use crate::replayed::{Replayed, replay};

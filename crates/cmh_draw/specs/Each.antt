@@ -10,8 +10,3 @@ each_from f n (x ∷ xs) = f n x ++ each_from f (n + 1) xs
 abbrev pub number_from : ℕ → List ℕ → ℕ → ℕ
 number_from n [] x = 0
 number_from n (y ∷ ys) x = if y == x then n else number_from (n + 1) ys x
-
--- texts, one after the other
-abbrev pub texts : List (List ℕ) → List ℕ
-texts [] = []
-texts (text ∷ more) = text ++ texts more

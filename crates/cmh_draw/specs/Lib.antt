@@ -2,8 +2,5 @@ pub mod Each
 pub mod Passages
 pub mod Columns
 pub mod Marks
-pub mod Places
-pub mod Looks
-pub mod Svg
-pub mod Dot
-pub mod Pictures
+pub mod Kinds
+pub mod Sizes

@@ -11,6 +11,7 @@ use Rattle.cmh_audit.specs.declared.verdict.Verdict.TheVariants.{Accepted, Refus
 use Rattle.cmh_draw.specs.Each.{each_from, number_from}
 use Rattle.cmh_draw.specs.Passages.{passages_of}
 use Rattle.cmh_draw.specs.Columns.{AreColumns, column_of, lengths_of}
+use Rattle.cmh_draw.specs.Sizes.{AreWithin, HasRoom}
 use Rattle.cmh_draw.specs.declared.columns.Columns.{Columns}
 use Rattle.cmh_draw.specs.declared.mark.EntrySpot.{EntrySpot}
 use Rattle.cmh_draw.specs.declared.mark.Mark as marks
@@ -80,11 +81,13 @@ marks_of t journals verdict passages columns width =
     site_marks t width ++ frame_marks columns passages ++ all_entry_marks t journals columns
     ++ stop_marks t columns (stops_of verdict)
 
--- the picture of a run: each entry has a column of its own among those of its site
+-- the picture of a run: each entry has a column of its own among those of its site, and a place within the picture
 pub record IsRunPicture (t : Topology) (journals : List Journal) (verdict : Verdict) (picture : Picture) : Type 0 where
   pub columns : List Columns
   pub are_columns : AreColumns (lengths_of t journals) columns
   pub kind_is : picture.kind ≡ Run
+  pub are_within : AreWithin picture.columns columns
+  pub rows_are : picture.rows ≡ length (sites_of t)
   pub marks_are : picture.marks.items ≡ marks_of t journals verdict (passages_of t journals) columns picture.columns
 
 -- ---- waits
@@ -155,7 +158,9 @@ abbrev pub waits_marks : Topology → Verdict → List marks.Mark
 waits_marks t (Accepted report) = home_marks t ++ report_marks t report ++ process_marks t report.declared
 waits_marks t (Refused stops) = home_marks t ++ halt_marks t stops.rows ++ process_marks t []
 
--- the picture of the waits of an audit's report
+-- the picture of the waits of an audit's report, with a place within it for each process
 pub record IsWaitsPicture (t : Topology) (verdict : Verdict) (picture : Picture) : Type 0 where
   pub kind_is : picture.kind ≡ Waits
+  pub columns_are : picture.columns ≡ length (sites_of t)
+  pub has_room : HasRoom t picture.rows
   pub marks_are : picture.marks.items ≡ waits_marks t verdict

@@ -1,19 +1,15 @@
-//! Pictures of journals: who waits for whom at the end, and the run as a space-time diagram, as text for Graphviz and
-//! as SVG.
+//! Pictures of journals, as lists of marks: who waits for whom at the end, and the run as a space-time diagram.
 #![tactic(auto)]
 
 mod columns;
-mod dot;
-mod look;
 mod mark;
 mod passages;
 mod picture;
-mod place;
 mod running;
-mod svg;
+mod size;
 mod waiting;
 
 pub use crate::mark::{EntrySpot, Mark, Spot};
-pub use crate::picture::{Format, Kind, Picture, PictureText};
+pub use crate::picture::{Kind, NoKind, Picture};
 pub use crate::running::run_picture;
 pub use crate::waiting::waits_picture;

@@ -10,6 +10,7 @@ use crate::columns::{Columns, column_of, columns_of};
 use crate::mark::{EntrySpot, Mark, Spot};
 use crate::passages::{EntryAt, Passage, entries_of, passages_of};
 use crate::picture::{Kind, Picture};
+use crate::size::width_of;
 use cmh_audit::Verdict;
 use cmh_frames::{SiteId, Topology};
 use cmh_journal::Journal;
@@ -65,17 +66,6 @@ fn marks_of(
         Verdict::Refused(stops) => add_stops(topology, columns, stops.rows(), &mut marks)?,
     }
     Ok(marks)
-}
-
-/// One more than the last column.
-fn width_of(columns: &[Columns]) -> u32 {
-    let mut width = 1;
-    for site in columns {
-        if let Some(last) = site.columns.last() {
-            width = width.max(last.saturating_add(1));
-        }
-    }
-    width
 }
 
 fn add_sites(topology: &Topology, width: u32, marks: &mut Vec<Mark>) -> Result<(), AllocError>

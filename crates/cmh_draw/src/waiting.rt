@@ -10,6 +10,7 @@ ghost use Rattle.cmh_draw.specs.Marks.{IsWaitsPicture};
 use crate::mark::{Mark, Spot};
 use crate::picture::{Kind, Picture};
 use crate::running::row_of;
+use crate::size::height_of;
 use cmh_audit::{Report, Verdict};
 use cmh_frames::{ProcId, SiteId, Topology};
 use std::alloc::{AllocError, Global};
@@ -44,15 +45,6 @@ pub fn waits_picture(
         rows: height_of(topology),
         marks,
     })
-}
-
-/// How many processes the largest site has, and 1 at least.
-fn height_of(topology: &Topology) -> u32 {
-    let mut height = 1;
-    for site in topology.sites() {
-        height = height.max(topology.members(*site).len() as u32);
-    }
-    height
 }
 
 fn add_homes(topology: &Topology, marks: &mut Vec<Mark>) -> Result<(), AllocError>

@@ -3,3 +3,4 @@ pub mod JsonLemmas
 pub mod TextLemmas
 pub mod Headlines
 pub mod ShowLemmas
+pub mod RunLemmas

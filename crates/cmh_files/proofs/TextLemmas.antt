@@ -25,3 +25,10 @@ appends-kept None new after text wrote kept = tt
 appends-kept (Some old) None after text wrote kept = absurd wrote
 appends-kept (Some old) (Some new) None text wrote kept = absurd kept
 appends-kept (Some old) (Some new) (Some after) text wrote kept = kept ∙ wrote
+
+-- one text and then another
+pub appends-more : (old new after : Option (List ℕ)) (text more : List ℕ) → Appends old new text → Appends new after more → Appends old after (text ++ more)
+appends-more None new after text more wrote then = tt
+appends-more (Some old) None after text more wrote then = absurd wrote
+appends-more (Some old) (Some new) None text more wrote then = absurd then
+appends-more (Some old) (Some new) (Some after) text more wrote then = then ∙ ap (λ l. l ++ more) wrote ∙ append_assoc old text more

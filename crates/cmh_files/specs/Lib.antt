@@ -7,3 +7,4 @@ pub mod Headline
 pub mod Shows
 pub mod Keeping
 pub mod Explains
+pub mod RunAudits

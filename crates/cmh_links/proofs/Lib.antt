@@ -6,3 +6,4 @@ pub mod Beginnings
 pub mod Lents
 pub mod Batches
 pub mod Places
+pub mod Strangers

@@ -1,7 +1,9 @@
 //! What the threads of a site share, and the two ways between its links and its station.
 
-ghost use Rattle.std.specs.Prelude.{◌≡◌, ◌≤◌, None, length};
+ghost use Rattle.std.specs.Prelude.{◌≡◌, ◌==◌, ◌≤◌, [], ◌∷◌, ◌++◌, None, Some, filter, length, not, IfNone, IfOk, IfSome, OnOk};
+ghost use Rattle.std.specs.Arc.{arc_value};
 ghost use Rattle.cmh_station.specs.Batches.{batch_limit};
+ghost use Rattle.cmh_station.specs.Journaled.{others};
 
 use crate::batch::{arrivals, refusal_at_end};
 use crate::reading::Handover;
@@ -40,13 +42,12 @@ impl<S: Sink, B: Listing> Hub<S, B> {
         topology: &Topology,
         site: SiteId,
         station: Arc<SharedStation<S, B>>,
-    ) -> Result<Arc<Hub<S, B>>, AllocError> {
-        let mut others = Vec::new(alloc);
-        for other in topology.sites() {
-            if *other != site {
-                others.push(*other)?;
-            }
-        }
+    ) -> Result<Arc<Hub<S, B>>, AllocError>
+        ensures edition { IfOk result (λ hub. (arc_value hub).edition ≡ topology.now.edition) }
+        ensures site { IfOk result (λ hub. (arc_value hub).site ≡ site) }
+        ensures others { IfOk result (λ hub. (arc_value hub).others.items ≡ others topology.now site) }
+    {
+        let others = others_of(alloc, topology, site)?;
         let table = LinkTable::new(alloc, topology, site)?;
         let hub = Arc::new(
             alloc,
@@ -63,6 +64,26 @@ impl<S: Sink, B: Listing> Hub<S, B> {
         )?;
         Ok(hub)
     }
+}
+
+/// The sites of a topology but for one.
+fn others_of(alloc: Global, topology: &Topology, site: SiteId) -> Result<Vec<SiteId>, AllocError>
+    ensures { IfOk result (λ sites. sites.items ≡ others topology.now site) }
+{
+    let mut sites = Vec::new(alloc);
+    for other in topology.sites() {
+        push_other(&mut sites, *other, site)?;
+    }
+    Ok(sites)
+}
+
+fn push_other(sites: &mut Vec<SiteId>, other: SiteId, site: SiteId) -> Result<(), AllocError>
+    ensures { OnOk result (sites.new.items ≡ sites.old.items ++ filter (λ s. not (s == site)) (other ∷ [])) }
+{
+    if other != site {
+        sites.push(other)?;
+    }
+    Ok(())
 }
 
 /// Where a reading thread hands its frames to the station that all share.
@@ -184,7 +205,9 @@ fn next_of<R: Wait, S: Sink, B: Listing>(
     hub: &Hub<S, B>,
     tap: &mut ParkingTap,
 ) -> Option<Frame>
-    ensures { tap.new.to ≡ tap.old.to }
+    ensures to { tap.new.to ≡ tap.old.to }
+    ensures some { IfSome result (λ frame. tap.new.taken ≡ tap.old.taken ++ frame ∷ []) }
+    ensures none { IfNone result (tap.new.taken ≡ tap.old.taken) }
 {
     for _ in rt.forever() {
         if let Some(frame) = tap.take() {
@@ -205,7 +228,7 @@ fn next_of<R: Wait, S: Sink, B: Listing>(
 }
 
 impl<R: Wait + Drop, S: Sink, B: Listing> FrameSource for Exit<R, S, B> {
-    ghost given = { λ _. None };
+    ghost given = { λ s. Some s.tap.taken };
 
     ghost is_over = { λ s. s.over };
 

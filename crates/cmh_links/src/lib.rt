@@ -8,10 +8,12 @@ mod lent;
 mod reading;
 mod table;
 mod threads;
+mod turned_away;
 mod writing;
 
 pub use crate::lent::{Lent, lent_law};
 pub use crate::reading::{Handover, ReaderEnd, run_reader};
 pub use crate::table::{LinkFault, LinkState, LinkTable, SharedLinks};
 pub use crate::threads::SiteThreads;
+pub use crate::turned_away::stranger_law;
 pub use crate::writing::{FrameSource, run_writer};

@@ -1,6 +1,7 @@
 //! The command `play`: all sites of a world in memory, driven by a script.
 
 ghost use Rattle.std.specs.Prelude.{◌≡◌, ◌≢◌, ◌⊎◌, true, false, IfOk, IfErr, IfSome, OnOk, OnErr, Some};
+ghost use Rattle.std.specs.Io.KnownBytes.{Keeps};
 ghost use Rattle.cmh_files.specs.Faults.{NamesFault};
 ghost use Rattle.cmh_play.specs.Keeping.{AnsweredAndKept, AnswersAndKeeps, IsKeptPlayFault, IsUnanswered, KeepsAt, KeepsWorld, PlayedToEnd};
 ghost use Rattle.cmh_play.specs.Play.{AddsSite, Answered, AnswersLine, CarriesOut, Commands, IsAnswerFault, IsNewGame, IsPlayFault, IsSaidBy, Replies, SetsEdition, status_after};
@@ -11,15 +12,15 @@ use crate::reply::Reply;
 use cmh_files::Fault;
 use cmh_frames::{Edition, SiteRow};
 use cmh_playground::{Draft, Playground};
-use cmh_script::{Command, Device, Line, NextLine, parse, read_line};
+use cmh_script::{Ahead, Command, Device, Line, NextLine, WriteFault, parse, read_line};
 use std::alloc::{AllocError, Global};
 use std::io::{Read, Write};
 
 /// Plays a script, and answers the status of the program: 0 at the script's end, 1 where memory ran out, 3 where the
 /// script can't be read or the answers can't be written. A fault is named on `err`, and a write to it that fails is
-/// ignored. Each answer is flushed before the next line is read. The lines before a fault are answered, of which the
+/// ignored. Each answer is flushed before the command waits for more of the script. The lines before a fault are answered, of which the
 /// contract says no more than that nothing else is written.
-pub fn run_play<R: Read, W: Write, E: Write>(
+pub fn run_play<R: Read + Ahead, W: Write, E: Write>(
     alloc: Global,
     input: &mut Device<R>,
     out: &mut Device<W>,
@@ -43,7 +44,7 @@ pub fn run_play<R: Read, W: Write, E: Write>(
 
 /// The same, where the journals of all sites are kept: before each report is written, and at the script's end, once all
 /// answers are flushed. A keeper that fails ends the command with its fault.
-pub fn run_play_keeping<R: Read, W: Write, E: Write, K: Keeper>(
+pub fn run_play_keeping<R: Read + Ahead, W: Write, E: Write, K: Keeper>(
     alloc: Global,
     input: &mut Device<R>,
     out: &mut Device<W>,
@@ -70,7 +71,7 @@ pub fn run_play_keeping<R: Read, W: Write, E: Write, K: Keeper>(
     }
 }
 
-fn play<R: Read, W: Write, K: Keeper>(
+fn play<R: Read + Ahead, W: Write, K: Keeper>(
     alloc: Global,
     input: &mut Device<R>,
     out: &mut Device<W>,
@@ -92,7 +93,7 @@ fn play<R: Read, W: Write, K: Keeper>(
 }
 
 /// Reads and answers line after line.
-fn answer_all<R: Read, W: Write, K: Keeper>(
+fn answer_all<R: Read + Ahead, W: Write, K: Keeper>(
     alloc: Global,
     game: &mut Game,
     input: &mut Device<R>,
@@ -113,9 +114,19 @@ fn answer_all<R: Read, W: Write, K: Keeper>(
         if next.is_end() {
             return Ok(());
         }
-        game.answer_line(alloc, next, &line, out, keeper)?;
+        game.answer_line(alloc, next, &line, input.has_line(), out, keeper)?;
     }
     Err(Fault::Input)
+}
+
+/// Flushes the answers so far, but where a whole line is at hand: its answer is flushed with them.
+fn flush_awaited<W: Write>(out: &mut Device<W>, has_line: bool) -> Result<(), WriteFault>
+    ensures bytes { Keeps (W.contents out.old.inner) (W.contents out.new.inner) }
+    ensures ok { OnOk result (out.new.has_failed ≡ out.old.has_failed) }
+    ensures flushed { has_line ≡ false → OnOk result (out.new.is_flushed ≡ true) }
+    ensures err { OnErr result (out.new.has_failed ≡ true) }
+{
+    if has_line { Ok(()) } else { out.flush() }
 }
 
 /// What a line says; one that is too long is a bad one.
@@ -167,12 +178,14 @@ impl Game {
         }
     }
 
-    /// Answers what was read of a script. The journals are kept before a report is written.
+    /// Answers what was read of a script, behind which a whole line is at hand or not. The journals are kept before a
+    /// report is written.
     fn answer_line<W: Write, K: Keeper>(
         &mut self,
         alloc: Global,
         next: NextLine,
         line: &[u8],
+        has_line: bool,
         out: &mut Device<W>,
         keeper: &mut K,
     ) -> Result<(), Fault>
@@ -185,7 +198,7 @@ impl Game {
         let reply = self.answer(alloc, said)?;
         self.keep_for(alloc, &reply, keeper)?;
         out.write_text(&reply)?;
-        out.flush()?;
+        flush_awaited(out, has_line)?;
         Ok(())
     }
 

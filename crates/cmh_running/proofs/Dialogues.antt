@@ -20,7 +20,7 @@ use Rattle.cmh_running.specs.declared.dialogue.Flow.{Flow}
 use Rattle.cmh_running.specs.declared.dialogue.Flow.TheVariants.{Awaits, Ends}
 
 -- what was read is the first line, and there is one
-first_is : (bytes line : List ℕ) (next : NextLine) → IsNextLine bytes line next → next ≢ End → (0 < length bytes) × (line_of next line ≡ line_in bytes)
+pub first_is : (bytes line : List ℕ) (next : NextLine) → IsNextLine bytes line next → next ≢ End → (0 < length bytes) × (line_of next line ≡ line_in bytes)
 first_is bytes line Line is more =
     let short : nat_lt 1024 (length (first_line bytes)) ≡ false = le-ltb 1024 (length (first_line bytes)) (subst (λ (l : List ℕ). length l ≤ 1024) is.1 is.2) in
     (is.0, ap Some is.1 ∙ sym (ap (λ (b : Bool). if b then None else Some (first_line bytes)) short))

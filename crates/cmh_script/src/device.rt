@@ -6,7 +6,7 @@ ghost use Rattle.std.specs.Io.{ReadsAtMost};
 ghost use Rattle.std.specs.Io.KnownBytes.{Appends, Keeps, ReadConsumes};
 ghost use Rattle.cmh_script.specs.Lines.{IsNextByte};
 
-use std::io::{ErrorKind, Read, Write};
+use std::io::{BufReader, ErrorKind, Read, Write};
 use std::{fmt, io};
 
 /// The reader failed.
@@ -16,6 +16,23 @@ pub struct ReadFault;
 /// The writer failed.
 #[derive(Clone, Copy, Debug, PartialEq, Eq)]
 pub struct WriteFault;
+
+/// A reader that tells which bytes it has read ahead: reads give them without waiting.
+pub trait Ahead {
+    fn ahead(&self) -> &[u8];
+}
+
+impl<R: Read> Ahead for BufReader<R> {
+    fn ahead(&self) -> &[u8] {
+        self.buffer()
+    }
+}
+
+impl Ahead for &[u8] {
+    fn ahead(&self) -> &[u8] {
+        self
+    }
+}
 
 /// A reader or a writer, and whether a call of it has failed. Only a call that failed sets that.
 ///
@@ -63,6 +80,13 @@ impl<R: Read> Device<R> {
                 Err(ReadFault)
             }
         }
+    }
+}
+
+impl<R: Ahead> Device<R> {
+    /// Whether a whole line can be read without waiting.
+    pub fn has_line(&self) -> bool {
+        self.inner.ahead().contains(&b'\n')
     }
 }
 

@@ -1,2 +1,3 @@
 pub mod EntryTexts
 pub mod Shown
+pub mod RunLines

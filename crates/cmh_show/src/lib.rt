@@ -2,7 +2,9 @@
 #![tactic(auto)]
 
 mod entry_text;
+mod run_line;
 mod shown;
 
 pub use crate::entry_text::{EntryLines, EntryText, EventText};
+pub use crate::run_line::RunLine;
 pub use crate::shown::{Rest, Shown, read_shown};

@@ -1,17 +1,14 @@
--- How running sites end.
-use Rattle.std.proofs.Common.{◌≡◌, ℕ, Bool, true, false, List, [], ◌∷◌, ◌++◌, Option, None, Some, refl, sym, ap, subst, ◌∙◌, inl, inr, true≢false, append-nil}
+-- How a running site ends.
+use Rattle.std.proofs.Common.{◌≡◌, ℕ, Bool, true, false, List, [], ◌++◌, Option, sym, ap, subst, inl, inr, true≢false}
 use Rattle.std.specs.Prelude.{IfSome, IsErr, Result, Ok, Err, codes}
 use Rattle.std.specs.Io.KnownBytes.{Appends, Keeps}
 use Rattle.cmh_script.proofs.LinesSeen.{if_some}
-use Rattle.cmh_files.proofs.TextLemmas.{appends-kept, texts_of-append}
+use Rattle.cmh_files.proofs.TextLemmas.{appends-kept}
 use Rattle.cmh_files.specs.declared.faults.Fault.{Fault}
-use Rattle.cmh_files.specs.AuditTexts.{texts_of}
-use Rattle.cmh_frames.specs.Topology.{Topology}
-use Rattle.cmh_play.proofs.Plays.{appends-more, appends-none, at_some}
+use Rattle.cmh_play.proofs.Plays.{appends-more, at_some}
 use Rattle.cmh_running.specs.Dialogue.{Conversed, WroteBefore, begin}
-use Rattle.cmh_site.specs.Endings.{Answered, NamesClosed, Served, Welcomed, closed_line}
-use Rattle.cmh_site.specs.SiteTalk.{IsTurnOfCluster, IsTurnOfSite}
-use Rattle.cmh_site.specs.declared.site_reply.ClosedLink.{ClosedLink}
+use Rattle.cmh_site.specs.Endings.{Served, Welcomed}
+use Rattle.cmh_site.specs.SiteTalk.{IsTurnOfSite}
 
 -- a text, and then what was written of another
 wrote_behind : (r : Result (Unit {0}) Fault) (a b c : Option (List ℕ)) (has_failed : Bool) (x y : List ℕ) → Appends a b x → WroteBefore r b c has_failed y
@@ -45,22 +42,3 @@ module _ (site : ℕ) (start : Option (List ℕ)) (old : Option (List ℕ)) wher
         is = w.is;
         wrote = appends-more old said kept (codes "listening\n" ++ w.text) (codes "stopped\n") w.wrote (appends-kept _ _ _ _ last same);
       })
-
--- no link was named, and one more
-pub none_closed : (out : Option (List ℕ)) → NamesClosed out out
-none_closed out = record { links = []; wrote = appends-none out }
-
-pub one_more_closed : (old out new : Option (List ℕ)) (link : ClosedLink) → NamesClosed old out → Appends out new (closed_line link) → NamesClosed old new
-one_more_closed old out new link c wrote = record {
-  links = c.links ++ link ∷ [];
-  wrote = subst (λ (text : List ℕ). Appends old new text) (sym (texts_of-append closed_line c.links link))
-      (appends-more old out new (texts_of closed_line c.links) (closed_line link) c.wrote wrote);
-}
-
-module _ (t : Topology) (script : List ℕ) (old : Option (List ℕ)) where
-  -- all lines were answered, and links named behind them
-  pub answered : (said new : Option (List ℕ)) (first has_failed : Bool) (r : Result (Unit {0}) Fault) (done : Unit {0}) → r ≡ Ok done
-      → Conversed (λ was is line text flow. IsTurnOfCluster t line text) first script old said has_failed r → NamesClosed said new → Answered t script old new
-  answered said new first has_failed r done is talked closed =
-      let c = subst (λ (x : Result (Unit {0}) Fault). Conversed (λ was is line text flow. IsTurnOfCluster t line text) first script old said has_failed x) is talked in
-      record { first = first; text = c.text; links = closed.links; is = c.is; wrote = appends-more old said new c.text (texts_of closed_line closed.links) c.wrote closed.wrote }

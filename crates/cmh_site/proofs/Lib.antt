@@ -1,2 +1,3 @@
+pub mod ClusterEndings
 pub mod Endings
 mod SiteTurns

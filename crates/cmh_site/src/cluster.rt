@@ -1,11 +1,14 @@
 //! The command `cluster`: all sites of a topology as threads of one program, driven by a script.
 
-ghost use Rattle.std.specs.Prelude.{◌≡◌, ◌⊎◌, None, true, MatchOption, IfOk, IfErr, IfSome, OnOk, length, map};
+ghost use Rattle.std.specs.Prelude.{◌≡◌, ◌⊎◌, None, true, MatchOption, IfOk, IfErr, IfSome, OnOk, codes, length, map};
+ghost use Rattle.std.specs.Io.KnownBytes.{Appends};
 ghost use Rattle.cmh_controller.specs.declared.refusal.Refusal.TheVariants.{UnknownProcess};
 ghost use Rattle.cmh_files.specs.Status.{IsStatus};
 ghost use Rattle.cmh_frames.specs.Topology.{home, sites_of};
-ghost use Rattle.cmh_running.specs.Dialogue.{Conversed, HasAnswered, line_of};
-ghost use Rattle.cmh_site.specs.Endings.{Answered, AuditsSome, IsRunFault, IsStartFault, NamesClosed};
+ghost use Rattle.cmh_running.specs.Dialogue.{HasAnswered, line_of};
+ghost use Rattle.cmh_site.specs.ClusterEndings as spec;
+ghost use Rattle.cmh_site.specs.ClusterEndings.{AuditsSome, ClusterEnds, ComesTo, HasPlayed, IsClusterFault, IsRunFault, IsStartFault, IsWorldFault, NamesClosed, Replied};
+ghost use Rattle.cmh_site.specs.Endings.{IsWorldOf};
 ghost use Rattle.cmh_play.specs.Play.{IsAnswerFault, IsPlayFault};
 ghost use Rattle.cmh_site.specs.declared.site_reply.SiteReply.TheVariants.{Refused};
 ghost use Rattle.cmh_station.specs.declared.refusal.StationRefusal.TheVariants.{Rule};
@@ -63,18 +66,33 @@ where
         + 'static,
     ensures status { IsStatus result }
 
+    // The audit of what was read back stands behind the answers to the script; or the sites did not settle, which is said;
+    // or a fault is named that has its cause.
+    ensures ends { ClusterEnds topology.now script.now (W.contents out.old.inner) (W.contents out.new.inner)
+        out.new.has_failed out.new.is_flushed (E.contents err.old.inner) (E.contents err.new.inner)
+        err.new.has_failed result }
+
     // At status 0 the files that were read back were audited and accepted.
     ensures audit { result ≡ 0 → AuditsSome topology.now (W.contents out.new.inner) out.new.has_failed
         out.new.is_flushed (E.contents err.old.inner) (E.contents err.new.inner) err.new.has_failed result }
 {
     match cluster_into(rt, alloc, topology, script, dir, out) {
-        Ok(Some(journals)) => run_audit(alloc, topology, &journals, out, err),
-        Ok(None) => 1,
+        Ok(Played::Read(journals)) => run_audit(alloc, topology, &journals, out, err),
+        Ok(Played::NotSettled) => 1,
         Err(fault) => fault.name_on(err),
     }
 }
 
-/// The journals as they were read back; none where the sites did not settle.
+/// What the play of a script left behind.
+#[derive(Drop)]
+enum Played {
+    /// The files of all journals, ascending by site, as they were read back.
+    Read(Vec<Vec<u8>>),
+    /// Behind a line frames did not come.
+    NotSettled,
+}
+
+/// Plays the script, and reads the journals back or says that the sites did not settle.
 fn cluster_into<R, W: Write>(
     rt: R,
     alloc: Global,
@@ -82,7 +100,7 @@ fn cluster_into<R, W: Write>(
     script: &[u8],
     dir: &str,
     out: &mut Device<W>,
-) -> Result<Option<Vec<Vec<u8>>>, Fault>
+) -> Result<Played, Fault>
 where
     R: Wait
         + Threads
@@ -93,38 +111,78 @@ where
         + Send
         + Drop
         + 'static,
+    ensures played { IfOk result (ComesTo topology.now script.now (W.contents out.old.inner)
+        (W.contents out.new.inner) out.new.is_flushed) }
+    ensures fault { IfErr result (IsClusterFault topology.now script.now (W.contents out.old.inner)
+        (W.contents out.new.inner) out.new.has_failed) }
+{
+    let Setting { world, ports } = read_setting(alloc, topology)?;
+    match run_sites(rt, alloc, &world, &ports, script, dir, out)? {
+        Flow::Awaits => Ok(Played::Read(read_back(&rt, alloc, &world, dir)?)),
+        Flow::Ends => {
+            say_not_settled(out)?;
+            Ok(Played::NotSettled)
+        }
+    }
+}
+
+fn say_not_settled<W: Write>(out: &mut Device<W>) -> Result<(), Fault>
+    ensures said { OnOk result (Appends (W.contents out.old.inner) (W.contents out.new.inner)
+        (codes "not settled\n")) }
+    ensures flushed { OnOk result (out.new.is_flushed ≡ true) }
+    ensures fault { IfErr result (λ fault. (fault ≡ Fault.Output) × (out.new.has_failed ≡ true)) }
+{
+    out.write_line("not settled")?;
+    out.flush()?;
+    Ok(())
+}
+
+/// The sites of a topology file, and their ports.
+#[derive(Drop)]
+struct Setting {
+    world: Topology,
+    ports: Ports,
+}
+
+fn read_setting(alloc: Global, topology: &[u8]) -> Result<Setting, Fault>
+    ensures world { IfOk result (λ setting. IsWorldOf topology.now setting.world) }
+    ensures fault { IfErr result (IsWorldFault topology.now) }
 {
     let (file, ports) = read_topology_file_with_ports(alloc, topology)?;
     let world = Topology::new(alloc, file.edition, &file.rows)?;
     let ports = Ports::new(alloc, &file.rows, &ports)?;
-    let mut cluster = Cluster {
-        rt,
-        alloc,
-        topology: &world,
-        tally: Tally::new(alloc, world.sites())?,
-        members: Vec::with_capacity(alloc, world.sites().len())?,
-        running: Vec::with_capacity(alloc, world.sites().len())?,
-        is_settled: true,
-    };
-    let played = cluster.play(&ports, dir, script, out);
-    let Cluster {
-        rt: _,
-        alloc: _,
-        topology: _,
-        tally: _tally,
-        members: _members,
-        running,
-        is_settled,
-    } = cluster;
-    stop_all(running);
-    played?;
-    if is_settled {
-        Ok(Some(read_back(&rt, alloc, &world, dir)?))
-    } else {
-        out.write_line("not settled")?;
-        out.flush()?;
-        Ok(None)
-    }
+    Ok(Setting { world, ports })
+}
+
+/// Plays a script with all sites as threads, which end before the answer. Where a line was not followed by all frames, it
+/// is the last one that was answered.
+fn run_sites<R, W: Write>(
+    rt: R,
+    alloc: Global,
+    world: &Topology,
+    ports: &Ports,
+    script: &[u8],
+    dir: &str,
+    out: &mut Device<W>,
+) -> Result<Flow, Fault>
+where
+    R: Wait
+        + Threads
+        + Net<Listener = TcpListener, Stream = TcpStream>
+        + Files<File = File>
+        + Copy
+        + Send
+        + Drop
+        + 'static,
+    ensures played { IfOk result (HasPlayed world.now script.now (W.contents out.old.inner)
+        (W.contents out.new.inner)) }
+    ensures fault { IfErr result (IsRunFault world.now script.now (W.contents out.old.inner)
+        (W.contents out.new.inner) out.new.has_failed) }
+{
+    let mut cluster = Cluster::new(rt, alloc, world)?;
+    let played = cluster.play(ports, dir, script, out);
+    cluster.stop();
+    played
 }
 
 /// The files of all journals, ascending by site.
@@ -211,8 +269,6 @@ where
     tally: Tally,
     members: Vec<Member<R>>,
     running: Vec<Running<R>>,
-    /// Whether all frames have come behind each line so far.
-    is_settled: bool,
 }
 
 impl<'a, R> Cluster<'a, R>
@@ -226,18 +282,35 @@ where
         + Drop
         + 'static,
 {
-    /// Starts all sites, answers the script, and tells which links closed.
-    #[tactic(auto, using(crate::proofs::Endings::answered, crate::proofs::Endings::none_closed))]
+    /// None of the sites runs yet.
+    fn new(rt: R, alloc: Global, topology: &'a Topology) -> Result<Self, AllocError>
+        ensures { IfOk result (λ cluster. cluster.topology.now ≡ topology.now) }
+    {
+        let tally = Tally::new(alloc, topology.sites())?;
+        let members = Vec::with_capacity(alloc, topology.sites().len())?;
+        let running = Vec::with_capacity(alloc, topology.sites().len())?;
+        Ok(Cluster {
+            rt,
+            alloc,
+            topology,
+            tally,
+            members,
+            running,
+        })
+    }
+
+    /// Starts all sites, answers the script, and tells which links closed where all its lines were answered.
     fn play<W: Write>(
         &mut self,
         ports: &Ports,
         dir: &str,
         script: &[u8],
         out: &mut Device<W>,
-    ) -> Result<(), Fault>
-        ensures answered { OnOk result (Answered self.old.topology.now script.now
-            (W.contents out.old.inner) (W.contents out.new.inner)) }
-        ensures fault { IfErr result (IsRunFault out.new.has_failed) }
+    ) -> Result<Flow, Fault>
+        ensures played { IfOk result (HasPlayed self.old.topology.now script.now (W.contents out.old.inner)
+            (W.contents out.new.inner)) }
+        ensures fault { IfErr result (IsRunFault self.old.topology.now script.now (W.contents out.old.inner)
+            (W.contents out.new.inner) out.new.has_failed) }
     {
         self.start_all(ports, dir)?;
         for threads in self.running.iter_mut() {
@@ -245,15 +318,26 @@ where
         }
         let mut input = Device::new(script);
         match self.answer_all(&mut input, out) {
-            Ok(()) => {}
-            // A script that is in memory can be read, but for one that is too long to be counted.
-            Err(Fault::Input) => return Err(Fault::ScriptFile),
-            Err(fault) => return Err(fault),
+            Ok(Flow::Awaits) => {
+                self.write_closed(out)?;
+                Ok(Flow::Awaits)
+            }
+            Ok(Flow::Ends) => Ok(Flow::Ends),
+            Err(fault) => Err(of_script(fault)),
         }
-        if self.is_settled {
-            self.write_closed(out)?;
-        }
-        Ok(())
+    }
+
+    /// Ends the threads of all sites.
+    fn stop(self) {
+        let Cluster {
+            rt: _,
+            alloc: _,
+            topology: _,
+            tally: _tally,
+            members: _members,
+            running,
+        } = self;
+        stop_all(running);
     }
 
     /// Every port is taken first, so that sites which run already keep their journals; then every journal is made, and
@@ -348,13 +432,13 @@ where
         Ok(opened)
     }
 
-    /// Gives line after line to `answer`, until one ends it or none is left.
+    /// Gives line after line to `answer`, until one ends it or none is left, and then another would be awaited.
     fn answer_all<I: Read, W: Write>(
         &mut self,
         input: &mut Device<I>,
         out: &mut Device<W>,
-    ) -> Result<(), Fault>
-        ensures answers { IfSome (I.remaining input.old.inner) (λ bytes. Conversed (λ was is line text flow. IsTurnOfCluster self.old.topology.now line text) self.old.is_settled bytes
+    ) -> Result<Flow, Fault>
+        ensures answers { IfSome (I.remaining input.old.inner) (λ bytes. Replied self.old.topology.now bytes
             (W.contents out.old.inner) (W.contents out.new.inner) out.new.has_failed result) }
         ensures fault { IfErr result (IsPlayFault (I.remaining input.old.inner) input.new.has_failed out.new.has_failed) }
     {
@@ -362,12 +446,12 @@ where
         for turn in 0..u64::MAX {
             let next = read_line(input, &mut line)?;
             if next.is_end() {
-                return Ok(());
+                return Ok(Flow::Awaits);
             }
             let flow = self.answer(next, &line, out)?;
             match flow {
                 Flow::Awaits => {}
-                Flow::Ends => return Ok(()),
+                Flow::Ends => return Ok(Flow::Ends),
             }
         }
         Err(Fault::Input)
@@ -389,8 +473,7 @@ where
         let reply = self.reply(&said)?;
         out.write_text(&reply)?;
         out.flush()?;
-        self.is_settled = self.settle();
-        Ok(if self.is_settled {
+        Ok(if self.settle() {
             Flow::Awaits
         } else {
             Flow::Ends
@@ -498,10 +581,10 @@ where
     }
 
     /// A line for each link that is closed, ascending.
-    #[tactic(auto, using(crate::proofs::Endings::none_closed, crate::proofs::Endings::one_more_closed))]
+    #[tactic(auto, using(crate::proofs::ClusterEndings::none_closed, crate::proofs::ClusterEndings::one_more_closed))]
     fn write_closed<W: Write>(&self, out: &mut Device<W>) -> Result<(), Fault>
         ensures closed { OnOk result (NamesClosed (W.contents out.old.inner) (W.contents out.new.inner)) }
-        ensures fault { IfErr result (IsRunFault out.new.has_failed) }
+        ensures fault { IfErr result (λ fault. (fault ≡ Fault.Output) × (out.new.has_failed ≡ true)) }
     {
         for (i, from) in self.topology.sites().iter().enumerate() {
             for (k, to) in self.topology.sites().iter().enumerate() {
@@ -566,6 +649,16 @@ fn why_closed(state: Option<LinkState>) -> Option<LinkFault> {
     match state {
         Some(LinkState::Closed(fault)) => Some(fault),
         _ => None,
+    }
+}
+
+/// The fault of a script that is in memory: it can be read, but for one that is too long to be counted.
+fn of_script(fault: Fault) -> Fault
+    ensures { result ≡ spec.of_script fault }
+{
+    match fault {
+        Fault::Input => Fault::ScriptFile,
+        _ => fault,
     }
 }
 

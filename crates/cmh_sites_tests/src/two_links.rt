@@ -153,6 +153,7 @@ impl Listen for Arrivals {
         match self.waiting.pop() {
             Some(mut incoming) => {
                 incoming.faults = 0;
+                incoming.over = false;
                 Ok(incoming)
             }
             None => {

@@ -1,5 +1,6 @@
 //! Readers and writers that move few bytes at a time and fail at one call.
 
+use cmh_site::Ahead;
 use std::io;
 use std::io::{ErrorKind, Read, Write};
 
@@ -69,6 +70,13 @@ impl<'a> Read for Reader<'a> {
         buf[..len].copy_from_slice(&self.bytes[..len]);
         self.bytes = &self.bytes[len..];
         Ok(len)
+    }
+}
+
+/// It reads nothing ahead, so each line is waited for.
+impl<'a> Ahead for Reader<'a> {
+    fn ahead(&self) -> &[u8] {
+        &[]
     }
 }
 

@@ -1,8 +1,9 @@
-//! What a command has written is flushed before it ends, and each answer of a script before the next line.
+//! What a command has written is flushed before it ends, and each answer of a script before another line is waited for.
 
-use cmh_site::{Device, run_audit, run_play};
+use crate::carriers::{Reader, Trouble};
+use cmh_site::{Ahead, Device, run_audit, run_play};
 use std::io;
-use std::io::{ErrorKind, Write};
+use std::io::{ErrorKind, Read, Write};
 use std::test::Fail;
 
 /// Takes all that it is given, and keeps how much of it there was when it was flushed last.
@@ -47,8 +48,10 @@ fn writer<R: AllocGlobal>(rt: &R, can_flush: bool) -> Held {
     }
 }
 
-fn play<R: AllocGlobal>(rt: &R, can_flush: bool) -> Ended {
-    let mut input = Device::new(b"site 1 1\nreport\n".as_slice());
+const SCRIPT: &[u8] = b"site 1 1\nreport\n";
+
+fn play<R: AllocGlobal, I: Read + Ahead>(rt: &R, input: I, can_flush: bool) -> Ended {
+    let mut input = Device::new(input);
     let mut out = writer(rt, can_flush);
     let mut fault = Vec::new(rt.alloc());
     let status = run_play(
@@ -77,17 +80,26 @@ fn audit<R: AllocGlobal>(rt: &R, can_flush: bool) -> Result<Ended, Fail> {
 
 #[test]
 fn answers_are_flushed_one_by_one(rt: HostRuntime) {
-    let ended = play(&rt, true);
+    let ended = play(&rt, Reader::new(SCRIPT, 1, Trouble::None), true);
     assert_eq!(rt; ended.status, 0);
     assert!(rt; ended.out.bytes.as_slice() == b"ok\naccepted\nevents 0\n".as_slice());
     assert_eq!(rt; ended.out.flushed, ended.out.bytes.len());
-    assert!(rt; ended.out.flushes >= 2, "once for each of two lines");
+    assert!(rt; ended.out.flushes >= 2, "once for each of two lines that are waited for");
     assert!(rt; ended.fault.is_empty());
 }
 
 #[test]
+fn answers_of_lines_that_are_at_hand_are_flushed_together(rt: HostRuntime) {
+    let ended = play(&rt, SCRIPT, true);
+    assert_eq!(rt; ended.status, 0);
+    assert!(rt; ended.out.bytes.as_slice() == b"ok\naccepted\nevents 0\n".as_slice());
+    assert_eq!(rt; ended.out.flushed, ended.out.bytes.len());
+    assert!(rt; ended.out.flushes <= 2, "behind the last line, and at the end");
+}
+
+#[test]
 fn a_script_whose_answers_cannot_be_flushed_ends_with_status_3(rt: HostRuntime) {
-    let ended = play(&rt, false);
+    let ended = play(&rt, SCRIPT, false);
     assert_eq!(rt; ended.status, 3);
     assert!(rt; ended.fault.as_slice() == b"fault output\n".as_slice());
 }

@@ -43,7 +43,7 @@ returns-then-is_empty-clause-accepted c =
     (λ _. come_from c.args.topology.now c.args.journals.now c.in_ok-merged.merged.taken.items c.requires c.in_ok-merged.ensures.stuck none, λ _. tt)
 
 -- the rows are stops where there is one
-rows_stop : (c : goal.After-drop-merged-3) → AreStops c.args.topology.now c.args.journals.now c.in_ok-rows.rows.items
+rows_stop : (c : goal.After-drop-merged-4) → AreStops c.args.topology.now c.args.journals.now c.in_ok-rows.rows.items
 rows_stop c =
     let rows : c.in_ok-rows.rows.items ≡ stops_at (sites_of c.args.topology.now) c.args.journals.now c.in_ok-merged.merged.taken.items = c.in_ok-rows.ensures ∙ ap (λ ss. stops_at ss c.args.journals.now c.deref.result.now) c.sites-sites.ensures.value ∙ ap (stops_at (sites_of c.args.topology.now) c.args.journals.now) c.deref.ensures.value in
     let some : 0 < length c.in_ok-rows.rows.items = some_list c.in_ok-rows.rows.items (λ h. eqb-false c.in_ok-rows.rows.len 0 (sym c.is_empty.ensures ∙ c.if-is_empty.false) (c.in_ok-rows.rows.ok.0 ∙ h)) in

@@ -1,5 +1,4 @@
-use Rattle.std.proofs.Common.{sym, ◌∙◌, ap, subst}
-use Rattle.cmh_model.specs.Runs.{IsBeginningOf}
+use Rattle.std.proofs.Common.{◌≡◌, sym, ◌∙◌, ap, subst}
 use Rattle.cmh_board.specs.Boards.{State}
 use Rattle.cmh_board.proofs.Sight.{sees}
 use Rattle.cmh_board.proofs.writer.publish_all.Goals as goal
@@ -8,4 +7,4 @@ pub publish_as-writer-requires : goal.publish_as-writer-requires
 publish_as-writer-requires g c next is =
     sees _ _ c.args.writer.desk.shown.value next
     (ap (λ (s : State). s.1.book) is ∙ c.requires.book)
-    (λ _. let P : State → Type 0 = λ s. IsBeginningOf s.0 s.1.log in subst P (sym is) c.requires.begins)
+    (λ _. let P : State → Type 0 = λ s. s.0 ≡ s.1.log in subst P (sym is) c.requires.own)

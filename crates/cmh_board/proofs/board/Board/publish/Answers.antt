@@ -5,7 +5,7 @@ use Rattle.cmh_board.proofs.board.Board.publish.Goals as goal
 pub publish_in-requires : goal.publish_in-requires
 publish_in-requires g c =
     let k = unstuck_all _ _ _ _ _ _ _ _ c.self.invariant.1 in
-    rw (c.in-Ok.ensures.desk, c.in-Ok.ensures.ok.1) (record { book = k.final_book ∙ sym k.book; begins = k.final_own })
+    rw (c.in-Ok.ensures.desk, c.in-Ok.ensures.ok.1) (record { book = k.final_book ∙ sym k.book; own = k.final_own })
 
 pub invariant_of-self-2 : goal.invariant_of-self-2
 invariant_of-self-2 g c =

@@ -1,20 +1,20 @@
 use Rattle.std.proofs.Common.{◌≡◌, ℕ, ◌≤◌, List, length, take, ap, ◌∙◌, subst, arith}
 use Rattle.cmh_model.specs.Runs.{IsBeginningOf}
-use Rattle.cmh_board.proofs.Fronts.{fronts, take_whole}
+use Rattle.cmh_board.proofs.Fronts.{beginning_same, fronts, take_whole}
 use Rattle.cmh_model.proofs.Beginnings.{length-beginning}
 use Rattle.cmh_board.proofs.reader.BoardReader.read.Goals as goal
 
 pub returns-clause-some : goal.returns-clause-some
 returns-clause-some c =
     let log = c.in-Some.published.seen.log in
-    ap (λ (k : ℕ). take k log) c.len-length.ensures.length ∙ take_whole c.in-Some.published.list log c.in-Some.ensures.some.2
+    ap (λ (k : ℕ). take k log) c.len-length.ensures.length ∙ take_whole c.in-Some.published.list log (beginning_same _ _ c.in-Some.ensures.some.2)
 
 pub returns-clause-grows : goal.returns-clause-grows
 returns-clause-grows c =
     let both = c.learn.new.self.log in
     let list = c.in-Some.published.list in
     let log = c.in-Some.published.seen.log in
-    let good : IsBeginningOf list log = c.in-Some.ensures.some.2 in
+    let good : IsBeginningOf list log = beginning_same list log c.in-Some.ensures.some.2 in
     let this : IsBeginningOf c.self.inside.seen.log both = subst (λ (l : List ℕ). IsBeginningOf l both) (ap (λ s. s.log) c.again-both.ensures) c.learn.ensures.2 in
     let is : take c.len-length.result log ≡ list = ap (λ (k : ℕ). take k log) c.len-length.ensures.length ∙ take_whole list log good in
     let long = length-beginning list log good in

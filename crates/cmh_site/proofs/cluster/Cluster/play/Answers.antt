@@ -1,22 +1,30 @@
-use Rattle.std.proofs.Common.{subst}
-use Rattle.cmh_site.specs.Endings.{Answered}
-use Rattle.cmh_site.proofs.Endings.{answered, none_closed}
+use Rattle.std.proofs.Common.{Some, subst}
+use Rattle.cmh_site.proofs.ClusterEndings.{answered, run_fault_at, start_fault_err}
 use Rattle.cmh_site.proofs.cluster.Cluster.play.Goals as goal
+use Rattle.cmh_site.specs.ClusterEndings.{Answered, IsRunFault}
 
-pub returns-in_ok-write_closed-clause-answered : goal.returns-in_ok-write_closed-clause-answered
-returns-in_ok-write_closed-clause-answered g c =
+pub returns-in_err-start_all-clause-fault : goal.returns-in_err-start_all-clause-fault
+returns-in_err-start_all-clause-fault g c =
+    start_fault_err _ _ _ _ c.from_residual.result c.in_err-start_all.field-0.0 c.from_residual.ensures.1 c.in_err-start_all.ensures.fault
+
+pub returns-in_ok-write_closed-in-Ok-Awaits-clause-played : goal.returns-in_ok-write_closed-in-Ok-Awaits-clause-played
+returns-in_ok-write_closed-in-Ok-Awaits-clause-played g c =
     let old = g.W.Write.contents c.args.out.now.inner in
     let new = g.W.Write.contents c.write_closed.new.out.inner in
     subst (λ t. Answered t.now c.args.script.now old new) c.start_all.ensures.topology
     (subst (λ s. Answered c.start_all.new.self.topology.now s.now old new) c.new-input.ensures.inner
-    (answered c.start_all.new.self.topology.now c.new-input.result.inner.now old _ new _ _ c.answer_all.result c.in-Ok.field-0 c.in-Ok.is
-    c.answer_all.ensures.answers c.in_ok-write_closed.ensures.closed))
+    (answered c.start_all.new.self.topology.now c.new-input.result.inner.now old _ new _ c.answer_all.result c.in-Ok-Awaits.field-0 c.in-Ok-Awaits.is c.in-Ok-Awaits.field-0-is
+    c.answer_all.ensures.answers c.in_ok-write_closed-in-Ok-Awaits.ensures.closed))
 
-pub returns-else-self-clause-answered : goal.returns-else-self-clause-answered
-returns-else-self-clause-answered g c =
+pub returns-in-Err : goal.returns-in-Err
+returns-in-Err g c =
     let old = g.W.Write.contents c.args.out.now.inner in
     let new = g.W.Write.contents c.answer_all.new.out.inner in
-    subst (λ t. Answered t.now c.args.script.now old new) c.start_all.ensures.topology
-    (subst (λ s. Answered c.start_all.new.self.topology.now s.now old new) c.new-input.ensures.inner
-    (answered c.start_all.new.self.topology.now c.new-input.result.inner.now old _ new _ _ c.answer_all.result c.in-Ok.field-0 c.in-Ok.is
-    c.answer_all.ensures.answers (none_closed _)))
+    let failed = c.answer_all.new.out.has_failed in
+    record {
+      played = tt;
+      fault = subst (λ t. IsRunFault t.now c.args.script.now old new failed c.of_script.result) c.start_all.ensures.topology
+          (subst (λ s. IsRunFault c.start_all.new.self.topology.now s.now old new failed c.of_script.result) c.new-input.ensures.inner
+          (run_fault_at c.start_all.new.self.topology.now c.new-input.result.inner.now old new failed (Some c.new-input.result.inner.now) c.answer_all.new.input.has_failed c.answer_all.result c.in-Err.fault c.of_script.result c.in-Err.is c.of_script.ensures
+          c.answer_all.ensures.answers c.answer_all.ensures.fault));
+    }

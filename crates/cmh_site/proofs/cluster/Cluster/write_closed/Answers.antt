@@ -1,4 +1,4 @@
-use Rattle.cmh_site.proofs.Endings.{one_more_closed}
+use Rattle.cmh_site.proofs.ClusterEndings.{one_more_closed}
 use Rattle.cmh_site.proofs.cluster.Cluster.write_closed.Goals as goal
 use Rattle.cmh_site.proofs.cluster.Cluster.write_closed.Goals.{in-Some+in_ok-write_line, in_default}
 

@@ -1,4 +1,4 @@
-use Rattle.cmh_site.specs.Endings.{NamesClosed}
+use Rattle.cmh_site.specs.ClusterEndings.{NamesClosed}
 use Rattle.cmh_site.proofs.cluster.Cluster.write_closed.Given as goal
 
 -- links were named so far

@@ -1,0 +1,16 @@
+use Rattle.std.proofs.Common.{inl, subst}
+use Rattle.cmh.specs.Drawing.{DrawsFiles}
+use Rattle.cmh_draw.specs.declared.picture.Kind.{Kind as AKind}
+use Rattle.cmh_picture.specs.declared.format.Format.{Format as AFormat}
+use Rattle.cmh.proofs.drawing.draw.Goals as goal
+
+pub returns-in-Ok-clause-draws : goal.returns-in-Ok-clause-draws
+returns-in-Ok-clause-draws g c = λ kind format told how.
+    subst (λ (k : AKind). DrawsFiles k format (g.W.Write.contents c.args.out.now.inner) (g.W.Write.contents c.run_draw.new.out.inner) c.run_draw.new.out.has_failed c.run_draw.new.out.is_flushed (g.E.Write.contents c.args.err.now.inner) (g.E.Write.contents c.run_draw.new.err.inner) c.run_draw.new.err.has_failed c.run_draw.result)
+    (c.kind_of-kind.ensures kind told)
+    (subst (λ (f : AFormat). DrawsFiles c.kind_of-kind.result f (g.W.Write.contents c.args.out.now.inner) (g.W.Write.contents c.run_draw.new.out.inner) c.run_draw.new.out.has_failed c.run_draw.new.out.is_flushed (g.E.Write.contents c.args.err.now.inner) (g.E.Write.contents c.run_draw.new.err.inner) c.run_draw.new.err.has_failed c.run_draw.result)
+    (c.format_of-format.ensures format how)
+    (inl (_, _, c.run_draw.ensures.ends)))
+
+pub returns-in-Ok-clause-draws_some : goal.returns-in-Ok-clause-draws_some
+returns-in-Ok-clause-draws_some g c = (_, _, inl (_, _, c.run_draw.ensures.ends))

@@ -1,0 +1,76 @@
+//! The files that the words of a command line name.
+
+ghost use Rattle.std.specs.Prelude.{◌≡◌, ◌⊎◌, IfErr};
+ghost use Rattle.cmh.specs.CommandLine.{IsUnread};
+
+use crate::commands::{JOURNALS, SCRIPT, TOPOLOGY};
+use clap::ArgMatches;
+use cmh_site::Fault;
+use std::fs;
+use std::io::ErrorKind;
+use std::rt::Files;
+
+/// What the files of a cluster hold.
+#[derive(Drop)]
+pub struct ClusterFiles {
+    pub topology: Vec<u8>,
+    pub script: Vec<u8>,
+}
+
+/// Reads the files that the words name: the topology, and then the script.
+pub fn cluster_files_of<R: AllocGlobal + Files>(
+    rt: &R,
+    words: &ArgMatches<'_>,
+) -> Result<ClusterFiles, Fault>
+    ensures { IfErr result IsUnread }
+{
+    let path = words.get_str(TOPOLOGY).unwrap_or("");
+    let topology = read_file(rt, path, Fault::TopologyFile)?;
+    let path = words.get_str(SCRIPT).unwrap_or("");
+    let script = read_file(rt, path, Fault::ScriptFile)?;
+    Ok(ClusterFiles { topology, script })
+}
+
+/// What the files of an audit hold.
+#[derive(Drop)]
+pub struct AuditFiles {
+    pub topology: Vec<u8>,
+    pub journals: Vec<Vec<u8>>,
+}
+
+/// Reads the files that the words name: the topology, and then the journals in their order.
+pub fn files_of<R: AllocGlobal + Files>(rt: &R, words: &ArgMatches<'_>) -> Result<AuditFiles, Fault>
+    ensures { IfErr result IsUnread }
+{
+    let path = words.get_str(TOPOLOGY).unwrap_or("");
+    let topology = read_file(rt, path, Fault::TopologyFile)?;
+    let journals = journals_of(rt, words)?;
+    Ok(AuditFiles { topology, journals })
+}
+
+/// Reads the journals that the words name, in their order.
+pub fn journals_of<R: AllocGlobal + Files>(
+    rt: &R,
+    words: &ArgMatches<'_>,
+) -> Result<Vec<Vec<u8>>, Fault>
+    ensures { IfErr result IsUnread }
+{
+    let mut journals = Vec::new(rt.alloc());
+    if let Some(paths) = words.get_strs(JOURNALS) {
+        for (i, path) in paths.iter().enumerate() {
+            journals.push(read_file(rt, *path, Fault::JournalFile(i + 1))?)?;
+        }
+    }
+    Ok(journals)
+}
+
+/// What a file holds; the fault is the one given, but where memory was refused.
+pub fn read_file<R: AllocGlobal + Files>(rt: &R, path: &str, fault: Fault) -> Result<Vec<u8>, Fault>
+    ensures { IfErr result (λ named. (named ≡ fault) ⊎ (named ≡ Fault.Memory)) }
+{
+    match fs::read(rt, path) {
+        Ok(bytes) => Ok(bytes),
+        Err(error) if error.kind() == ErrorKind::OutOfMemory => Err(Fault::Memory),
+        Err(_) => Err(fault),
+    }
+}

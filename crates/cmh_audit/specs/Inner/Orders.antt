@@ -1,0 +1,18 @@
+-- The order in which a merge took entries.
+use Rattle.std.specs.Prelude.{◌≡◌, ℕ, List, map, slice_index_or, Some}
+use Rattle.cmh_frames.specs.Topology.{Topology}
+use Rattle.cmh_model.specs.declared.journal.WorldEvent.{WorldEvent}
+use Rattle.cmh_model.specs.Runs.{ComesFrom, IsRun}
+use Rattle.cmh_journal.specs.Journal.{Journal}
+use Rattle.cmh_audit.specs.Runs.{AreInTurn, event_at, steps_of}
+use Rattle.cmh_audit.specs.Inner.Merging.{taken_of}
+use Rattle.cmh_audit.specs.declared.step.Step.{Step}
+
+-- Taken in this order, the entries that were taken of each journal are a run.
+pub record IsOrder (t : Topology) (journals : List Journal) (counts : List ℕ) (steps : List Step) : Type 0 where
+  pub events : List WorldEvent
+  pub are : map (event_at journals) steps ≡ map Some events
+  pub in_turn : AreInTurn steps
+  pub run : IsRun t events
+  pub come : ComesFrom (taken_of journals counts) events
+  pub counted : (k : ℕ) → steps_of k steps ≡ slice_index_or counts k 0

@@ -1,0 +1,10 @@
+use Rattle.cmh_files.proofs.TextLemmas.{appends-kept}
+use Rattle.cmh_picture.proofs.drawing.draw_into.Goals as goal
+
+pub returns-clause-wrote : goal.returns-clause-wrote
+returns-clause-wrote g c =
+    record {
+      picture = c.in_ok-picture.picture;
+      draws = c.in_ok-picture.ensures.draws;
+      wrote = appends-kept _ _ _ _ c.in_ok-write_text.ensures.bytes c.flush.ensures.bytes;
+    }

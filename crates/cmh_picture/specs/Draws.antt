@@ -1,0 +1,44 @@
+-- The command `draw`: from the bytes of its files to the text of their picture.
+use Rattle.std.specs.Prelude.{◌≡◌, ℕ, Bool, true, ◌⊎◌, List, Option}
+use Rattle.std.specs.Io.KnownBytes.{Appends}
+use Rattle.cmh_frames.specs.declared.edition.Edition.{Edition}
+use Rattle.cmh_frames.specs.Topology.{Topology}
+use Rattle.cmh_journal.specs.Journal.{Journal}
+use Rattle.cmh_audit.specs.declared.verdict.Verdict.{Verdict}
+use Rattle.cmh_draw.specs.Marks.{IsRunPicture, IsWaitsPicture}
+use Rattle.cmh_draw.specs.declared.picture.Kind.{Kind}
+use Rattle.cmh_draw.specs.declared.picture.Kind.TheVariants.{Waits, Run}
+use Rattle.cmh_draw.specs.declared.picture.Picture.{Picture}
+use Rattle.cmh_files.specs.Audits.{Audits, IsCause}
+use Rattle.cmh_files.specs.Faults.{NamesFault}
+use Rattle.cmh_picture.specs.PictureTexts.{picture_text}
+use Rattle.cmh_picture.specs.declared.format.Format.{Format}
+
+-- the picture of this kind of journals on which this is the verdict: each site, wait, process, frame and entry is
+-- marked in it once, and nothing else
+abbrev pub IsPictureOf : Kind → Topology → List Journal → Verdict → Picture → Type 0
+IsPictureOf Waits t journals verdict picture = IsWaitsPicture t verdict picture
+IsPictureOf Run t journals verdict picture = IsRunPicture t journals verdict picture
+
+-- the picture is that of what an audit of the files reads, and of its verdict
+pub record DrawsFiles (topology : List ℕ) (files : List (List ℕ)) (kind : Kind) (picture : Picture) : Type 0 where
+  pub edition : Edition
+  pub cuts : List (ℕ × ℕ)
+  pub verdict : Verdict
+  pub audits : Audits topology files edition cuts verdict
+  pub is_picture : IsPictureOf kind audits.world audits.journals verdict picture
+
+-- what was written is the text of the picture of the files
+pub record WroteDrawing (topology : List ℕ) (files : List (List ℕ)) (kind : Kind) (format : Format)
+    (old new : Option (List ℕ)) : Type 0 where
+  pub picture : Picture
+  pub draws : DrawsFiles topology files kind picture
+  pub wrote : Appends old new (picture_text format picture)
+
+-- a picture was written and flushed, and nothing else, or it is named why it couldn't be: the faults are those of an
+-- audit
+abbrev pub DrawEnds : List ℕ → List (List ℕ) → Kind → Format → Option (List ℕ) → Option (List ℕ) → Bool → Bool
+    → Option (List ℕ) → Option (List ℕ) → Bool → ℕ → Type 0
+DrawEnds topology files kind format old new has_failed is_flushed err_old err_new err_failed status =
+    (WroteDrawing topology files kind format old new × (status ≡ 0) × (is_flushed ≡ true) × (err_new ≡ err_old))
+    ⊎ NamesFault (IsCause topology files old new has_failed) status err_old err_new err_failed

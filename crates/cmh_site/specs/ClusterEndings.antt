@@ -1,0 +1,193 @@
+-- How a cluster ends: what it wrote, or why it did not get so far.
+use Rattle.std.specs.Prelude.{◌≡◌, ℕ, Bool, true, ◌⊎◌, List, [], ◌∷◌, ◌++◌, length, map, codes, Option, Result, Ok, Err, ⊤}
+use Rattle.std.specs.Io.KnownBytes.{Appends}
+use Rattle.cmh_frames.specs.Topology.{Topology, sites_of}
+use Rattle.cmh_script.specs.Device.{Tells}
+use Rattle.cmh_files.specs.AuditTexts.{texts_of}
+use Rattle.cmh_files.specs.Audits.{AuditEnds, IsOfNoTopology}
+use Rattle.cmh_files.specs.Faults.{NamesFault}
+use Rattle.cmh_files.specs.TopologyFile.{IsFaultOfFileWithPorts}
+use Rattle.cmh_files.specs.declared.faults.Fault.{Fault}
+use Rattle.cmh_files.specs.declared.faults.Fault.TheVariants.{ScriptFile, OutFile, Json, Topology as NoTopology, Listen, Input, Output, Memory}
+use Rattle.cmh_files.specs.declared.topology_file.TopologyFileFault.TheVariants.{Json as NoJson}
+use Rattle.cmh_running.specs.Dialogue.{IsAll, EndsBy, IsPart}
+use Rattle.cmh_running.specs.declared.dialogue.Flow.{Flow}
+use Rattle.cmh_running.specs.declared.dialogue.Flow.TheVariants.{Awaits, Ends}
+use Rattle.cmh_site.specs.Endings.{IsWorldOf}
+use Rattle.cmh_site.specs.SiteReplies.{closed_text}
+use Rattle.cmh_site.specs.SiteTalk.{IsTurnOfCluster}
+use Rattle.cmh_site.specs.declared.cluster.Played.{Played}
+use Rattle.cmh_site.specs.declared.cluster.Played.TheVariants.{Read, NotSettled}
+use Rattle.cmh_site.specs.declared.site_reply.ClosedLink.{ClosedLink}
+
+-- ---- what was written
+
+-- a line was answered by this text
+abbrev pub IsTurn : Topology → Unit {0} → Unit {0} → Option (List ℕ) → List ℕ → Flow → Type 0
+IsTurn t was is line text flow = IsTurnOfCluster t line text
+
+-- the text answers the lines of the script: all of them where the next is awaited, else those up to one behind which frames
+-- did not come; at a fault some of them
+abbrev pub IsTextOfScript : Topology → List ℕ → List ℕ → Result Flow Fault → Type 0
+IsTextOfScript t script text (Ok Awaits) = IsAll (Unit {0}) (IsTurn t) tt script text
+IsTextOfScript t script text (Ok Ends) = EndsBy (Unit {0}) (IsTurn t) tt script text
+IsTextOfScript t script text (Err fault) = IsPart (Unit {0}) (IsTurn t) tt script text
+
+-- the text was written; at a fault, unless the writer failed
+abbrev pub WroteScript : Result Flow Fault → Option (List ℕ) → Option (List ℕ) → Bool → List ℕ → Type 0
+WroteScript (Ok flow) old new has_failed text = Appends old new text
+WroteScript (Err fault) old new has_failed text = Tells old new has_failed text
+
+-- lines of the script were answered, up to a fault if there is one
+pub record Replied (t : Topology) (script : List ℕ) (old new : Option (List ℕ)) (has_failed : Bool)
+    (result : Result Flow Fault) : Type 0 where
+  pub text : List ℕ
+  pub is : IsTextOfScript t script text result
+  pub wrote : WroteScript result old new has_failed text
+
+-- some first lines of the script were answered, or none
+pub record Begun (t : Topology) (script : List ℕ) (old new : Option (List ℕ)) (has_failed : Bool) : Type 0 where
+  pub text : List ℕ
+  pub is : IsPart (Unit {0}) (IsTurn t) tt script text
+  pub wrote : Tells old new has_failed text
+
+abbrev pub closed_line : ClosedLink → List ℕ
+closed_line link = closed_text link ++ 10 ∷ []
+
+-- links were named that had closed
+pub record NamesClosed (old new : Option (List ℕ)) : Type 0 where
+  pub links : List ClosedLink
+  pub wrote : Appends old new (texts_of closed_line links)
+
+-- all lines of the script were answered, and then links were named that had closed
+pub record Answered (t : Topology) (script : List ℕ) (old new : Option (List ℕ)) : Type 0 where
+  pub text : List ℕ
+  pub links : List ClosedLink
+  pub is : IsTextOfScript t script text (Ok Awaits)
+  pub wrote : Appends old new (text ++ texts_of closed_line links)
+
+-- the lines of the script were answered up to one behind which frames did not come
+pub record AnsweredUpToOne (t : Topology) (script : List ℕ) (old new : Option (List ℕ)) : Type 0 where
+  pub text : List ℕ
+  pub is : IsTextOfScript t script text (Ok Ends)
+  pub wrote : Appends old new text
+
+-- the lines of the script were answered, all of them or up to one, and nothing else was written but names of links
+abbrev pub HasPlayed : Topology → List ℕ → Option (List ℕ) → Option (List ℕ) → Flow → Type 0
+HasPlayed t script old new Awaits = Answered t script old new
+HasPlayed t script old new Ends = AnsweredUpToOne t script old new
+
+-- ---- why all sites end early
+
+-- why the sites of a topology are not started
+abbrev pub IsStartFault : Fault → Type 0
+IsStartFault OutFile = ⊤
+IsStartFault Listen = ⊤
+IsStartFault Memory = ⊤
+IsStartFault fault = ⊥
+
+-- a script that is too long to be counted is said to be a file that can't be read
+abbrev pub of_script : Fault → Fault
+of_script Input = ScriptFile
+of_script fault = fault
+
+-- why they are not started, or end before their script's end, and what was written then
+abbrev pub IsRunFault : Topology → List ℕ → Option (List ℕ) → Option (List ℕ) → Bool → Fault → Type 0
+IsRunFault t script old new write_failed OutFile = new ≡ old
+IsRunFault t script old new write_failed Listen = new ≡ old
+IsRunFault t script old new write_failed ScriptFile = Begun t script old new write_failed
+IsRunFault t script old new write_failed Memory = Begun t script old new write_failed
+IsRunFault t script old new write_failed Output = write_failed ≡ true
+IsRunFault t script old new write_failed fault = ⊥
+
+-- why there is no world; of want of memory nothing is said
+abbrev pub IsWorldFault : List ℕ → Fault → Type 0
+IsWorldFault topology Json = IsFaultOfFileWithPorts topology NoJson
+IsWorldFault topology (NoTopology fault) = IsOfNoTopology topology fault
+IsWorldFault topology Memory = ⊤
+IsWorldFault topology fault = ⊥
+
+-- the topology file is that of a topology, and nothing was written
+pub record FailsToStart (topology : List ℕ) (old new : Option (List ℕ)) : Type 0 where
+  pub world : Topology
+  pub world_is : IsWorldOf topology world
+  pub silent : new ≡ old
+
+-- the topology file is that of a topology, and some first lines of the script were answered, or none
+pub record FailsOnTheWay (topology script : List ℕ) (old new : Option (List ℕ)) (has_failed : Bool) : Type 0 where
+  pub world : Topology
+  pub world_is : IsWorldOf topology world
+  pub begun : Begun world script old new has_failed
+
+-- the topology file is that of a topology, and all lines of the script were answered
+pub record FailsAtTheEnd (topology script : List ℕ) (old new : Option (List ℕ)) : Type 0 where
+  pub world : Topology
+  pub world_is : IsWorldOf topology world
+  pub answered : Answered world script old new
+
+-- Why a cluster ends without an audit, and what was written then. What a disk or a port refuses comes only where the file
+-- is that of a topology: a journal's file is refused before all lines, or behind them, when it is read back.
+abbrev pub IsClusterFault : List ℕ → List ℕ → Option (List ℕ) → Option (List ℕ) → Bool → Fault → Type 0
+IsClusterFault topology script old new write_failed Json = IsWorldFault topology Json × (new ≡ old)
+IsClusterFault topology script old new write_failed (NoTopology fault) = IsWorldFault topology (NoTopology fault) × (new ≡ old)
+IsClusterFault topology script old new write_failed Listen = FailsToStart topology old new
+IsClusterFault topology script old new write_failed OutFile = FailsToStart topology old new ⊎ FailsAtTheEnd topology script old new
+IsClusterFault topology script old new write_failed ScriptFile = FailsOnTheWay topology script old new write_failed
+IsClusterFault topology script old new write_failed Memory =
+    (new ≡ old) ⊎ FailsOnTheWay topology script old new write_failed ⊎ FailsAtTheEnd topology script old new
+IsClusterFault topology script old new write_failed Output = write_failed ≡ true
+IsClusterFault topology script old new write_failed fault = ⊥
+
+-- ---- how a cluster ends
+
+-- all lines of the script were answered, and a file for each site was read back
+pub record ReadsBack (topology script : List ℕ) (old new : Option (List ℕ)) (files : List (List ℕ)) : Type 0 where
+  pub world : Topology
+  pub world_is : IsWorldOf topology world
+  pub answered : Answered world script old new
+  pub one_each : length files ≡ length (sites_of world)
+
+-- the lines of the script were answered up to one behind which frames did not come, and that was said
+pub record SaysNotSettled (topology script : List ℕ) (old new : Option (List ℕ)) : Type 0 where
+  pub world : Topology
+  pub before : Option (List ℕ)
+  pub world_is : IsWorldOf topology world
+  pub answered : AnsweredUpToOne world script old before
+  pub said : Appends before new (codes "not settled\n")
+
+-- what the play of a script comes to
+abbrev pub ComesTo : List ℕ → List ℕ → Option (List ℕ) → Option (List ℕ) → Bool → Played → Type 0
+ComesTo topology script old new is_flushed (Read files) = ReadsBack topology script old new (map (λ file. file.items) files.items)
+ComesTo topology script old new is_flushed NotSettled = SaysNotSettled topology script old new × (is_flushed ≡ true)
+
+-- The sites settled behind each line, and the files that were read back were audited: the audit stands behind the answers,
+-- and its status is that of the command.
+pub record EndsInAudit (topology script : List ℕ) (old new : Option (List ℕ)) (has_failed is_flushed : Bool)
+    (err_old err_new : Option (List ℕ)) (err_failed : Bool) (status : ℕ) : Type 0 where
+  pub files : List (List ℕ)
+  pub before : Option (List ℕ)
+  pub reads : ReadsBack topology script old before files
+  pub ends : AuditEnds topology files before new has_failed is_flushed err_old err_new err_failed status
+
+-- they did not settle, which was flushed, and the status is 1
+pub record EndsUnsettled (topology script : List ℕ) (old new : Option (List ℕ)) (is_flushed : Bool)
+    (err_old err_new : Option (List ℕ)) (status : ℕ) : Type 0 where
+  pub says : SaysNotSettled topology script old new
+  pub flushed : is_flushed ≡ true
+  pub silent : err_new ≡ err_old
+  pub status_is : status ≡ 1
+
+-- a cluster ended in an audit, or did not settle, or named a fault that has its cause
+abbrev pub ClusterEnds : List ℕ → List ℕ → Option (List ℕ) → Option (List ℕ) → Bool → Bool → Option (List ℕ)
+    → Option (List ℕ) → Bool → ℕ → Type 0
+ClusterEnds topology script old new has_failed is_flushed err_old err_new err_failed status =
+    EndsInAudit topology script old new has_failed is_flushed err_old err_new err_failed status
+    ⊎ EndsUnsettled topology script old new is_flushed err_old err_new status
+    ⊎ NamesFault (IsClusterFault topology script old new has_failed) status err_old err_new err_failed
+
+-- some files were audited, behind what was written before: its text, or why there is none
+pub record AuditsSome (topology : List ℕ) (new : Option (List ℕ)) (has_failed is_flushed : Bool)
+    (err_old err_new : Option (List ℕ)) (err_failed : Bool) (status : ℕ) : Type 0 where
+  pub files : List (List ℕ)
+  pub before : Option (List ℕ)
+  pub ends : AuditEnds topology files before new has_failed is_flushed err_old err_new err_failed status
