@@ -94,9 +94,9 @@ fn audit_command<'a>(alloc: Global, help: &'a Help) -> Result<Command<'a>, Error
 }
 
 fn draw_command<'a>(alloc: Global, help: &'a Help) -> Result<Command<'a>, Error> {
-    let kind = word_arg(alloc, KIND, KINDS)
-        .default_value("waits")
-        .help("Who waits for whom at the end, or the run with its frames");
+    let kind = word_arg(alloc, KIND, KINDS).default_value("waits").help(
+        "Who waits for whom at the end, or the run with its frames",
+    );
     let format = word_arg(alloc, FORMAT, FORMATS)
         .default_value("svg")
         .help("A picture that a browser opens, or text for Graphviz");

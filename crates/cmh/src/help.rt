@@ -265,7 +265,10 @@ fn audit(alloc: Global) -> Result<String, AllocError> {
     for fault in SET_FAULTS {
         row(&mut text, fault.number(), fault)?;
     }
-    write!(text, "\n{AUDIT_RUN}\n{AUDIT_REASONS}\nRefusals, as in `refused 3`:\n")?;
+    write!(
+        text,
+        "\n{AUDIT_RUN}\n{AUDIT_REASONS}\nRefusals, as in `refused 3`:\n"
+    )?;
     for refusal in REFUSALS {
         row(&mut text, refusal.number(), refusal)?;
     }

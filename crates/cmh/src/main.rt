@@ -30,7 +30,8 @@ use clap::{ArgMatches, Error, error};
 use cmh_files::{run_audit_run, run_audit_why};
 use cmh_frames::SiteId;
 use cmh_site::{
-    Ahead, Device, Fault, Folder, run_audit, run_cluster, run_play, run_play_keeping, run_show, run_site,
+    Ahead, Device, Fault, Folder, run_audit, run_cluster, run_play, run_play_keeping, run_show,
+    run_site,
 };
 use std::fs::File;
 use std::io::{BufReader, BufWriter, ErrorKind, Read, Write};

@@ -225,25 +225,34 @@ fn the_first_fault_of_a_set_is_answered(rt: HostRuntime) -> Result<(), Fail> {
     Ok(())
 }
 
+/// Site 2 got the requests of `ASK_BOTH`, in their order.
+const GOT_BOTH: [u8; 20] = [0, 8, 4, 0, 1, 1, 0, 1, 0, 2, 0, 8, 4, 0, 1, 1, 0, 1, 0, 3];
+
 #[test]
 fn a_run_is_told_by_places(rt: HostRuntime) -> Result<(), Fail> {
-    let in_order: [u8; 20] = [0, 8, 4, 0, 1, 1, 0, 1, 0, 2, 0, 8, 4, 0, 1, 1, 0, 1, 0, 3];
+    let text = run_text(
+        rt.alloc(),
+        &TWO_AND_THREE,
+        &[(1, &ASK_BOTH), (2, &GOT_BOTH)],
+    )?;
+    assert_eq!(rt; text.as_str(), "0 at 0, 1 at 0, 1 at 1, whole");
+    let text = run_text(
+        rt.alloc(),
+        &TWO_AND_THREE,
+        &[(2, &GOT_BOTH), (1, &ASK_BOTH)],
+    )?;
+    assert_eq!(rt; text.as_str(), "1 at 0, 0 at 0, 0 at 1, whole");
+    Ok(())
+}
+
+#[test]
+fn no_run_is_told_where_there_is_none(rt: HostRuntime) -> Result<(), Fail> {
     let later_first: [u8; 20] = [0, 8, 4, 0, 1, 1, 0, 1, 0, 3, 0, 8, 4, 0, 1, 1, 0, 1, 0, 2];
-    let table: [(Files<'_>, &str); 4] = [
-        (
-            &[(1, &ASK_BOTH), (2, &in_order)],
-            "0 at 0, 1 at 0, 1 at 1, whole",
-        ),
-        (
-            &[(2, &in_order), (1, &ASK_BOTH)],
-            "1 at 0, 0 at 0, 0 at 1, whole",
-        ),
-        (&[(1, &[]), (2, &[])], "whole"),
-        (&[(1, &ASK_BOTH), (2, &later_first)], "no run"),
-    ];
-    for (files, want) in table {
-        let text = run_text(rt.alloc(), &TWO_AND_THREE, files)?;
-        assert_eq!(rt; text.as_str(), want);
-    }
+    let text = run_text(
+        rt.alloc(),
+        &TWO_AND_THREE,
+        &[(1, &ASK_BOTH), (2, &later_first)],
+    )?;
+    assert_eq!(rt; text.as_str(), "no run");
     Ok(())
 }

@@ -84,7 +84,10 @@ fn answers_are_flushed_one_by_one(rt: HostRuntime) {
     assert_eq!(rt; ended.status, 0);
     assert!(rt; ended.out.bytes.as_slice() == b"ok\naccepted\nevents 0\n".as_slice());
     assert_eq!(rt; ended.out.flushed, ended.out.bytes.len());
-    assert!(rt; ended.out.flushes >= 2, "once for each of two lines that are waited for");
+    assert!(rt;
+        ended.out.flushes >= 2,
+        "once for each of two lines that are waited for"
+    );
     assert!(rt; ended.fault.is_empty());
 }
 
@@ -94,7 +97,10 @@ fn answers_of_lines_that_are_at_hand_are_flushed_together(rt: HostRuntime) {
     assert_eq!(rt; ended.status, 0);
     assert!(rt; ended.out.bytes.as_slice() == b"ok\naccepted\nevents 0\n".as_slice());
     assert_eq!(rt; ended.out.flushed, ended.out.bytes.len());
-    assert!(rt; ended.out.flushes <= 2, "behind the last line, and at the end");
+    assert!(rt;
+        ended.out.flushes <= 2,
+        "behind the last line, and at the end"
+    );
 }
 
 #[test]
