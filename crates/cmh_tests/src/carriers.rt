@@ -80,6 +80,12 @@ impl<'a> Ahead for Reader<'a> {
     }
 }
 
+impl<'a, 'b> Ahead for &'b mut Reader<'a> {
+    fn ahead(&self) -> &[u8] {
+        &[]
+    }
+}
+
 /// A writer that takes at most so many bytes a call.
 #[derive(Drop)]
 pub struct Writer<'a> {

@@ -50,7 +50,7 @@ fn writer<R: AllocGlobal>(rt: &R, can_flush: bool) -> Held {
 
 const SCRIPT: &[u8] = b"site 1 1\nreport\n";
 
-fn play<R: AllocGlobal, I: Read + Ahead>(rt: &R, input: I, can_flush: bool) -> Ended {
+fn play<R: AllocGlobal, I: Read + Ahead + Drop>(rt: &R, input: I, can_flush: bool) -> Ended {
     let mut input = Device::new(input);
     let mut out = writer(rt, can_flush);
     let mut fault = Vec::new(rt.alloc());
