@@ -13,7 +13,7 @@ use crate::commands::{FORMAT, KIND};
 use crate::files::files_of;
 use clap::ArgMatches;
 use cmh_picture::{Format, Kind, run_draw};
-use cmh_site::Device;
+use cmh_site::Output;
 use std::io::Write;
 use std::rt::Files;
 
@@ -21,8 +21,8 @@ use std::rt::Files;
 pub fn draw<R: AllocGlobal + Files, W: Write, E: Write>(
     rt: &R,
     words: &ArgMatches<'_>,
-    out: &mut Device<W>,
-    err: &mut Device<E>,
+    out: &mut Output<W>,
+    err: &mut Output<E>,
 ) -> u8
     ensures status { IsStatus result }
     ensures draws { (kind : kinds.Kind) → (format : formats.Format)

@@ -30,11 +30,11 @@ use clap::{ArgMatches, Error, error};
 use cmh_files::{run_audit_run, run_audit_why};
 use cmh_frames::SiteId;
 use cmh_site::{
-    Ahead, Device, Fault, Folder, run_audit, run_cluster, run_play, run_play_keeping, run_show,
-    run_site,
+    Ahead, Fault, Folder, Input, Output, run_audit, run_cluster, run_play, run_play_keeping,
+    run_show, run_site,
 };
 use std::fs::File;
-use std::io::{BufReader, BufWriter, ErrorKind, Read, Write};
+use std::io::{BufRead, BufReader, BufWriter, ErrorKind, Write};
 use std::net::{Net, TcpListener, TcpStream};
 use std::process::ExitCode;
 use std::rt::{Env, Files};
@@ -51,11 +51,11 @@ fn words<R: Env + AllocGlobal>(rt: &R) -> io::Result<Vec<String>> {
 }
 
 /// Reads the command line and runs the command; answers the status.
-fn run<R, I: Read + Ahead, W: Write, E: Write>(
+fn run<R, I: BufRead + Ahead, W: Write, E: Write>(
     rt: &R,
-    input: &mut Device<I>,
-    out: &mut Device<W>,
-    err: &mut Device<E>,
+    input: &mut Input<I>,
+    out: &mut Output<W>,
+    err: &mut Output<E>,
 ) -> u8
 where
     R: Env
@@ -95,7 +95,7 @@ where
 }
 
 /// Prints the help or the version that was asked for, or why a command line isn't understood; answers the status.
-fn print_words<R: Print + Eprint, E: Write>(rt: &R, error: &Error, err: &mut Device<E>) -> u8
+fn print_words<R: Print + Eprint, E: Write>(rt: &R, error: &Error, err: &mut Output<E>) -> u8
     ensures { IsEnd result }
 {
     let printed = error.print(rt);
@@ -110,12 +110,12 @@ fn print_words<R: Print + Eprint, E: Write>(rt: &R, error: &Error, err: &mut Dev
 }
 
 /// Runs the command that the words name; `play` where they name none.
-fn carry_out<R, I: Read + Ahead, W: Write, E: Write>(
+fn carry_out<R, I: BufRead + Ahead, W: Write, E: Write>(
     rt: &R,
     matches: &ArgMatches<'_>,
-    input: &mut Device<I>,
-    out: &mut Device<W>,
-    err: &mut Device<E>,
+    input: &mut Input<I>,
+    out: &mut Output<W>,
+    err: &mut Output<E>,
 ) -> u8
 where
     R: AllocGlobal
@@ -208,8 +208,8 @@ where
 fn audit_files<R: AllocGlobal + Files, W: Write, E: Write>(
     rt: &R,
     words: &ArgMatches<'_>,
-    out: &mut Device<W>,
-    err: &mut Device<E>,
+    out: &mut Output<W>,
+    err: &mut Output<E>,
 ) -> u8
     ensures status { IsStatus result }
     ensures audits { IsUnset (one_text (found_of words.now) (codes "why"))
@@ -244,12 +244,12 @@ fn audit_files<R: AllocGlobal + Files, W: Write, E: Write>(
 }
 
 /// Plays a script, and keeps its journals in a folder.
-fn play_into<R: AllocGlobal + Files<File = File>, I: Read + Ahead, W: Write, E: Write>(
+fn play_into<R: AllocGlobal + Files<File = File>, I: BufRead + Ahead, W: Write, E: Write>(
     rt: &R,
     path: &str,
-    input: &mut Device<I>,
-    out: &mut Device<W>,
-    err: &mut Device<E>,
+    input: &mut Input<I>,
+    out: &mut Output<W>,
+    err: &mut Output<E>,
 ) -> u8
     ensures status { IsStatus result }
     ensures answers { IfSome (I.remaining input.old.inner) (λ bytes.
@@ -268,12 +268,12 @@ fn play_into<R: AllocGlobal + Files<File = File>, I: Read + Ahead, W: Write, E: 
 }
 
 /// Runs the site that the words name.
-fn serve_site<R, I: Read, W: Write, E: Write>(
+fn serve_site<R, I: BufRead, W: Write, E: Write>(
     rt: &R,
     words: &ArgMatches<'_>,
-    input: &mut Device<I>,
-    out: &mut Device<W>,
-    err: &mut Device<E>,
+    input: &mut Input<I>,
+    out: &mut Output<W>,
+    err: &mut Output<E>,
 ) -> u8
 where
     R: AllocGlobal
@@ -305,8 +305,8 @@ where
 fn serve_cluster<R, W: Write, E: Write>(
     rt: &R,
     words: &ArgMatches<'_>,
-    out: &mut Device<W>,
-    err: &mut Device<E>,
+    out: &mut Output<W>,
+    err: &mut Output<E>,
 ) -> u8
 where
     R: AllocGlobal
@@ -336,14 +336,14 @@ where
 }
 
 fn main(rt: HostRuntime) -> ExitCode {
-    let mut err = Device::new(rt.stderr());
+    let mut err = Output::new(rt.stderr());
     let Ok(input) = BufReader::new(rt.alloc(), rt.stdin()) else {
         return ExitCode::from(Fault::Memory.name_on(&mut err));
     };
     let Ok(out) = BufWriter::new(rt.alloc(), rt.stdout()) else {
         return ExitCode::from(Fault::Memory.name_on(&mut err));
     };
-    let mut input = Device::new(input);
-    let mut out = Device::new(out);
+    let mut input = Input::new(input);
+    let mut out = Output::new(out);
     ExitCode::from(run(&rt, &mut input, &mut out, &mut err))
 }

@@ -6,7 +6,7 @@ use Rattle.cmh_frames.specs.Topology.{Topology, sites_of}
 use Rattle.cmh_model.specs.Journals.{sendings_of, receipts_of}
 use Rattle.cmh_journal.specs.Journal.{Journal}
 use Rattle.cmh_audit.specs.Journals.{journal_of}
-use Rattle.cmh_audit.specs.Inner.Links.{Links, waiting}
+use Rattle.cmh_world.specs.Links.{Links, waiting}
 use Rattle.cmh_audit.specs.Inner.Merging.{taken_of, IsStuck, AreLeft, AreAllLeft}
 use Rattle.cmh_audit.specs.Set.{IsSet}
 use Rattle.cmh_audit.specs.Stops.{before_stop}

@@ -1,13 +1,14 @@
 -- Journals read by a count for each.
 use Rattle.std.proofs.Common.{◌≡◌, ◌≢◌, ℕ, zero, suc, ◌+◌, ◌<◌, ◌≤◌, ◌==◌, Bool, true, false, List, [], ◌∷◌, ◌++◌, length, take, drop, set, replicate, get_or, ◌⊎◌, inl, inr, ⊎_elim, sym, ap, subst, refl, ◌∙◌, if◌then◌else◌, arith, take-append-drop}
 use Rattle.std.proofs.lemmas.Bool.{cases_eq, eq-eqb, ne_eqb}
-use Rattle.std.proofs.lemmas.List.{take_more}
+use Rattle.std.proofs.lemmas.List.{take_all, take_more}
 use Rattle.cmh_frames.specs.Topology.{Topology}
 use Rattle.cmh_model.specs.declared.journal.Entry.{Entry}
+use Rattle.cmh_model.specs.Journals.{IsLawful}
 use Rattle.cmh_model.specs.Runs.{IsBeginningOf}
 use Rattle.cmh_journal.specs.Journal.{Journal}
-use Rattle.cmh_audit.specs.Journals.{journal_of, NoneAt, OneEach, entry_count}
-use Rattle.cmh_audit.specs.Inner.Merging.{taken_of, IsLawfulLength, AreLawfulLengths, total}
+use Rattle.cmh_audit.specs.Journals.{journal_of, AreAllLawful, NoneAt, OneEach, entry_count}
+use Rattle.cmh_audit.specs.Inner.Merging.{taken_of, entry_counts, IsLawfulLength, AreLawfulLengths, total}
 
 pub none_at : (site : ℕ) (js : List Journal) (k : ℕ) (j : Journal) → NoneAt site js → k < length js → j ≡ get_or js k j → site ≢ j.site
 none_at site [] k j none l here e = absurd (omega arith)
@@ -118,5 +119,17 @@ lengths_push t (x ∷ js) (m ∷ limits) j n are is = (are.0, lengths_push t js 
 pub lengths_more : (t : Topology) (js : List Journal) (limits : List ℕ) (i : ℕ) (j : Journal) (n : ℕ) → i < length js → j ≡ get_or js i j → AreLawfulLengths t (take i js) limits → IsLawfulLength t j.site j.entries n → AreLawfulLengths t (take (i + 1) js) (limits ++ n ∷ [])
 lengths_more t js limits i j n l here are is =
     subst (λ xs. AreLawfulLengths t xs (limits ++ n ∷ [])) (sym (take_more js i j l ∙ ap (λ x. take i js ++ x ∷ []) (sym here))) (lengths_push t (take i js) limits j n are is)
+
+-- of lawful journals each is lawful as far as it goes
+pub lawful_counts : (t : Topology) (js : List Journal) → AreAllLawful t js → AreLawfulLengths t js (entry_counts js)
+lawful_counts t [] lawful = tt
+lawful_counts t (j ∷ js) lawful = (
+  record {
+    within = omega arith;
+    lawful = subst (IsLawful t j.site) (sym (take_all (length j.entries) j.entries (omega arith))) (lawful 0 j (omega arith));
+    stops = λ more later. omega (arith, more);
+  },
+  lawful_counts t js (λ k d l. lawful (suc k) d (omega (arith, l))),
+)
 
 -- ---- a replay tells the lawful length

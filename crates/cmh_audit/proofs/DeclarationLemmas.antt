@@ -19,7 +19,7 @@ use Rattle.cmh_journal.specs.Journal.{Journal}
 use Rattle.cmh_audit.specs.Journals.{journal_of, OneEach}
 use Rattle.cmh_audit.specs.Inner.AllSums.{in_journals, in_run}
 use Rattle.cmh_audit.specs.Inner.Declarations.{declares, is_positive, Adds}
-use Rattle.cmh_audit.proofs.LinkLemmas.{is_eq-nat_cmp}
+use Rattle.cmh_audit.proofs.PairLemmas.{is_eq-nat_cmp}
 use Rattle.cmh_audit.proofs.Sums.{in_run-in_journals}
 
 positive-plus : (m n : ℕ) → is_positive (m + n) ≡ (is_positive m || is_positive n)

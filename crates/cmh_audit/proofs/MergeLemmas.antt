@@ -1,7 +1,5 @@
 -- The merge takes entries one at a time, and stops where none can be taken.
 use Rattle.std.proofs.Common.{◌≡◌, ℕ, ◌+◌, ◌<◌, ◌≤◌, ◌==◌, Bool, true, false, List, [], ◌∷◌, ◌++◌, length, take, drop, set, replicate, get_or, ⊎_elim, sym, ap, subst, refl, ◌∙◌, append_assoc, append-nil, if◌then◌else◌, arith, length-take-le, length-set, take-take, take_at, take-append-drop}
-use Rattle.std.specs.Map.{lookup}
-use Rattle.std.specs.BTreeMap.{is_at}
 use Rattle.std.proofs.lemmas.Bool.{cases_eq, eq-eqb, ne_eqb}
 use Rattle.std.proofs.lemmas.List.{take_more, length_push, append_cancel_left, get_or-set_same, get_or-set_other, length-replicate, get_or-replicate}
 use Rattle.cmh_frames.specs.declared.frame.Frame.{Frame}
@@ -13,7 +11,7 @@ use Rattle.cmh_model.specs.Runs.{IsBeginningOf, IsRun, ComeFromRun, entries_of}
 use Rattle.cmh_model.proofs.Journals.{sendings_of-append, receipts_of-append}
 use Rattle.cmh_journal.specs.Journal.{Journal}
 use Rattle.cmh_audit.specs.Journals.{journal_of, OneEach}
-use Rattle.cmh_audit.specs.Inner.Links.{Links, waiting, frames_in, link_cmp}
+use Rattle.cmh_world.specs.Links.{Links, waiting}
 use Rattle.cmh_audit.specs.Inner.Merging.{taken_of, CanGrow, IsNextFrame, MovesFrames, AreLawfulLengths, IsStuck, AreLeft}
 use Rattle.cmh_model.proofs.Beginnings.{length-beginning, push_eq}
 use Rattle.cmh_model.proofs.LongerRuns.{run_first}
@@ -31,15 +29,12 @@ pub record Merging (t : Topology) (js : List Journal) (limits counts : List ℕ)
 abbrev pub StuckAt : Topology → List Journal → List ℕ → ℕ → Type 0
 StuckAt t js counts site = (e : Entry) → IsBeginningOf (taken_of js counts site ++ e ∷ []) (journal_of js site) → CanGrow t site (taken_of js counts) e → ⊥
 
-nothing_waiting : (links : Links) → links.entries ≡ [] → (a b : ℕ) → waiting links a b ≡ []
-nothing_waiting links h a b = ap (λ es. frames_in (lookup (is_at (link_cmp (record { from = a; to = b }))) es)) h
-
-pub merging_start : (t : Topology) (js : List Journal) (limits : List ℕ) (links : Links) → links.entries ≡ [] → Merging t js limits (replicate (length js) 0) links
+pub merging_start : (t : Topology) (js : List Journal) (limits : List ℕ) (links : Links) → ((a b : ℕ) → waiting links a b ≡ []) → Merging t js limits (replicate (length js) 0) links
 merging_start t js limits links empty = record {
   each = length-replicate (length js) 0;
   below = λ k l. subst (λ n. n ≤ get_or limits k 0) (sym (get_or-replicate (length js) k 0 0 l)) (omega arith);
   comes = ([], run_first t, λ site. sym (taken_none js (length js) site));
-  frames = λ a b. ap (λ es. receipts_of a es ++ waiting links a b) (taken_none js (length js) b) ∙ nothing_waiting links empty a b ∙ sym (ap (sendings_of b) (taken_none js (length js) a));
+  frames = λ a b. ap (λ es. receipts_of a es ++ waiting links a b) (taken_none js (length js) b) ∙ empty a b ∙ sym (ap (sendings_of b) (taken_none js (length js) a));
 }
 
 take_beginning : (m n : ℕ) (xs : List Entry) → m ≤ n → IsBeginningOf (take m xs) (take n xs)

@@ -11,7 +11,7 @@ use Rattle.cmh_model.specs.declared.journal.Entry.{Entry}
 use Rattle.cmh_model.specs.Journals.{frames_to, frame_from}
 use Rattle.cmh_model.specs.Runs.{IsBeginningOf}
 use Rattle.cmh_model.proofs.Sent.{to-append}
-use Rattle.cmh_audit.specs.Inner.Links.{Links, waiting, only_at, if_some_at}
+use Rattle.cmh_world.specs.Links.{Links, waiting, only_at, if_some_at}
 use Rattle.cmh_audit.specs.Inner.Merging.{IsNextFrame, SendsFrames, MovesFrames}
 use Rattle.cmh_audit.proofs.FrameLemmas.{frame_same, frame_eq_self}
 

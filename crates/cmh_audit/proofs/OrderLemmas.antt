@@ -1,5 +1,6 @@
 -- The order in which a merge takes entries is that of a run.
-use Rattle.std.proofs.Common.{◌≡◌, ℕ, zero, suc, ◌+◌, ◌<◌, ◌==◌, Bool, List, Option, [], ◌∷◌, ◌++◌, length, map, set, replicate, get_or, slice_get, option_map, option_and_then, Some, ⊎_elim, sym, ap, subst, subst₂, refl, ◌∙◌, arith}
+use Rattle.std.proofs.Common.{◌≡◌, ℕ, zero, suc, ◌+◌, ◌<◌, ◌==◌, Bool, true, false, if◌then◌else◌, List, Option, [], ◌∷◌, ◌++◌, length, map, set, replicate, get_or, slice_get, option_map, option_and_then, Some, ⊎_elim, sym, ap, subst, subst₂, refl, ◌∙◌, arith}
+use Rattle.std.specs.Prelude.{MatchBool}
 use Rattle.std.proofs.lemmas.Bool.{cases_eq, eq-eqb, ne_eqb}
 use Rattle.std.proofs.lemmas.List.{get_or-set_same, get_or-set_other, get_or_read, map-append}
 use Rattle.std.proofs.lemmas.Option.{slice_get_read}
@@ -13,7 +14,7 @@ use Rattle.cmh_model.proofs.LongerRuns.{run_first}
 use Rattle.cmh_journal.specs.Journal.{Journal}
 use Rattle.cmh_audit.specs.declared.step.Step.{Step}
 use Rattle.cmh_audit.specs.Journals.{journal_of, OneEach}
-use Rattle.cmh_audit.specs.Inner.Links.{Links}
+use Rattle.cmh_world.specs.Links.{Links}
 use Rattle.cmh_audit.specs.Inner.Merging.{taken_of, IsNextFrame, MovesFrames, AreLawfulLengths}
 use Rattle.cmh_audit.specs.Inner.Orders.{IsOrder}
 use Rattle.cmh_audit.specs.Runs.{event_at, steps_of, AreInTurn, IsRunOf}
@@ -132,6 +133,20 @@ order_took t js limits counts old new lacks first ready tries i at limit site j 
     subst Q (sym same)
     (order_more t js limits counts old new one are s.merging i j inside here e fits (subst₂ P same entries is)
     (subst (λ q. IsNextFrame old q e.event) site_is next) (subst (λ q. MovesFrames old new q e) site_is moves) steps o)
+
+-- ---- where the order is to be kept
+
+abbrev pub IsKept : Bool → Topology → List Journal → List ℕ → List Step → Type 0
+IsKept keeps t js counts steps = MatchBool keeps (IsOrder t js counts steps) (steps ≡ [])
+
+pub kept_start : (keeps : Bool) (t : Topology) (js : List Journal) → IsKept keeps t js (replicate (length js) 0) []
+kept_start true t js = order_start t js
+kept_start false t js = refl
+
+pub kept_took : (keeps : Bool) (t : Topology) (js : List Journal) (counts longer : List ℕ) (steps next : List Step) (s : Step) → next ≡ (if keeps then steps ++ s ∷ [] else steps)
+    → (IsOrder t js counts steps → IsOrder t js longer (steps ++ s ∷ [])) → IsKept keeps t js counts steps → IsKept keeps t js longer next
+kept_took true t js counts longer steps next s is took kept = subst (IsOrder t js longer) (sym is) (took kept)
+kept_took false t js counts longer steps next s is took kept = is ∙ kept
 
 -- ---- all was taken
 

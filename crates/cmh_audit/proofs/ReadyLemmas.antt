@@ -14,7 +14,7 @@ use Rattle.cmh_model.specs.Journals.{frames_to, frame_from}
 use Rattle.cmh_model.specs.Runs.{IsBeginningOf}
 use Rattle.cmh_journal.specs.Journal.{Journal}
 use Rattle.cmh_audit.specs.Journals.{NoneAt, OneEach, entry_count}
-use Rattle.cmh_audit.specs.Inner.Links.{Links, waiting}
+use Rattle.cmh_world.specs.Links.{Links, waiting}
 use Rattle.cmh_audit.specs.Inner.Merging.{AreLawfulLengths, IsStuck, IsNextFrame, MovesFrames, total, AreTried}
 use Rattle.cmh_audit.specs.Inner.Ready.{Wakes, ArePlaces, parked_count}
 use Rattle.cmh_audit.proofs.CountLemmas.{total-set, total-none, total-le, none_at, limit_here, length-limits}
@@ -282,7 +282,7 @@ places_more all next n a e = subst (λ l. ArePlaces l (n + 1)) (sym e) (record {
   inside = λ k c. ⊎_elim (λ d. let l = a.inside k d in omega (arith, l)) (λ (q : k ≡ n). omega (arith, q)) (contains_push all n k c);
 })
 
-pub listed_start : (t : Topology) (js : List Journal) (limits : List ℕ) (links : Links) (lacks : List (Option ℕ)) (ready : List ℕ) → links.entries ≡ [] → lacks ≡ replicate (length js) None → ArePlaces ready (length js) → Listed t js limits (replicate (length js) 0) links lacks ready 0
+pub listed_start : (t : Topology) (js : List Journal) (limits : List ℕ) (links : Links) (lacks : List (Option ℕ)) (ready : List ℕ) → ((a b : ℕ) → waiting links a b ≡ []) → lacks ≡ replicate (length js) None → ArePlaces ready (length js) → Listed t js limits (replicate (length js) 0) links lacks ready 0
 listed_start t js limits links lacks ready empty none a = record {
   merging = merging_start t js limits links empty;
   long = ap length none ∙ length-replicate (length js) None;
@@ -361,6 +361,9 @@ work_step t js limits counts links lacks first ready next_ready after new tries 
 
 pub read_limit : (t : Topology) (js : List Journal) (limits : List ℕ) (i limit : ℕ) → AreLawfulLengths t js limits → i < length js → limit ≡ get_or limits i limit → limit ≡ get_or limits i 0
 read_limit t js limits i limit are inside read = get_or_read limits i limit (subst (λ n. i < n) (sym (length-limits t js limits are)) inside) read 0
+
+pub limit_read : (t : Topology) (js : List Journal) (limits : List ℕ) (i : ℕ) → AreLawfulLengths t js limits → i < length js → get_or limits i 0 ≡ get_or limits i (get_or limits i 0)
+limit_read t js limits i are inside = get_or_default limits i 0 (get_or limits i 0) (subst (λ n. i < n) (sym (length-limits t js limits are)) inside)
 
 -- no lawful entry is left
 pub looked_done : (t : Topology) (js : List Journal) (limits counts : List ℕ) (links : Links) (lacks : List (Option ℕ)) (first ready : List ℕ) (tries i at limit : ℕ) (j : Journal) (es : List Entry) → AreLawfulLengths t js limits →

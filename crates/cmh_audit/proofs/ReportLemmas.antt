@@ -17,7 +17,7 @@ use Rattle.cmh_model.specs.Laws.{DarkPath, AsksAndReplies}
 use Rattle.cmh_journal.specs.Journal.{Journal}
 use Rattle.cmh_audit.specs.Inner.Declarations.{declares}
 use Rattle.cmh_audit.specs.Journals.{journal_of, OneEach}
-use Rattle.cmh_audit.specs.Inner.Links.{Links, waiting}
+use Rattle.cmh_world.specs.Links.{Links, waiting}
 use Rattle.cmh_audit.specs.Inner.AllSums.{in_journals}
 use Rattle.cmh_audit.specs.Transit.{sum_over, in_transit}
 use Rattle.cmh_audit.specs.Inner.Turns.{turned, turns}

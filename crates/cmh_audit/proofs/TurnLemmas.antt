@@ -1,34 +1,25 @@
 -- Turns of waits, and what they come to at the end of a run.
-use Rattle.std.proofs.Common.{◌≡◌, ℕ, zero, suc, ◌+◌, ◌<◌, ◌==◌, ◌&&◌, ◌↔◌, not, Bool, true, false, cond, List, [], ◌∷◌, ◌++◌, length, take, get_or, sym, ap, refl, ◌∙◌, if◌then◌else◌, arith}
-use Rattle.std.specs.Prelude.{Contains}
+use Rattle.std.proofs.Common.{◌≡◌, ℕ, zero, suc, ◌+◌, ◌<◌, ◌==◌, ◌&&◌, not, Bool, true, false, List, [], ◌∷◌, ◌++◌, length, take, get_or, sym, ap, refl, ◌∙◌, if◌then◌else◌, arith}
 use Rattle.std.specs.List.{list_any, AllByRecursion}
-use Rattle.std.specs.Ordering.{nat_cmp, is_eq}
-use Rattle.std.specs.BTreeSet.{BTreeSet, contains}
-use Rattle.std.specs.BTreeMap.{is_at}
 use Rattle.std.proofs.lemmas.Bool.{ne_eqb}
 use Rattle.std.proofs.lemmas.List.{take_more}
-use Rattle.std.proofs.lemmas.Map.Lookups.{CmpEqualImpliesEq, exact_pairs, exact_unsigned}
-use Rattle.std.proofs.lemmas.Map.Views.{btree_set_contains_iff}
 use Rattle.cmh_model.proofs.Sent.{count_ascending}
 use Rattle.cmh_frames.specs.Topology.{Topology}
 use Rattle.cmh_model.specs.declared.event.Event.{Event}
 use Rattle.cmh_model.specs.declared.event.Event.TheVariants.{Ask, Reply, Start, Got}
 use Rattle.cmh_model.specs.declared.journal.Entry.{Entry}
 use Rattle.cmh_model.specs.declared.journal.WorldEvent.{WorldEvent}
-use Rattle.cmh_model.specs.Relation.{pair_cmp}
 use Rattle.cmh_model.specs.State.{State, empty_state}
 use Rattle.cmh_model.specs.Rules.{Accepts, after}
 use Rattle.cmh_model.specs.Journals.{LawfulFrom}
 use Rattle.cmh_model.specs.Runs.{IsRun, ComesFrom, entries_of}
 use Rattle.cmh_model.specs.Waits.{asks_for, grants, wait_after}
 use Rattle.cmh_model.specs.Laws.{bit, count_of, AsksAndReplies}
-use Rattle.cmh_model.proofs.Pairs.{pair_cmp_total}
 use Rattle.cmh_journal.specs.Journal.{Journal}
 use Rattle.cmh_audit.specs.Journals.{journal_of, OneEach}
 use Rattle.cmh_audit.specs.Sums.{in_entries}
 use Rattle.cmh_audit.specs.Inner.AllSums.{in_journals, in_run}
 use Rattle.cmh_audit.specs.Inner.Turns.{turned, turns_of, turns, is_open, Turns, one_at}
-use Rattle.cmh_audit.proofs.LinkLemmas.{is_eq-nat_cmp, is_eq-then, and_eq}
 use Rattle.cmh_audit.proofs.Sums.{in_run-in_journals}
 
 -- ---- turns
@@ -44,24 +35,9 @@ turned-plus m (suc n) b = ap (λ k. turned k b) (suc_right m n) ∙ ap not (turn
     suc_right m n = omega arith
 
 -- two steps
-pub turns_more : (a b c : BTreeSet (ℕ × ℕ)) (f g h : ℕ → ℕ → ℕ) → Turns a b f → Turns b c g → ((j k : ℕ) → h j k ≡ f j k + g j k) → Turns a c h
+pub turns_more : (a b c : List (List ℕ)) (f g h : ℕ → ℕ → ℕ) → Turns a b f → Turns b c g → ((j k : ℕ) → h j k ≡ f j k + g j k) → Turns a c h
 turns_more a b c f g h p q e j k =
     q j k ∙ ap (turned (g j k)) (p j k) ∙ sym (turned-plus (f j k) (g j k) (is_open a j k)) ∙ ap (λ n. turned n (is_open a j k)) (sym (e j k))
-
-at_pair : (asker holder j k : ℕ) → is_at (pair_cmp (asker, holder)) (j, k) ≡ ((asker == j) && (holder == k))
-at_pair asker holder j k =
-    is_eq-then (nat_cmp asker j) (nat_cmp holder k) ∙ ap (λ x. x && is_eq (nat_cmp holder k)) (is_eq-nat_cmp asker j) ∙ ap (λ y. (asker == j) && y) (is_eq-nat_cmp holder k)
-
--- the pair has the other truth value, and the others have theirs
-pub turned_at : (old new : BTreeSet (ℕ × ℕ)) (asker holder : ℕ) (now : Bool) → ((q : ℕ × ℕ) → contains pair_cmp new q ≡ cond (is_at (pair_cmp (asker, holder)) q) now (contains pair_cmp old q)) → now ≡ not (is_open old asker holder) → Turns old new (one_at asker holder)
-turned_at old new asker holder now sets is j k =
-    sets (j, k) ∙ ap (λ t. cond t now (is_open old j k)) (at_pair asker holder j k) ∙ go (asker == j) (holder == k) (λ h. and_eq asker holder j k h)
-  where
-    go : (s t : Bool) → ((s && t) ≡ true → (asker ≡ j) × (holder ≡ k)) → cond (s && t) now (is_open old j k) ≡ turned (bit (t && s)) (is_open old j k)
-    go true true same = let e = same refl in is ∙ ap (λ x. not (is_open old x holder)) e.0 ∙ ap (λ y. not (is_open old j y)) e.1
-    go true false same = refl
-    go false true same = refl
-    go false false same = refl
 
 -- ---- targets
 
@@ -146,14 +122,3 @@ waits_at_end t js run one is_run come take_turns j k =
     ∙ turned-plus (count_of (λ (e : WorldEvent). grants k j e.entry.event) run + count_of (λ (e : WorldEvent). grants k j e.entry.event) run) (bit (wait_after false j k run)) false
     ∙ ap (turned (bit (wait_after false j k run))) (even_turns (count_of (λ (e : WorldEvent). grants k j e.entry.event) run) false)
     ∙ turned-bit (wait_after false j k run)
-
--- ---- the pairs of the set
-
-exact_pair : CmpEqualImpliesEq pair_cmp
-exact_pair = exact_pairs nat_cmp nat_cmp exact_unsigned exact_unsigned
-
-pub open_iff : (pairs : BTreeSet (ℕ × ℕ)) (j k : ℕ) → Contains pairs.keys (j, k) ↔ (is_open pairs j k ≡ true)
-open_iff pairs j k = let both = btree_set_contains_iff pair_cmp_total exact_pair pairs (j, k) in (λ c. both.1 c, λ h. both.0 h)
-
-pub none_open : (pairs : BTreeSet (ℕ × ℕ)) → pairs.keys ≡ [] → (j k : ℕ) → is_open pairs j k ≡ false
-none_open pairs h j k = ap (λ ks. list_any (is_at (pair_cmp (j, k))) ks) h

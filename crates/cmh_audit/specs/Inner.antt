@@ -1,8 +1,8 @@
 -- The auditor's own words: of its merge, its counts and its search. No contract of what it gives to its callers cites
 -- them.
-pub mod Links
 pub mod Merging
 pub mod Ready
+pub mod Places
 pub mod Turns
 pub mod Declarations
 pub mod Graphs

@@ -1,6 +1,8 @@
 -- The journals that an auditor is given, read by site number.
-use Rattle.std.specs.Prelude.{◌≢◌, ℕ, ◌+◌, List, [], ◌∷◌, length, ◌==◌, if◌then◌else◌}
+use Rattle.std.specs.Prelude.{◌≢◌, ℕ, ◌+◌, List, [], ◌∷◌, length, All, ◌==◌, if◌then◌else◌}
+use Rattle.cmh_frames.specs.Topology.{Topology}
 use Rattle.cmh_model.specs.declared.journal.Entry.{Entry}
+use Rattle.cmh_model.specs.Journals.{IsLawful}
 use Rattle.cmh_journal.specs.Journal.{Journal}
 
 -- the entries of a site's journal; none where it has no journal
@@ -22,3 +24,7 @@ OneEach (j ∷ journals) = NoneAt j.site journals × OneEach journals
 abbrev pub entry_count : List Journal → ℕ
 entry_count [] = 0
 entry_count (j ∷ journals) = length j.entries + entry_count journals
+
+-- each is a journal of its site's written controller
+abbrev pub AreAllLawful : Topology → List Journal → Type 0
+AreAllLawful t journals = All (λ (j : Journal). IsLawful t j.site j.entries) journals

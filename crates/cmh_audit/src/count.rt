@@ -1,14 +1,16 @@
 //! Counts over journals and links.
 
-ghost use Rattle.std.specs.Prelude.{◌≡◌, ℕ, ◌*◌, ◌<◌, ◌≤◌, ◌^◌, length};
+ghost use Rattle.std.specs.Prelude.{◌≡◌, ℕ, ◌*◌, ◌<◌, ◌≤◌, ◌^◌, length, IfOk};
+ghost use Rattle.cmh_audit.specs.Inner.Merging.{entry_counts};
 ghost use Rattle.cmh_audit.specs.Journals.{entry_count};
-ghost use Rattle.cmh_audit.specs.Inner.Links.{waiting};
+ghost use Rattle.cmh_world.specs.Links.{waiting};
 ghost use Rattle.cmh_audit.specs.Inner.AllSums.{in_journals};
 ghost use Rattle.cmh_audit.specs.Transit.{sum_over, sent_count};
 
-use crate::links::{Links, frames_on};
 use cmh_frames::SiteId;
 use cmh_journal::Journal;
+use cmh_world::Links;
+use std::alloc::{AllocError, Global};
 
 /// How many entries the journals have together.
 pub fn count_entries(journals: &[Journal]) -> u64
@@ -24,6 +26,17 @@ pub fn count_entries(journals: &[Journal]) -> u64
     count
 }
 
+/// How many entries each of the journals has.
+pub fn lengths_of(alloc: Global, journals: &[Journal]) -> Result<Vec<usize>, AllocError>
+    ensures { IfOk result (λ lengths. lengths.items ≡ entry_counts journals.now) }
+{
+    let mut lengths = Vec::new(alloc);
+    for journal in journals {
+        lengths.push(journal.entries().len())?;
+    }
+    Ok(lengths)
+}
+
 /// How many frames are on the links from a site to these.
 fn count_from(links: &Links, from: SiteId, sites: &[SiteId]) -> u64
     requires { sum_over (λ b. length (waiting links.now from b)) sites.now < 2 ^ 64 }
@@ -31,7 +44,7 @@ fn count_from(links: &Links, from: SiteId, sites: &[SiteId]) -> u64
 {
     let mut count = 0;
     for to in sites {
-        count += frames_on(links, from, *to) as u64;
+        count += links.len(from, *to) as u64;
     }
     count
 }

@@ -7,6 +7,7 @@ ghost use Rattle.cmh_audit.specs.Runs.{IsRunOf};
 ghost use Rattle.cmh_audit.specs.Set.{IsSet};
 
 use crate::count::count_entries;
+use crate::lawful::lawful_lengths;
 use crate::merge::merge;
 use crate::step::Step;
 use crate::stops::stops_of;
@@ -32,7 +33,8 @@ pub fn run_of(
     let sites = topology.sites();
     // By its contract the entries are so few that a merge can count its tries.
     let _ = count_entries(journals);
-    let merged = merge(alloc, topology, journals)?;
+    let limits = lawful_lengths(alloc, topology, journals)?;
+    let merged = merge(alloc, topology, journals, &limits, true)?;
     let rows = stops_of(alloc, sites, journals, &merged.taken)?;
     if rows.is_empty() {
         Ok(Some(merged.steps))

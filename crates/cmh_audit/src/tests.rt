@@ -201,6 +201,16 @@ fn a_reply_ends_a_wait(rt: HostRuntime) -> Result<(), Fail> {
 }
 
 #[test]
+fn an_ask_after_the_reply_waits_again(rt: HostRuntime) -> Result<(), Fail> {
+    let entries: [u8; 23] = [
+        0, 6, 1, 0, 1, 1, 0, 2, 0, 5, 2, 0, 2, 0, 1, 0, 6, 1, 0, 1, 1, 0, 2,
+    ];
+    let text = audit_text(rt.alloc(), &[(1, &[1, 2])], &[(1, &entries)])?;
+    assert_eq!(rt; text.as_str(), "accepted 3, in transit 0, wait 1 2");
+    Ok(())
+}
+
+#[test]
 fn frames_that_did_not_come_are_in_transit(rt: HostRuntime) -> Result<(), Fail> {
     let text = audit_text(rt.alloc(), &TWO_AND_THREE, &[(1, &ASK_BOTH), (2, &[])])?;
     assert_eq!(rt;

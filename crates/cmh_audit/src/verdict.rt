@@ -3,13 +3,15 @@
 ghost use Rattle.std.specs.Prelude.{◌≡◌, ◌↔◌, ◌+◌, ◌*◌, ◌≤◌, List, length, IfOk};
 ghost use Rattle.cmh_model.specs.declared.journal.WorldEvent.{WorldEvent};
 ghost use Rattle.cmh_model.specs.Runs.{ComeFromRun, ComesFrom, IsRun};
-ghost use Rattle.cmh_audit.specs.Journals.{journal_of, entry_count};
+ghost use Rattle.cmh_audit.specs.Inner.Merging.{AreLawfulLengths};
+ghost use Rattle.cmh_audit.specs.Journals.{AreAllLawful, journal_of, entry_count};
 ghost use Rattle.cmh_audit.specs.Reports.{Reports, IsInOrder};
 ghost use Rattle.cmh_audit.specs.Set.{IsSet};
 ghost use Rattle.cmh_audit.specs.Stops.{AreStops};
-ghost use Rattle.cmh_audit.specs.Verdicts.{IsAccepted, IfAccepted, IfRefused, tries_of, looks_due, looks_caused};
+ghost use Rattle.cmh_audit.specs.Verdicts.{IsAccepted, IfAccepted, IfRefused, IsVerdictOn, tries_of, looks_due, looks_caused};
 
-use crate::count::count_entries;
+use crate::count::{count_entries, lengths_of};
+use crate::lawful::lawful_lengths;
 use crate::merge::merge;
 use crate::report::{Report, report_of};
 use crate::stops::{Stops, stops_of};
@@ -68,9 +70,42 @@ pub fn audit(
     // And a site is looked at again only for a frame that an entry sent that was taken.
     ensures caused { IfOk result (λ v. tries_of v ≤ looks_caused journals.now v) }
 {
+    let limits = lawful_lengths(alloc, topology, journals)?;
+    audit_within(alloc, topology, journals, &limits)
+}
+
+/// The same of journals of which each is known to be lawful: none is replayed.
+pub fn audit_lawful(
+    alloc: Global,
+    topology: &Topology,
+    journals: &[Journal],
+) -> Result<Verdict, AuditMemory>
+    requires set { IsSet topology.now journals.now }
+    requires lawful { AreAllLawful topology.now journals.now }
+    ensures verdict { IfOk result (IsVerdictOn topology.now journals.now) }
+    ensures looked { IfOk result (λ v. looks_due journals.now v ≤ tries_of v) }
+    ensures caused { IfOk result (λ v. tries_of v ≤ looks_caused journals.now v) }
+{
+    let lengths = lengths_of(alloc, journals)?;
+    audit_within(alloc, topology, journals, &lengths)
+}
+
+/// The same of journals of which it is known how many entries of each are lawful.
+fn audit_within(
+    alloc: Global,
+    topology: &Topology,
+    journals: &[Journal],
+    limits: &[usize],
+) -> Result<Verdict, AuditMemory>
+    requires set { IsSet topology.now journals.now }
+    requires lawful { AreLawfulLengths topology.now journals.now limits.now }
+    ensures verdict { IfOk result (IsVerdictOn topology.now journals.now) }
+    ensures looked { IfOk result (λ v. looks_due journals.now v ≤ tries_of v) }
+    ensures caused { IfOk result (λ v. tries_of v ≤ looks_caused journals.now v) }
+{
     let sites = topology.sites();
     let events = count_entries(journals);
-    let merged = merge(alloc, topology, journals)?;
+    let merged = merge(alloc, topology, journals, limits, false)?;
     let rows = stops_of(alloc, sites, journals, &merged.taken)?;
     if rows.is_empty() {
         let report = report_of(alloc, topology, journals, events, &merged)?;

@@ -1,5 +1,5 @@
 -- Want of memory.
-use Rattle.std.proofs.Common.{◌≡◌, ℕ, ◌<◌, ap, arith}
+use Rattle.std.proofs.Common.{ℕ, ap, arith}
 use Rattle.cmh_frames.specs.Topology.{Topology}
 use Rattle.cmh_model.specs.Rules.{Accepts}
 use Rattle.cmh_model.specs.State.{State}

@@ -1,13 +1,13 @@
 //! Frames and the sites that they go to.
 
-ghost use Rattle.std.specs.Prelude.{◌≡◌, ℕ, ◌++◌, map, IfOk, OnOk, IsSome};
+ghost use Rattle.std.specs.Prelude.{◌≡◌, ℕ, [], ◌++◌, map, IfOk, OnOk, IsSome};
 ghost use Rattle.std.specs.List.{AllByRecursion};
 ghost use Rattle.cmh_frames.specs.Topology.{At, home, is_at};
 ghost use Rattle.cmh_model.specs.Rules.{AreTargets, replies, requests};
 ghost use Rattle.cmh_controller.specs.Destinations.{addressed, receiver_of};
 
 use cmh_frames::{Frame, Probe, ProcId, Reply, Request, SiteId, Topology};
-use std::alloc::{AllocError, Global};
+use std::alloc::AllocError;
 
 /// Whether the process is at the site.
 pub fn is_at(topology: &Topology, process: ProcId, site: SiteId) -> bool
@@ -39,25 +39,27 @@ pub fn send_each(
     requires { AllByRecursion (λ frame. IsSome (home topology.now (receiver_of frame))) frames.now }
     ensures { OnOk result (sent.new.items ≡ sent.old.items ++ map (addressed topology.now) frames.now) }
 {
+    sent.reserve(frames.len())?;
     for frame in frames {
         let site = topology.home(receiver(frame)).unwrap();
-        sent.push((site, *frame))?;
+        sent.push_reserved((site, *frame));
     }
     Ok(())
 }
 
-/// The requests of an ask: one to each target of another site, in the targets' order.
+/// The requests of an ask: one to each target of another site, in the targets' order. They are put into `room`.
 pub fn requests(
-    alloc: Global,
+    room: Vec<(SiteId, Frame)>,
     topology: &Topology,
     site: SiteId,
     asker: ProcId,
     targets: &[ProcId],
 ) -> Result<Vec<(SiteId, Frame)>, AllocError>
-    requires { AreTargets topology.now asker targets.now }
+    requires room { room.items ≡ [] }
+    requires targets { AreTargets topology.now asker targets.now }
     ensures { IfOk result (λ sent. sent.items ≡ requests topology.now site asker targets.now) }
 {
-    let mut sent = Vec::new(alloc);
+    let mut sent = room;
     for target in targets {
         let home = topology.home(*target).unwrap();
         if home != site {
@@ -68,19 +70,20 @@ pub fn requests(
     Ok(sent)
 }
 
-/// The reply to a process, where that is at another site.
+/// The reply to a process, where that is at another site. It is put into `room`.
 pub fn replies(
-    alloc: Global,
+    room: Vec<(SiteId, Frame)>,
     topology: &Topology,
     site: SiteId,
     holder: ProcId,
     asker: ProcId,
 ) -> Result<Vec<(SiteId, Frame)>, AllocError>
+    requires room { room.items ≡ [] }
     requires here { At topology.now holder site }
     requires known { IsSome (home topology.now asker) }
     ensures { IfOk result (λ sent. sent.items ≡ replies topology.now site holder asker) }
 {
-    let mut sent = Vec::new(alloc);
+    let mut sent = room;
     let home = topology.home(asker).unwrap();
     if home != site {
         sent.push((home, Frame::Reply(Reply { holder, asker })))?;

@@ -8,7 +8,7 @@ use Rattle.std.proofs.lemmas.List.{get_or_default}
 use Rattle.std.proofs.lemmas.List.Elements.{Contains-push, Contains-append_left, Contains-push_cases}
 use Rattle.std.proofs.lemmas.Bool.{cases_eq}
 use Rattle.std.proofs.lemmas.Map.Keys.{sorted_from_strictly_increasing, below_from_sorted}
-use Rattle.cmh_dependents.specs.Marks.{AreThose}
+use Rattle.cmh_dependents.specs.Inner.Bits.{AreThose}
 use Rattle.cmh_waits.specs.Rows.{is_set}
 
 -- an ascending list stays so with a greater number at its end

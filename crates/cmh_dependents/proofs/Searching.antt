@@ -1,5 +1,5 @@
 -- The search of what a member reaches, with a 1 at the place of each member that was found, and those that are left to look at.
-use Rattle.std.proofs.Common.{inl, inr, ◌≡◌, ◌↔◌, ℕ, ◌+◌, ◌-◌, ◌*◌, ◌<◌, ◌≤◌, Bool, true, false, not, ◌&&◌, ◌||◌, ◌==◌, List, [], ◌∷◌, ◌++◌, length, get_or, nat_lt, refl, sym, ap, ◌∙◌, subst, arith, true≢false, Result, Ok, Err, IfOk, Vec}
+use Rattle.std.proofs.Common.{inl, inr, ◌≡◌, ◌↔◌, ℕ, ◌+◌, ◌-◌, ◌*◌, ◌<◌, ◌≤◌, true, false, not, ◌&&◌, ◌||◌, ◌==◌, List, [], ◌∷◌, ◌++◌, length, get_or, nat_lt, refl, sym, ap, ◌∙◌, subst, arith, true≢false, Result, Ok, Err, IfOk, Vec}
 use Rattle.std.specs.List.{Contains}
 use Rattle.std.specs.List.Sorted.{IsStrictlyIncreasing}
 use Rattle.std.proofs.lemmas.Bool.{eqb-true, eq-eqb, ne_eqb, and_parts, and_from, or_cases, or_left, or_right, or_parts, cases_Bool, cases_eq, lt-ltb, ltb-true, not-true}
@@ -10,7 +10,8 @@ use Rattle.cmh_model.specs.Relation.{has}
 use Rattle.cmh_waits.specs.Held.{Held, IsMember}
 use Rattle.cmh_waits.specs.Rows.{is_set}
 use Rattle.cmh_waits.proofs.RowLemmas.{in_at, found_place, same_place}
-use Rattle.cmh_dependents.specs.Marks.{IsMarked, AreReached, AreThose, ReachesHere}
+use Rattle.cmh_dependents.specs.Marks.{IsMarked, AreReached, ReachesHere}
+use Rattle.cmh_dependents.specs.Inner.Bits.{AreThose}
 
 -- a path with one more step
 path_further : (R : ℕ → ℕ → Type 0) (x : ℕ) (path : List ℕ) (y z : ℕ) → IsPath R x path y → R y z → IsPath R x (path ++ z ∷ []) z

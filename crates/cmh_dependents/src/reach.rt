@@ -4,14 +4,63 @@ ghost use Rattle.std.specs.Prelude.{◌≡◌, ℕ, ◌<◌, ◌≤◌, ◌↔�
 ghost use Rattle.std.specs.Prelude.{Contains, IfOk, IsTrue};
 ghost use Rattle.std.specs.List.Sorted.{IsStrictlyIncreasing};
 ghost use Rattle.cmh_model.specs.Paths.{DependsOnItselfAmong, ReachesAmong};
-ghost use Rattle.cmh_model.specs.Relation.{has};
 ghost use Rattle.cmh_waits.specs.Held.{IsMember};
 ghost use Rattle.cmh_waits.specs.Rows.{is_set};
-ghost use Rattle.cmh_dependents.specs.Marks.{AreReached, AreThose};
+ghost use Rattle.cmh_dependents.specs.Marks.{AreReached, IsMarked};
+ghost use Rattle.cmh_dependents.specs.Inner.Bits.{AreAwaited, AreThose};
 
 use cmh_frames::ProcId;
 use cmh_waits::LocalWaits;
 use std::alloc::{AllocError, Global};
+
+/// What a member reaches by waits between members, itself among it, and whether it waits there for itself.
+///
+/// It takes no memory: a member stands for itself by its number.
+#[derive(Clone, Copy, Debug, PartialEq, Eq)]
+pub struct Reach {
+    /// The numbers of the members that are reached, as bits.
+    pub places: u64,
+    /// Whether a path of one or more waits between members leads from the member back to it: whether it is locally
+    /// dependent upon itself (Chandy, Misra and Haas 1983).
+    pub on_cycle: bool,
+}
+
+impl Reach {
+    /// What the member reaches.
+    pub fn new(waits: &LocalWaits, from: ProcId) -> Self
+        requires { IsMember waits.now from }
+        ensures places { AreReached waits.now from result.places }
+        ensures on_cycle { IsTrue result.on_cycle ↔ DependsOnItselfAmong (λ p. IsMember waits.now p) waits.now.waits from }
+    {
+        let Some(start) = waits.place(from) else {
+            unreachable!();
+        };
+        let (places, awaited) = reached_from(waits, start);
+        Reach {
+            places,
+            on_cycle: is_marked(awaited, start),
+        }
+    }
+
+    /// Whether the member with this number is reached.
+    pub fn has(self, place: usize) -> bool
+        requires { place < 64 }
+        ensures { result ≡ is_set self.places place }
+    {
+        is_marked(self.places, place)
+    }
+
+    /// Whether the process is a member that is reached.
+    pub fn contains(self, waits: &LocalWaits, process: ProcId) -> bool
+        ensures { IsTrue result ↔ IsMarked waits.now.members self.places process }
+    {
+        let _ = waits.members();
+        match waits.place(process) {
+            Some(place) => self.has(place),
+            None => false,
+        }
+    }
+}
 
 /// The members that one of them reaches by waits between members, itself among them, ascending.
 pub fn local_reach(
@@ -24,62 +73,49 @@ pub fn local_reach(
     ensures all { IfOk result (λ reached. (q : ℕ) →
         Contains reached.items q ↔ ReachesAmong (λ p. IsMember waits.now p) waits.now.waits from q) }
 {
-    members_of(alloc, waits.members(), reached_row(waits, from))
+    members_of(alloc, waits.members(), Reach::new(waits, from).places)
 }
 
 /// Whether a path of one or more waits between members leads from the process back to it: whether it is locally
 /// dependent upon itself (Chandy, Misra and Haas 1983).
 pub fn on_local_cycle(
-    alloc: Global,
+    _alloc: Global,
     waits: &LocalWaits,
     process: ProcId,
 ) -> Result<bool, AllocError>
     requires { IsMember waits.now process }
     ensures { IfOk result (λ b. IsTrue b ↔ DependsOnItselfAmong (λ p. IsMember waits.now p) waits.now.waits process) }
 {
-    let reached = local_reach(alloc, waits, process)?;
-    Ok(leads_back(waits, process, &reached))
+    Ok(Reach::new(waits, process).on_cycle)
 }
 
-/// The same as `on_local_cycle`, for a caller that has what the process reaches.
-pub fn leads_back(waits: &LocalWaits, process: ProcId, reached: &[ProcId]) -> bool
-    requires { (q : ℕ) → Contains reached.now q ↔ ReachesAmong (λ p. IsMember waits.now p) waits.now.waits process q }
-    ensures { IsTrue result ↔ DependsOnItselfAmong (λ p. IsMember waits.now p) waits.now.waits process }
+/// The numbers of the members that the one at the start reaches, and of those for which any of them waits, as bits.
+fn reached_from(waits: &LocalWaits, start: usize) -> (u64, u64)
+    requires { start < length waits.now.members }
+    ensures reached { AreReached waits.now (slice_index waits.now.members start) result.0 }
+    ensures awaited { AreAwaited waits.now result.0 result.1 }
 {
-    any_waits(waits, reached, process)
-}
-
-/// Whether any of the processes waits for this one.
-fn any_waits(waits: &LocalWaits, processes: &[ProcId], holder: ProcId) -> bool
-    ensures { IsTrue result
-        ↔ ((k : ℕ) × (k < length processes.now) × (has waits.now.waits (slice_index processes.now k) holder ≡ true)) }
-{
-    for process in processes {
-        if waits.waits(*process, holder) {
-            return true;
-        }
-    }
-    false
-}
-
-/// The numbers of the members that one of them reaches, as bits.
-fn reached_row(waits: &LocalWaits, from: ProcId) -> u64
-    requires { IsMember waits.now from }
-    ensures { AreReached waits.now from result }
-{
-    let members = waits.members();
-    let mut reached = 0;
-    if let Some(place) = waits.place(from) {
-        reached = 1 << place;
-    }
+    let _ = waits.members();
+    let mut reached = 1 << start;
+    let mut awaited = 0;
     let mut work = reached;
     while work != 0 {
         let place = lowest(work);
-        let fresh = beyond(waits.row(place), reached);
+        let row = waits.row(place);
+        let fresh = beyond(row, reached);
+        awaited = either(awaited, row);
         work = either(without(work, place), fresh);
         reached = either(reached, fresh);
     }
-    reached
+    (reached, awaited)
+}
+
+/// Whether the row has a 1 at the place.
+fn is_marked(row: u64, place: usize) -> bool
+    requires { place < 64 }
+    ensures { result ≡ is_set row place }
+{
+    row >> place & 1 == 1
 }
 
 /// The place of the lowest 1.
@@ -124,7 +160,7 @@ fn members_of(alloc: Global, members: &[ProcId], row: u64) -> Result<Vec<ProcId>
 {
     let mut marked = Vec::new(alloc);
     for (place, member) in members.iter().enumerate() {
-        if row >> place & 1 == 1 {
+        if is_marked(row, place) {
             marked.push(*member)?;
         }
     }

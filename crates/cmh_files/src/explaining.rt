@@ -11,7 +11,7 @@ ghost use Rattle.cmh_files.specs.Status.{IsStatus};
 use crate::auditing::{Audited, audit_files, status_of, text_of};
 use crate::faults::Fault;
 use cmh_audit::Verdict;
-use cmh_script::Device;
+use cmh_script::Output;
 use cmh_why::reason_lines;
 use std::alloc::{AllocError, Global};
 use std::io::Write;
@@ -24,8 +24,8 @@ pub fn run_audit_why<W: Write, E: Write>(
     alloc: Global,
     topology: &[u8],
     journals: &[Vec<u8>],
-    out: &mut Device<W>,
-    err: &mut Device<E>,
+    out: &mut Output<W>,
+    err: &mut Output<E>,
 ) -> u8
     ensures status { IsStatus result }
 
@@ -45,7 +45,7 @@ fn explain_into<W: Write>(
     alloc: Global,
     topology: &[u8],
     journals: &[Vec<u8>],
-    out: &mut Device<W>,
+    out: &mut Output<W>,
 ) -> Result<u8, Fault>
     ensures wrote { IfOk result (WroteExplained topology.now (map (λ file. file.items) journals.now)
         (W.contents out.old.inner) (W.contents out.new.inner)) }

@@ -8,7 +8,7 @@ use crate::topology_file::TopologyFileFault;
 use cmh_audit::{AuditMemory, SetFault};
 use cmh_frames::TopologyFault;
 use cmh_journal::JournalFault;
-use cmh_script::{Device, LineFault, WriteFault};
+use cmh_script::{LineFault, Output, WriteFault};
 use std::alloc::{AllocError, AllocFailed};
 use std::fmt;
 use std::io::Write;
@@ -58,7 +58,7 @@ impl Fault {
     }
 
     /// Names the fault on `err`, a write to which may fail, and answers the status with which the program ends.
-    pub fn name_on<E: Write>(self, err: &mut Device<E>) -> u8
+    pub fn name_on<E: Write>(self, err: &mut Output<E>) -> u8
         ensures status { result ≡ spec.status_of self }
         ensures named { Tells (E.contents err.old.inner) (E.contents err.new.inner) err.new.has_failed
             (spec.fault_text self ++ 10 ∷ []) }

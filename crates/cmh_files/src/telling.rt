@@ -13,7 +13,7 @@ use crate::auditing::{Audited, audit_files, status_of, text_of};
 use crate::faults::Fault;
 use crate::run_lines::RunLines;
 use cmh_audit::{AuditMemory, Step, Verdict, run_of};
-use cmh_script::Device;
+use cmh_script::Output;
 use std::alloc::Global;
 use std::io::Write;
 
@@ -25,8 +25,8 @@ pub fn run_audit_run<W: Write, E: Write>(
     alloc: Global,
     topology: &[u8],
     journals: &[Vec<u8>],
-    out: &mut Device<W>,
-    err: &mut Device<E>,
+    out: &mut Output<W>,
+    err: &mut Output<E>,
 ) -> u8
     ensures status { IsStatus result }
 
@@ -46,7 +46,7 @@ fn tell_into<W: Write>(
     alloc: Global,
     topology: &[u8],
     journals: &[Vec<u8>],
-    out: &mut Device<W>,
+    out: &mut Output<W>,
 ) -> Result<u8, Fault>
     ensures wrote { IfOk result (WroteRun topology.now (map (λ file. file.items) journals.now)
         (W.contents out.old.inner) (W.contents out.new.inner)) }

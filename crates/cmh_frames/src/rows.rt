@@ -1,6 +1,6 @@
 //! The rows that are given for a topology, and what can be wrong with them.
 
-ghost use Rattle.std.specs.Prelude.{◌≡◌, IfErr, IfOk, length, nat_lt, None};
+ghost use Rattle.std.specs.Prelude.{◌≡◌, ℕ, false, IfErr, IfOk, length, nat_lt, slice_index_or, None};
 ghost use Rattle.std.specs.List.{list_any, sum_by};
 ghost use Rattle.cmh_frames.specs.Edition.{process_limit};
 ghost use Rattle.cmh_frames.specs.Rows as spec;
@@ -11,6 +11,9 @@ use crate::edition::Edition;
 use crate::number::is_number;
 use std::marker::Model;
 use thiserror::Error;
+
+/// How many numbers a row can give.
+const NUMBERS: usize = 65536;
 
 /// A site and its processes, as they are given: any numbers, in any order.
 #[derive(Debug, Drop)]
@@ -141,35 +144,29 @@ fn has_site(rows: &[SiteRow], site: u16) -> bool
     false
 }
 
+/// Whether a process is named twice.
 fn repeats_process(rows: &[SiteRow]) -> bool
     ensures { result ≡ spec.repeats_process rows.now }
 {
-    for (i, row) in rows.iter().enumerate() {
-        if repeats_among(&rows[i + 1..], &row.processes) {
-            return true;
-        }
-    }
-    false
+    let mut named = [false; NUMBERS];
+    names_twice(rows, &mut named)
 }
 
-/// Whether one of the processes stands twice among them, or in one of the rows.
-fn repeats_among(rows: &[SiteRow], processes: &[u16]) -> bool
-    ensures { result ≡ spec.repeats_among rows.now processes.now }
+/// Whether the rows name a process twice. It goes from the last row and its last process to the first, and marks each
+/// number that is named.
+fn names_twice(rows: &[SiteRow], named: &mut [bool]) -> bool
+    requires all { length named.old ≡ 65536 }
+    requires unmarked { (p : ℕ) → slice_index_or named.old p false ≡ false }
+    ensures { result ≡ spec.repeats_process rows.now }
 {
-    for (i, process) in processes.iter().enumerate() {
-        if processes[i + 1..].contains(process) || has_process(rows, *process) {
-            return true;
-        }
-    }
-    false
-}
-
-fn has_process(rows: &[SiteRow], process: u16) -> bool
-    ensures { result ≡ spec.has_process rows.now process }
-{
-    for row in rows {
-        if row.processes.contains(&process) {
-            return true;
+    for later in 0..rows.len() {
+        let row = &rows[rows.len() - 1 - later];
+        for behind in 0..row.processes.len() {
+            let process = row.processes[row.processes.len() - 1 - behind];
+            if named[process as usize] {
+                return true;
+            }
+            named[process as usize] = true;
         }
     }
     false

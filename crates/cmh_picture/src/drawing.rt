@@ -9,7 +9,7 @@ use crate::format::Format;
 use crate::picture_text::PictureText;
 use cmh_draw::{Kind, Picture, run_picture, waits_picture};
 use cmh_files::{Audited, Fault, audit_files};
-use cmh_script::Device;
+use cmh_script::Output;
 use std::alloc::{AllocError, Global};
 use std::io::Write;
 
@@ -25,8 +25,8 @@ pub fn run_draw<W: Write, E: Write>(
     journals: &[Vec<u8>],
     kind: Kind,
     format: Format,
-    out: &mut Device<W>,
-    err: &mut Device<E>,
+    out: &mut Output<W>,
+    err: &mut Output<E>,
 ) -> u8
     ensures status { IsStatus result }
 
@@ -48,7 +48,7 @@ fn draw_into<W: Write>(
     journals: &[Vec<u8>],
     kind: Kind,
     format: Format,
-    out: &mut Device<W>,
+    out: &mut Output<W>,
 ) -> Result<(), Fault>
     ensures wrote { OnOk result (WroteDrawing topology.now (map (λ file. file.items) journals.now) kind format
         (W.contents out.old.inner) (W.contents out.new.inner)) }

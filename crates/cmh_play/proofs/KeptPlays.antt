@@ -1,6 +1,7 @@
 -- A script that is played, and whose journals are kept.
-use Rattle.std.proofs.Common.{◌≡◌, ◌≢◌, ℕ, Bool, List, [], Option, None, Some, refl, sym, subst, inl, inr, true≢false}
+use Rattle.std.proofs.Common.{◌≡◌, ◌≢◌, ℕ, Bool, Box, List, [], Option, None, Some, refl, sym, subst, inl, inr, true≢false}
 use Rattle.std.specs.Prelude.{◌⊎◌, IfErr, IfSome, IsErr, IsErrAnd, OnOk, Result, Ok, Err}
+use Rattle.std.specs.Global.{Global}
 use Rattle.std.specs.Io.KnownBytes.{Keeps}
 use Rattle.cmh_files.proofs.TextLemmas.{appends-kept}
 use Rattle.cmh_files.specs.Faults.{NamesFault, status_of}
@@ -24,7 +25,7 @@ use Rattle.cmh_frames.specs.declared.edition.Edition.{Edition}
 
 -- nothing is kept for a reply that is no report
 pub keeps_none : {K : Type 0} → (Kept : K → List Journal → K → Type 0) (reply : Reply) (game : Game) (old new : K)
-    → ((edition : Edition) (verdict : Verdict) → reply ≢ Report edition verdict) → new ≡ old → KeepsAt Kept reply game old new
+    → ((edition : Edition) (verdict : Box Verdict Global) → reply ≢ Report edition verdict) → new ≡ old → KeepsAt Kept reply game old new
 keeps_none Kept Silent game old new other same = same
 keeps_none Kept OkReply game old new other same = same
 keeps_none Kept BadLine game old new other same = same
@@ -49,11 +50,11 @@ unkept_err Fails out has_failed (Err fault) lower is h = subst (IsUnanswered Fai
 
 module _ (start now old out : Option (List ℕ)) (game : Game) (n : ℕ) (so_far : HasPlayed start now old out game n) where
   -- no line is left
-  pub played_to_end : (next : NextLine) (line : List ℕ) → IfSome now (λ bytes. IsNextLine bytes line next) → next ≡ End
+  pub played_to_end : (next : NextLine) → IfSome now (λ bytes. IsNextLine bytes next) → next ≡ End
       → IfSome start (λ bytes. PlayedToEnd bytes old out game)
-  played_to_end next line is ends = if_some start _ (λ bytes e.
+  played_to_end next is ends = if_some start _ (λ bytes e.
       let s = so_far bytes e in
-      let none : s.rest ≡ [] = subst (IsNextLine s.rest line) ends (at_some now (λ bytes. IsNextLine bytes line next) s.rest s.now_is is) in
+      let none : s.rest ≡ [] = subst (IsNextLine s.rest) ends (at_some now (λ bytes. IsNextLine bytes next) s.rest s.now_is is) in
       record {
         text = s.text;
         plays = subst (λ (rest : List ℕ). Plays bytes rest s.text game) none s.plays;

@@ -10,7 +10,7 @@ use Rattle.cmh_model.specs.Settling.{is_delivery}
 use Rattle.cmh_audit.specs.Verdicts.{IsVerdictOn}
 use Rattle.cmh_playground.specs.Draft.{Draft}
 use Rattle.cmh_playground.specs.Runs.{IsPlayed}
-use Rattle.cmh_playground.specs.declared.playground.Playground.{Playground}
+use Rattle.cmh_playground.specs.Playground.{Playground}
 use Rattle.cmh_playground.specs.declared.playground.Delivery.{Delivery}
 use Rattle.cmh_playground.specs.declared.playground.Delivery.TheVariants.{BadLink, Closed, Empty, Refused as DeliveryRefused, Got as Got_frame}
 use Rattle.cmh_playground.proofs.PlayedRuns.{nothing_played, stepped_of, delivered_on, cut_off, refused_for_room, accepted_report}
@@ -39,6 +39,16 @@ world_of : (game : Game) (world : Playground) → IsWorldOf game world → IsOfR
 world_of (Named draft) world is of = nothing_played world is.journals is.links
 world_of (Played played) world is of = subst IsPlayed is of
 
+-- a command of a world that is played already
+pub commanded : (old : Game) (before after : Playground) (command : Command) (reply : Reply_text) → old ≡ Played before → CarriesOut before after command reply → Commands old (Played after) command reply
+commanded old before after command reply is done = record {
+  before = before;
+  after = after;
+  stands = subst (λ (g : Game). IsWorldOf g before) (sym is) refl;
+  done = done;
+  kept = refl;
+}
+
 -- what a command does to it, and what it answers
 carried_out : (rest : List ℕ) (old new : Playground) (command : Command) (reply : Reply_text) → FirstSays rest (Command_line command) → CarriesOut old new command reply → IsPlayed old → IsOfHonestSites reply × IsPlayed new
 carried_out rest old new (Act process event) (StepReply step) says is played = (tt, stepped_of old new process event step (says_no_got rest process event says) is played)
@@ -51,7 +61,7 @@ carried_out rest old new (Deliver from to) (DeliveryReply delivery) says is play
     honest (DeliveryRefused refused) is = refused_for_room old new from to refused is played
     honest (Got_frame frame done) is = tt
 carried_out rest old new (Cut from to) (SeveranceReply severance) says is played = (tt, cut_off old new from to severance is played)
-carried_out rest old new Report (ReportReply edition verdict) says is played = (accepted_report old verdict is.2 played, subst IsPlayed (sym is.0) played)
+carried_out rest old new Report (ReportReply edition verdict) says is played = (accepted_report old verdict.value is.2 played, subst IsPlayed (sym is.0) played)
 carried_out rest old new (Act process event) NoReply says is played = absurd is
 carried_out rest old new (Act process event) Ok says is played = absurd is
 carried_out rest old new (Act process event) BadLine says is played = absurd is

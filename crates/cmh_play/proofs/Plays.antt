@@ -22,7 +22,7 @@ use Rattle.cmh_files.specs.declared.faults.Fault.TheVariants.{TopologyFile, Scri
 use Rattle.cmh_script.specs.declared.lines.LineFault.{LineFault}
 use Rattle.cmh_script.specs.declared.lines.LineFault.TheVariants.{Input as NoInput, Memory as NoSpace}
 use Rattle.cmh_script.specs.declared.lines.NextLine.{NextLine}
-use Rattle.cmh_script.specs.declared.lines.NextLine.TheVariants.{Line as NextLine_line, TooLong, End}
+use Rattle.cmh_script.specs.declared.lines.NextLine.TheVariants.{Line as Read, TooLong, End}
 use Rattle.cmh_play.specs.declared.play.Game.{Game}
 use Rattle.cmh_play.specs.declared.play.Game.TheVariants.{Named}
 use Rattle.cmh_play.specs.declared.reply.Reply.{Reply}
@@ -51,13 +51,13 @@ pub long_some : (bytes : List ℕ) → 1024 < length (first_line bytes) → 0 < 
 long_some [] long = absurd (omega (arith, long))
 long_some (b ∷ bs) long = omega arith
 
-first_says : (bytes line : List ℕ) (next : NextLine) (said : Line) → IsNextLine bytes line next → IsSaidBy next line said → next ≢ End → (0 < length bytes) × FirstSays bytes said
-first_says bytes line NextLine_line said is says more =
+first_says : (bytes : List ℕ) (next : NextLine) (said : Line) → IsNextLine bytes next → IsSaidBy next said → next ≢ End → (0 < length bytes) × FirstSays bytes said
+first_says bytes (Read line) said is says more =
     let short : nat_lt 1024 (length (first_line bytes)) ≡ false = le-ltb 1024 (length (first_line bytes)) (subst (λ (l : List ℕ). length l ≤ 1024) is.1 is.2) in
     (is.0, subst (λ (b : Bool). MatchBool b (said ≡ Bad) (Says (first_line bytes) said)) (sym short) (subst (λ (l : List ℕ). Says l said) is.1 says))
-first_says bytes line TooLong said is says more =
+first_says bytes TooLong said is says more =
     (long_some bytes is, subst (λ (b : Bool). MatchBool b (said ≡ Bad) (Says (first_line bytes) said)) (sym (lt-ltb 1024 (length (first_line bytes)) is)) says)
-first_says bytes line End said is says more = absurd (more refl)
+first_says bytes End said is says more = absurd (more refl)
 
 -- ---- what is written
 
@@ -134,12 +134,12 @@ at_some o P bytes e h = subst (λ (x : Option (List ℕ)). IfSome x P) e h
 
 module _ (start now old out : Option (List ℕ)) (game : Game) (n : ℕ) (so_far : HasPlayed start now old out game n) where
   -- one line more
-  pub played_more : (after wrote : Option (List ℕ)) (next : NextLine) (line : List ℕ) (said : Line) (reply : Reply) (later : Game)
-      → IfSome now (λ bytes. IsNextLine bytes line next) → IfSome now (λ bytes. after ≡ Some (drop_through 10 bytes)) → IsSaidBy next line said → next ≢ End
+  pub played_more : (after wrote : Option (List ℕ)) (next : NextLine) (said : Line) (reply : Reply) (later : Game)
+      → IfSome now (λ bytes. IsNextLine bytes next) → IfSome now (λ bytes. after ≡ Some (drop_through 10 bytes)) → IsSaidBy next said → next ≢ End
       → Replies game later said reply → Appends out wrote (reply_text reply) → HasPlayed start after old wrote later (n + 1)
-  played_more after wrote next line said reply later is left says more replies tells = λ bytes e.
+  played_more after wrote next said reply later is left says more replies tells = λ bytes e.
       let s = so_far bytes e in
-      let first = first_says s.rest line next said (at_some now (λ bytes. IsNextLine bytes line next) s.rest s.now_is is) says more in
+      let first = first_says s.rest next said (at_some now (λ bytes. IsNextLine bytes next) s.rest s.now_is is) says more in
       let shorter = length-drop_through 10 s.rest first.0 in
       let follows = replied s.rest game later said reply first.1 replies (of_run bytes s.rest s.text game s.plays) in
       let counted = s.counted in
@@ -153,9 +153,9 @@ module _ (start now old out : Option (List ℕ)) (game : Game) (n : ℕ) (so_far
       }
 
   -- no line is left
-  pub answered_all : (next : NextLine) (line : List ℕ) (has_failed : Bool) → IfSome now (λ bytes. IsNextLine bytes line next) → next ≡ End
+  pub answered_all : (next : NextLine) (has_failed : Bool) → IfSome now (λ bytes. IsNextLine bytes next) → next ≡ End
       → IfSome start (λ bytes. Answered bytes old out has_failed 0)
-  answered_all next line has_failed is ends = if_some start _ (λ bytes e.
+  answered_all next has_failed is ends = if_some start _ (λ bytes e.
       let s = so_far bytes e in
       record {
         rest = s.rest;
@@ -163,7 +163,7 @@ module _ (start now old out : Option (List ℕ)) (game : Game) (n : ℕ) (so_far
         game = game;
         plays = s.plays;
         wrote = inr s.wrote;
-        all = λ _. subst (IsNextLine s.rest line) ends (at_some now (λ bytes. IsNextLine bytes line next) s.rest s.now_is is);
+        all = λ _. subst (IsNextLine s.rest) ends (at_some now (λ bytes. IsNextLine bytes next) s.rest s.now_is is);
       })
 
   -- a fault comes after these lines

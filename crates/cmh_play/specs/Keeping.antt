@@ -2,7 +2,7 @@
 use Rattle.std.specs.Prelude.{◌≡◌, ℕ, Bool, ◌⊎◌, List, [], Option, ⊤}
 use Rattle.std.specs.Io.KnownBytes.{Appends}
 use Rattle.cmh_journal.specs.Journal.{Journal}
-use Rattle.cmh_playground.specs.declared.playground.Playground.{Playground}
+use Rattle.cmh_playground.specs.Playground.{Playground}
 use Rattle.cmh_script.specs.declared.lines.NextLine.{NextLine}
 use Rattle.cmh_files.specs.declared.faults.Fault.{Fault}
 use Rattle.cmh_files.specs.declared.faults.Fault.TheVariants.{OutFile, Memory}
@@ -21,7 +21,7 @@ IsUnkept fault = ⊥
 pub record KeepsWorld {K : Type 0} (Keeps : K → List Journal → K → Type 0) (game : Game) (old new : K) : Type 0 where
   pub world : Playground
   pub stands : IsWorldOf game world
-  pub kept : Keeps old world.journals.items new
+  pub kept : Keeps old world.journals new
 
 -- a report comes after the journals were kept; other replies leave the keeper as it was
 abbrev pub KeepsAt : {K : Type 0} → (K → List Journal → K → Type 0) → Reply → Game → K → K → Type 0
@@ -30,8 +30,8 @@ KeepsAt Keeps reply game old new = new ≡ old
 
 -- a line was answered, and journals were kept where it asked for a report
 pub record AnswersAndKeeps {K : Type 0} (Keeps : K → List Journal → K → Type 0) (old new : Game) (next : NextLine)
-    (line : List ℕ) (out_old out_new : Option (List ℕ)) (keeper_old keeper_new : K) : Type 0 where
-  pub answers : AnswersLine old new next line out_old out_new
+    (out_old out_new : Option (List ℕ)) (keeper_old keeper_new : K) : Type 0 where
+  pub answers : AnswersLine old new next out_old out_new
   pub keeps : KeepsAt Keeps answers.reply new keeper_old keeper_new
 
 -- all lines of the bytes were answered, and led to the game

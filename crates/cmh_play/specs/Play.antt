@@ -12,7 +12,7 @@ use Rattle.cmh_audit.specs.Verdicts.{IsAccepted, IsVerdictOn}
 use Rattle.cmh_script.specs.Device.{Tells}
 use Rattle.cmh_playground.specs.Draft.{Draft}
 use Rattle.cmh_script.specs.Lines.{IsEndless}
-use Rattle.cmh_playground.specs.Playground.{entries_at, link_at, IsStepOf, IsDelivery, IsSeverance}
+use Rattle.cmh_playground.specs.Playground.{Playground, entries_at, link_at, IsStepOf, IsDelivery, IsSeverance}
 use Rattle.cmh_playground.specs.Runs.{IsPlayed, IsWantOfRoom}
 use Rattle.cmh_playground.specs.declared.playground.Delivery.TheVariants.{Refused as DeliveryRefused}
 use Rattle.cmh_script.specs.Script.{Says}
@@ -20,12 +20,11 @@ use Rattle.cmh_files.specs.Faults.{status_of}
 use Rattle.cmh_files.specs.declared.faults.Fault.{Fault}
 use Rattle.cmh_files.specs.declared.faults.Fault.TheVariants.{Input, Output, Memory}
 use Rattle.cmh_script.specs.declared.lines.NextLine.{NextLine}
-use Rattle.cmh_script.specs.declared.lines.NextLine.TheVariants.{Line as NextLine_line, TooLong, End}
+use Rattle.cmh_script.specs.declared.lines.NextLine.TheVariants.{Line as Read, TooLong, End}
 use Rattle.cmh_play.specs.declared.play.Game.{Game}
 use Rattle.cmh_play.specs.declared.play.Game.TheVariants.{Named, Played}
 use Rattle.cmh_play.specs.declared.reply.Reply.{Reply}
 use Rattle.cmh_play.specs.declared.reply.Reply.TheVariants.{Silent as NoReply, Ok, BadLine, Late, Topology, Step as StepReply, Delivery as DeliveryReply, Severance as SeveranceReply, Report as ReportReply}
-use Rattle.cmh_playground.specs.declared.playground.Playground.{Playground}
 use Rattle.cmh_script.specs.declared.script.Command.{Command}
 use Rattle.cmh_script.specs.declared.script.Command.TheVariants.{Act, Deliver, Cut, Report}
 use Rattle.cmh_script.specs.declared.script.Line.{Line}
@@ -50,7 +49,7 @@ CarriesOut old new (Act process event) (StepReply step) = IsStepOf old new proce
 CarriesOut old new (Deliver from to) (DeliveryReply delivery) = IsDelivery old new from to delivery
 CarriesOut old new (Cut from to) (SeveranceReply severance) = IsSeverance old new from to severance
 CarriesOut old new Report (ReportReply edition verdict) =
-    (new ≡ old) × (edition ≡ old.topology.edition) × IsVerdictOn old.topology old.journals.items verdict
+    (new ≡ old) × (edition ≡ old.topology.edition) × IsVerdictOn old.topology old.journals verdict.value
 CarriesOut old new command reply = ⊥
 
 -- the first command makes the world of the draft
@@ -98,17 +97,17 @@ abbrev pub IsNewGame : Game → Type 0
 IsNewGame game = game ≡ Named (record { edition = One; rows = [] })
 
 -- what was read of a script says this; a line that is too long is a bad one
-abbrev pub IsSaidBy : NextLine → List ℕ → Line → Type 0
-IsSaidBy NextLine_line bytes line = Says bytes line
-IsSaidBy TooLong bytes line = line ≡ Bad
-IsSaidBy End bytes line = line ≡ Bad
+abbrev pub IsSaidBy : NextLine → Line → Type 0
+IsSaidBy (Read line) said = Says line.now said
+IsSaidBy TooLong said = said ≡ Bad
+IsSaidBy End said = said ≡ Bad
 
 -- what was read of a script did this to the game, and its reply was written
-pub record AnswersLine (old new : Game) (next : NextLine) (line : List ℕ)
+pub record AnswersLine (old new : Game) (next : NextLine)
     (out_old out_new : Option (List ℕ)) : Type 0 where
   pub said : Line
   pub reply : Reply
-  pub says : IsSaidBy next line said
+  pub says : IsSaidBy next said
   pub replies : Replies old new said reply
   pub wrote : Appends out_old out_new (reply_text reply)
 
@@ -130,7 +129,7 @@ IsOfRun (Played world) = IsPlayed world
 -- A frame is refused only for want of room, and a report is that of accepted journals.
 abbrev pub IsOfHonestSites : Reply → Type 0
 IsOfHonestSites (DeliveryReply (DeliveryRefused refused)) = IsWantOfRoom refused
-IsOfHonestSites (ReportReply edition verdict) = IsAccepted verdict
+IsOfHonestSites (ReportReply edition verdict) = IsAccepted verdict.value
 IsOfHonestSites reply = ⊤
 
 -- Of the bytes of a script the lines before the rest were answered by the text, and led to the game. The world of each

@@ -16,4 +16,4 @@ reply_text (Topology fault) = codes "topology " ++ decimal (fault_number fault) 
 reply_text (Step step) = step_text step ++ codes "\n"
 reply_text (Delivery delivery) = delivery_text delivery ++ codes "\n"
 reply_text (Severance severance) = severance_text severance ++ codes "\n"
-reply_text (Report edition verdict) = verdict_text edition verdict
+reply_text (Report edition verdict) = verdict_text edition verdict.value

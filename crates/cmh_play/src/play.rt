@@ -10,21 +10,22 @@ ghost use Rattle.cmh_files.specs.Status.{IsStatus};
 use crate::keeper::{Keeper, NoKeeper};
 use crate::reply::Reply;
 use cmh_files::Fault;
-use cmh_frames::{Edition, SiteRow};
+use cmh_frames::{Edition, ProcId, SiteId, SiteRow};
+use cmh_model::Event;
 use cmh_playground::{Draft, Playground};
-use cmh_script::{Ahead, Command, Device, Line, NextLine, WriteFault, parse, read_line};
+use cmh_script::{Ahead, Command, Input, Line, NextLine, Output, WriteFault, parse, read_line};
 use std::alloc::{AllocError, Global};
-use std::io::{Read, Write};
+use std::io::{BufRead, Write};
 
 /// Plays a script, and answers the status of the program: 0 at the script's end, 1 where memory ran out, 3 where the
 /// script can't be read or the answers can't be written. A fault is named on `err`, and a write to it that fails is
 /// ignored. Each answer is flushed before the command waits for more of the script. The lines before a fault are answered, of which the
 /// contract says no more than that nothing else is written.
-pub fn run_play<R: Read + Ahead, W: Write, E: Write>(
+pub fn run_play<R: BufRead + Ahead, W: Write, E: Write>(
     alloc: Global,
-    input: &mut Device<R>,
-    out: &mut Device<W>,
-    err: &mut Device<E>,
+    input: &mut Input<R>,
+    out: &mut Output<W>,
+    err: &mut Output<E>,
 ) -> u8
     ensures status { IsStatus result }
 
@@ -44,11 +45,11 @@ pub fn run_play<R: Read + Ahead, W: Write, E: Write>(
 
 /// The same, where the journals of all sites are kept: before each report is written, and at the script's end, once all
 /// answers are flushed. A keeper that fails ends the command with its fault.
-pub fn run_play_keeping<R: Read + Ahead, W: Write, E: Write, K: Keeper>(
+pub fn run_play_keeping<R: BufRead + Ahead, W: Write, E: Write, K: Keeper>(
     alloc: Global,
-    input: &mut Device<R>,
-    out: &mut Device<W>,
-    err: &mut Device<E>,
+    input: &mut Input<R>,
+    out: &mut Output<W>,
+    err: &mut Output<E>,
     keeper: &mut K,
 ) -> u8
     ensures status { IsStatus result }
@@ -71,10 +72,10 @@ pub fn run_play_keeping<R: Read + Ahead, W: Write, E: Write, K: Keeper>(
     }
 }
 
-fn play<R: Read + Ahead, W: Write, K: Keeper>(
+fn play<R: BufRead + Ahead, W: Write, K: Keeper>(
     alloc: Global,
-    input: &mut Device<R>,
-    out: &mut Device<W>,
+    input: &mut Input<R>,
+    out: &mut Output<W>,
     keeper: &mut K,
 ) -> Result<(), Fault>
     ensures answers { IfSome (R.remaining input.old.inner) (λ bytes. AnsweredAndKept K.keeps bytes
@@ -93,11 +94,11 @@ fn play<R: Read + Ahead, W: Write, K: Keeper>(
 }
 
 /// Reads and answers line after line.
-fn answer_all<R: Read + Ahead, W: Write, K: Keeper>(
+fn answer_all<R: BufRead + Ahead, W: Write, K: Keeper>(
     alloc: Global,
     game: &mut Game,
-    input: &mut Device<R>,
-    out: &mut Device<W>,
+    input: &mut Input<R>,
+    out: &mut Output<W>,
     keeper: &mut K,
 ) -> Result<(), Fault>
     requires { IsNewGame game.old }
@@ -108,19 +109,19 @@ fn answer_all<R: Read + Ahead, W: Write, K: Keeper>(
     ensures fault { IfErr result (IsKeptPlayFault K.fails (R.remaining input.old.inner) input.new.has_failed
         out.new.has_failed) }
 {
-    let mut line = Vec::new(alloc);
+    let mut buffer = Vec::new(alloc);
     for turn in 0..u64::MAX {
-        let next = read_line(input, &mut line)?;
+        let next = read_line(input, &mut buffer)?;
         if next.is_end() {
             return Ok(());
         }
-        game.answer_line(alloc, next, &line, input.has_line(), out, keeper)?;
+        game.answer_line(alloc, next, input.has_line(), out, keeper)?;
     }
     Err(Fault::Input)
 }
 
 /// Flushes the answers so far, but where a whole line is at hand: its answer is flushed with them.
-fn flush_awaited<W: Write>(out: &mut Device<W>, has_line: bool) -> Result<(), WriteFault>
+fn flush_awaited<W: Write>(out: &mut Output<W>, has_line: bool) -> Result<(), WriteFault>
     ensures bytes { Keeps (W.contents out.old.inner) (W.contents out.new.inner) }
     ensures ok { OnOk result (out.new.has_failed ≡ out.old.has_failed) }
     ensures flushed { has_line ≡ false → OnOk result (out.new.is_flushed ≡ true) }
@@ -130,11 +131,11 @@ fn flush_awaited<W: Write>(out: &mut Device<W>, has_line: bool) -> Result<(), Wr
 }
 
 /// What a line says; one that is too long is a bad one.
-fn said_by(alloc: Global, next: NextLine, line: &[u8]) -> Result<Line, AllocError>
-    ensures { IfOk result (IsSaidBy next line.now) }
+fn said_by(alloc: Global, next: NextLine<'_>) -> Result<Line, AllocError>
+    ensures { IfOk result (IsSaidBy next.entry) }
 {
     match next {
-        NextLine::Line => parse(alloc, line),
+        NextLine::Line(line) => parse(alloc, line),
         NextLine::TooLong | NextLine::End => Ok(Line::Bad),
     }
 }
@@ -154,6 +155,8 @@ impl Game {
     }
 
     /// Keeps the journals of the world; of a draft those of its sites, which are empty.
+    #[cold]
+    #[inline(never)]
     fn keep<K: Keeper>(&self, alloc: Global, keeper: &mut K) -> Result<(), Fault>
         ensures kept { OnOk result (KeepsWorld K.keeps self.now keeper.old keeper.new) }
         ensures fault { IfErr result (λ fault. (fault ≡ Fault.Memory) ⊎ K.fails fault) }
@@ -183,18 +186,17 @@ impl Game {
     fn answer_line<W: Write, K: Keeper>(
         &mut self,
         alloc: Global,
-        next: NextLine,
-        line: &[u8],
+        next: NextLine<'_>,
         has_line: bool,
-        out: &mut Device<W>,
+        out: &mut Output<W>,
         keeper: &mut K,
     ) -> Result<(), Fault>
-        ensures answers { OnOk result (AnswersAndKeeps K.keeps self.old self.new next line.now
-            (W.contents out.old.inner) (W.contents out.new.inner) keeper.old keeper.new) }
+        ensures answers { OnOk result (AnswersAndKeeps K.keeps self.old self.new next.entry (W.contents out.old.inner)
+            (W.contents out.new.inner) keeper.old keeper.new) }
         ensures fault { IfErr result (IsUnanswered K.fails (W.contents out.old.inner)
             (W.contents out.new.inner) out.new.has_failed) }
     {
-        let said = said_by(alloc, next, line)?;
+        let said = said_by(alloc, next)?;
         let reply = self.answer(alloc, said)?;
         self.keep_for(alloc, &reply, keeper)?;
         out.write_text(&reply)?;
@@ -202,19 +204,21 @@ impl Game {
         Ok(())
     }
 
-    fn answer(&mut self, alloc: Global, line: Line) -> Result<Reply, Fault>
-        ensures replies { IfOk result (Replies self.old self.new line) }
-        ensures fault { OnErr result (result ≡ Err Fault.Memory) }
+    /// What a line does, and its reply. What is done seldom is never inlined: each line would pay for its large values.
+    fn answer(&mut self, alloc: Global, line: Line) -> Result<Reply, AllocError>
+        ensures { IfOk result (Replies self.old self.new line) }
     {
         match line {
             Line::Silent => Ok(Reply::Silent),
             Line::Bad => Ok(Reply::BadLine),
-            Line::Edition(edition) => Ok(self.set_edition(edition)?),
-            Line::Site(row) => Ok(self.add(row)?),
+            Line::Edition(edition) => self.set_edition(edition),
+            Line::Site(row) => self.add(row),
             Line::Command(command) => self.command(alloc, command),
         }
     }
 
+    #[cold]
+    #[inline(never)]
     fn set_edition(&mut self, edition: Edition) -> Result<Reply, AllocError>
         ensures { IfOk result (SetsEdition self.old self.new edition) }
     {
@@ -227,6 +231,8 @@ impl Game {
         }
     }
 
+    #[cold]
+    #[inline(never)]
     fn add(&mut self, row: SiteRow) -> Result<Reply, AllocError>
         ensures { IfOk result (AddsSite self.old self.new row) }
     {
@@ -239,10 +245,20 @@ impl Game {
         }
     }
 
-    /// The first command closes the draft.
-    fn command(&mut self, alloc: Global, command: Command) -> Result<Reply, Fault>
-        ensures done { IfOk result (Commands self.old self.new command) }
-        ensures fault { OnErr result (result ≡ Err Fault.Memory) }
+    fn command(&mut self, alloc: Global, command: Command) -> Result<Reply, AllocError>
+        ensures { IfOk result (Commands self.old self.new command) }
+    {
+        match self {
+            Game::Played(world) => carry_out(alloc, world, command),
+            Game::Named(_) => self.first_command(alloc, command),
+        }
+    }
+
+    /// The first command closes the draft. It stands apart from the others since a new world is large.
+    #[cold]
+    #[inline(never)]
+    fn first_command(&mut self, alloc: Global, command: Command) -> Result<Reply, AllocError>
+        ensures { IfOk result (Commands self.old self.new command) }
     {
         match self {
             Game::Played(world) => carry_out(alloc, world, command),
@@ -256,14 +272,42 @@ impl Game {
     }
 }
 
-fn carry_out(alloc: Global, world: &mut Playground, command: Command) -> Result<Reply, Fault>
-    ensures done { IfOk result (CarriesOut world.old world.new command) }
-    ensures fault { OnErr result (result ≡ Err Fault.Memory) }
+/// Each command that is usual has a function of its own, which is never inlined: in one function their replies would be
+/// copied from place to place.
+#[inline(always)]
+fn carry_out(alloc: Global, world: &mut Playground, command: Command) -> Result<Reply, AllocError>
+    ensures { IfOk result (CarriesOut world.old world.new command) }
 {
     match command {
-        Command::Act { process, event } => Ok(Reply::Step(world.act(process, event)?)),
-        Command::Deliver { from, to } => Ok(Reply::Delivery(world.deliver(from, to)?)),
+        Command::Act { process, event } => act(world, process, event),
+        Command::Deliver { from, to } => deliver(world, from, to),
         Command::Cut { from, to } => Ok(Reply::Severance(world.cut(from, to)?)),
-        Command::Report => Ok(Reply::Report(world.edition(), world.audit(alloc)?)),
+        Command::Report => report(alloc, world),
     }
+}
+
+#[inline(never)]
+fn act(world: &mut Playground, process: ProcId, event: Event) -> Result<Reply, AllocError>
+    ensures { IfOk result (CarriesOut world.old world.new (Command.Act process event)) }
+{
+    Ok(Reply::Step(world.act(process, event)?))
+}
+
+#[inline(never)]
+fn deliver(world: &mut Playground, from: SiteId, to: SiteId) -> Result<Reply, AllocError>
+    ensures { IfOk result (CarriesOut world.old world.new (Command.Deliver from to)) }
+{
+    Ok(Reply::Delivery(world.deliver(from, to)?))
+}
+
+/// The report on a world. It stands apart from the other commands since a verdict is large.
+#[cold]
+#[inline(never)]
+fn report(alloc: Global, world: &Playground) -> Result<Reply, AllocError>
+    ensures { IfOk result (CarriesOut world.now world.now Command.Report) }
+{
+    let Ok(verdict) = world.audit(alloc) else {
+        return Err(AllocError);
+    };
+    Ok(Reply::Report(world.edition(), Box::new(alloc, verdict)?))
 }

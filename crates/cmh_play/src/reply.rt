@@ -9,7 +9,7 @@ use cmh_frames::{Edition, TopologyFault};
 use cmh_playground::{Delivery, Severance, Step};
 use std::fmt;
 
-/// What is written for a line of a script.
+/// What is written for a line of a script. A verdict is boxed, so that the reply to any other line is small.
 #[derive(Debug, Drop)]
 pub enum Reply {
     /// Nothing: the line is empty or a comment.
@@ -24,7 +24,7 @@ pub enum Reply {
     Delivery(Delivery),
     Severance(Severance),
     /// The lines of the verdict on a world of this edition.
-    Report(Edition, Verdict),
+    Report(Edition, Box<Verdict>),
 }
 
 impl fmt::Display for Reply {

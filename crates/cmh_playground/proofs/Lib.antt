@@ -7,3 +7,4 @@ pub mod Sendings
 pub mod Takings
 pub mod Worlds
 pub mod PlayedRuns
+pub mod Places

@@ -1,20 +1,17 @@
 -- What is done to a world that is played makes its run longer.
-use Rattle.std.proofs.Common.{◌≡◌, ◌≢◌, ℕ, Bool, true, false, true≢false, ◌&&◌, ◌==◌, if◌then◌else◌, List, [], ◌∷◌, ◌++◌, drop, Option, None, Some, refl, sym, ap, subst, ◌∙◌, inl, inr, append-nil, append_assoc}
+use Rattle.std.proofs.Common.{◌≡◌, ◌≢◌, ℕ, Bool, true, false, true≢false, ◌&&◌, ◌==◌, if◌then◌else◌, List, [], ◌∷◌, ◌++◌, Option, None, Some, refl, sym, ap, subst, ◌∙◌, inl, inr, append-nil}
 use Rattle.std.specs.Prelude.{MatchOption, ⊤}
 use Rattle.std.proofs.lemmas.Bool.{cases_eq, cases_Bool, eq-eqb, ne_eqb, and_parts, eqb-true}
-use Rattle.std.proofs.lemmas.List.{append_cancel_left}
 use Rattle.cmh_frames.specs.declared.frame.Frame.{Frame}
-use Rattle.cmh_frames.specs.Topology.{Topology, home}
+use Rattle.cmh_frames.specs.Topology.{home}
 use Rattle.cmh_model.specs.declared.event.Event.{Event}
 use Rattle.cmh_model.specs.declared.event.Event.TheVariants.{Ask, Reply, Start, Got}
-use Rattle.cmh_model.specs.declared.journal.Entry.{Entry}
 use Rattle.cmh_model.specs.declared.journal.WorldEvent.{WorldEvent}
 use Rattle.cmh_model.specs.Journals.{value, frames_to, frame_from}
 use Rattle.cmh_model.specs.Rules.{Accepts, Sends}
 use Rattle.cmh_model.specs.Runs.{IsRun, IsBeginningOf, entries_of, under_way}
 use Rattle.cmh_model.specs.Settling.{is_delivery}
 use Rattle.cmh_model.proofs.Choices.{if_same}
-use Rattle.cmh_model.proofs.Journals.{sent_on, got_on}
 use Rattle.cmh_model.proofs.LongerRuns.{run_first, run_longer}
 use Rattle.cmh_world.proofs.Delivered.{first_accepted}
 use Rattle.cmh_world.proofs.RunsSoFar.{one_step}
@@ -25,7 +22,6 @@ use Rattle.cmh_audit.specs.Verdicts.{IsAccepted, IsVerdictOn}
 use Rattle.cmh_audit.specs.declared.verdict.Verdict.{Verdict}
 use Rattle.cmh_audit.proofs.RunLemmas.{entries_of_same, entries_of_other}
 use Rattle.cmh_playground.proofs.Deliveries.{ends_differ}
-use Rattle.cmh_playground.specs.declared.playground.Playground.{Playground}
 use Rattle.cmh_playground.specs.declared.playground.Delivery.{Delivery}
 use Rattle.cmh_playground.specs.declared.playground.Delivery.TheVariants.{BadLink, Closed, Empty, Refused as DeliveryRefused, Got as Got_frame}
 use Rattle.cmh_playground.specs.declared.playground.Severance.{Severance}
@@ -36,7 +32,7 @@ use Rattle.cmh_playground.specs.declared.site.Refused.TheVariants.{Full, Rule}
 use Rattle.cmh_playground.specs.declared.site.Step.{Step}
 use Rattle.cmh_playground.specs.declared.site.Step.TheVariants.{Taken, Refused as StepRefused}
 use Rattle.cmh_playground.specs.Links.{link_of, link_after, goes, next_of, with_all, without_first}
-use Rattle.cmh_playground.specs.Playground.{entries_at, link_at, Moves, WorldSteps, Delivers, IsUntouched, IsWorldStep, IsStepOf, IsDelivery, IsSeverance}
+use Rattle.cmh_playground.specs.Playground.{Playground, entries_at, link_at, Moves, WorldSteps, Delivers, IsUntouched, IsWorldStep, IsStepOf, IsDelivery, IsSeverance}
 use Rattle.cmh_playground.specs.Runs.{IsRunOf, IsPlayed, IsWantOfRoom}
 
 -- the frames of a link, where it is not cut
@@ -247,5 +243,5 @@ refused_for_room old new a b (Rule refusal) is (events, of) = go refusal is.2.2.
     go Memory h = tt
 
 -- and the journals are accepted
-pub accepted_report : (world : Playground) (verdict : Verdict) → IsVerdictOn world.topology world.journals.items verdict → IsPlayed world → IsAccepted verdict
+pub accepted_report : (world : Playground) (verdict : Verdict) → IsVerdictOn world.topology world.journals verdict → IsPlayed world → IsAccepted verdict
 accepted_report world verdict v (events, of) = v.accepted.1 (events, of.run, of.comes)

@@ -1,21 +1,20 @@
 -- The journals of a world, one for each site, and what becomes of them where one grows.
-use Rattle.std.proofs.Common.{◌≡◌, ◌≢◌, ℕ, zero, suc, ◌+◌, ◌<◌, ◌==◌, ◌||◌, true, false, true≢false, ⊎_elim, List, [], ◌∷◌, length, map, set, get_or, refl, sym, ap, subst, ◌∙◌, arith}
+use Rattle.std.proofs.Common.{◌≡◌, ◌≢◌, ℕ, zero, suc, ◌+◌, ◌<◌, ◌==◌, ◌||◌, true, false, true≢false, List, [], ◌∷◌, length, map, set, get_or, refl, sym, ap, subst, ◌∙◌, arith}
 use Rattle.std.specs.Prelude.{All, Contains, if◌then◌else◌}
 use Rattle.std.specs.List.{list_any}
 use Rattle.std.specs.List.Sorted.{IsStrictlyIncreasing}
-use Rattle.std.proofs.lemmas.Bool.{cases_eq, ne_eqb}
+use Rattle.std.proofs.lemmas.Bool.{ne_eqb}
 use Rattle.std.proofs.lemmas.List.{map-set, set-get_or, get_or-set_same, length-set, length-map, get_or-map, get_or_default}
 use Rattle.std.proofs.lemmas.List.Elements.{All-set}
 use Rattle.cmh_model.proofs.Members.{increasing_tail}
 use Rattle.cmh_frames.specs.Topology.{Topology, sites_of, is_site}
-use Rattle.cmh_model.specs.declared.journal.Entry.{Entry}
 use Rattle.cmh_model.specs.Journals.{IsLawful}
 use Rattle.cmh_controller.specs.Controller.{Controller}
 use Rattle.cmh_journal.specs.Journal.{Journal}
 use Rattle.cmh_audit.specs.Journals.{journal_of, NoneAt, OneEach}
 use Rattle.cmh_audit.specs.Set.{IsSet}
 use Rattle.cmh_audit.proofs.CountLemmas.{journal_here}
-use Rattle.cmh_playground.specs.Sites.{controller_of, IsStanding, ArePlaced, AreOfEdition, AreLawful, ArePlayed}
+use Rattle.cmh_playground.specs.Sites.{controller_of, IsStanding, ArePlaced, AreOfEdition, AreStanding}
 
 abbrev site_in : Journal → ℕ
 site_in j = j.site
@@ -75,10 +74,9 @@ others_stay (x ∷ js) (suc i) w l same q apart =
     ap (λ es. if x.site == q then x.entries else es) (others_stay js i w (omega (arith, l)) same q apart)
 
 -- the i-th journal and its controller become others of the same site
-module _ (t : Topology) (cs : List Controller) (js : List Journal) (up : IsStrictlyIncreasing (sites_of t)) (placed : ArePlaced t js) (edition : AreOfEdition t js) (lawful : AreLawful t js)
-    (played : ArePlayed t cs js) (i : ℕ) (l : i < length js) where
+module _ (t : Topology) (cs : List Controller) (js : List Journal) (world : AreStanding t cs js) (i : ℕ) (l : i < length js) where
   ascend : (xs : List Journal) → map site_in xs ≡ map site_in js → OneEach xs
-  ascend xs same = one_each xs (subst (λ (ss : List ℕ). IsStrictlyIncreasing ss) (sym (same ∙ placed)) up)
+  ascend xs same = one_each xs (subst (λ (ss : List ℕ). IsStrictlyIncreasing ss) (sym (same ∙ world.placed)) world.ascending)
 
   -- the entries of the journal at its place are those of its site
   pub seat_entries : (j : Journal) → j ≡ get_or js i j → journal_of js j.site ≡ j.entries
@@ -86,9 +84,9 @@ module _ (t : Topology) (cs : List Controller) (js : List Journal) (up : IsStric
 
   pub standing : (c : Controller) (j : Journal) → c ≡ get_or cs i c → j ≡ get_or js i j → IsStanding t c j
   standing c j c_here here = record {
-    edition = ap (λ (x : Journal). x.edition) here ∙ edition i j l;
-    lawful = subst (λ (es : List Entry). ∥ IsLawful t j.site es ∥₁) (seat_entries j here) (lawful j.site);
-    wrote = c_here ∙ ap (λ (xs : List Controller). get_or xs i c) played ∙ get_or-map (controller_of t) js i j c l ∙ ap (controller_of t) (sym here);
+    edition = ap (λ (x : Journal). x.edition) here ∙ world.edition i j l;
+    lawful = subst (λ (x : Journal). IsLawful t x.site x.entries) (sym here) (world.lawful i j l);
+    wrote = c_here ∙ ap (λ (xs : List Controller). get_or xs i c) world.played ∙ get_or-map (controller_of t) js i j c l ∙ ap (controller_of t) (sym here);
   }
 
   module _ (c : Controller) (w : Journal) (same : w.site ≡ (get_or js i w).site) (stands : IsStanding t c w) where
@@ -96,17 +94,11 @@ module _ (t : Topology) (cs : List Controller) (js : List Journal) (up : IsStric
     new_entries =
         journal_here (set js i w) i w (ascend (set js i w) (sites_stay js i w l same)) (let n = length-set js i w in omega (arith, l, n)) (sym (get_or-set_same js i w w l))
 
-    pub placed_after : ArePlaced t (set js i w)
-    placed_after = sites_stay js i w l same ∙ placed
-
-    pub edition_after : AreOfEdition t (set js i w)
-    edition_after = All-set (λ (j : Journal). j.edition ≡ t.edition) js i w stands.edition edition
-
-    pub lawful_after : AreLawful t (set js i w)
-    lawful_after q = ⊎_elim
-        (λ (e : w.site ≡ q). subst (λ (s : ℕ). ∥ IsLawful t s (journal_of (set js i w) s) ∥₁) e (subst (λ (es : List Entry). ∥ IsLawful t w.site es ∥₁) (sym new_entries) stands.lawful))
-        (λ (ne : w.site ≢ q). subst (λ (es : List Entry). ∥ IsLawful t q es ∥₁) (sym (others_stay js i w l same q (λ e. ne (sym e)))) (lawful q))
-        (cases_eq w.site q)
-
-    pub played_after : ArePlayed t (set cs i c) (set js i w)
-    played_after = ap (λ (xs : List Controller). set xs i c) played ∙ ap (set (map (controller_of t) js) i) stands.wrote ∙ sym (map-set (controller_of t) js i w)
+    pub standing_after : AreStanding t (set cs i c) (set js i w)
+    standing_after = record {
+      ascending = world.ascending;
+      placed = sites_stay js i w l same ∙ world.placed;
+      edition = All-set (λ (j : Journal). j.edition ≡ t.edition) js i w stands.edition world.edition;
+      lawful = All-set (λ (j : Journal). IsLawful t j.site j.entries) js i w stands.lawful world.lawful;
+      played = ap (λ (xs : List Controller). set xs i c) world.played ∙ ap (set (map (controller_of t) js) i) stands.wrote ∙ sym (map-set (controller_of t) js i w);
+    }

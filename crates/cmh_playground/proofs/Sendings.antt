@@ -5,7 +5,7 @@ use Rattle.std.specs.Prelude.{if◌then◌else◌}
 use Rattle.std.proofs.lemmas.Bool.{eqb-true}
 use Rattle.cmh_frames.specs.declared.frame.Frame.{Frame}
 use Rattle.cmh_model.specs.Journals.{frames_to}
-use Rattle.cmh_playground.specs.Links.{Row, link_of, with_last, with_all, link_after}
+use Rattle.cmh_playground.specs.Links.{Links, link_of, with_last, with_all, link_after}
 
 frames_to-more : (b : ℕ) (xs : List (ℕ × Frame)) (to : ℕ) (frame : Frame) → frames_to b (xs ++ (to, frame) ∷ []) ≡ frames_to b xs ++ (if to == b then frame ∷ [] else [])
 frames_to-more b [] to frame = one (to == b)
@@ -30,7 +30,7 @@ with_all-none None = refl
 with_all-none (Some frames) = ap Some (append-nil frames)
 
 -- nothing was sent
-pub link_after-none : (links : List Row) (s a b : ℕ) → link_of links a b ≡ link_after links s [] a b
+pub link_after-none : (links : Links) (s a b : ℕ) → link_of links a b ≡ link_after links s [] a b
 link_after-none links s a b = go (s == a)
   where
     go : (t : Bool) → link_of links a b ≡ (if t then with_all (link_of links a b) [] else link_of links a b)
@@ -45,7 +45,7 @@ grown true false link sent frame = ap (with_all link) (append-nil sent)
 grown false there link sent frame = refl
 
 -- one frame more was sent
-pub link_after-more : (links : List Row) (s : ℕ) (xs : List (ℕ × Frame)) (to : ℕ) (frame : Frame) (a b : ℕ)
+pub link_after-more : (links : Links) (s : ℕ) (xs : List (ℕ × Frame)) (to : ℕ) (frame : Frame) (a b : ℕ)
     → (if (s == a) && (to == b) then with_last (link_after links s xs s to) frame else link_after links s xs a b) ≡ link_after links s (xs ++ (to, frame) ∷ []) a b
 link_after-more links s xs to frame a b =
     same (s == a) (to == b) (λ e. eqb-true s a e) (λ e. eqb-true to b e)

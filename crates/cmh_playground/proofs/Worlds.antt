@@ -7,12 +7,11 @@ use Rattle.cmh_model.specs.declared.event.Event.{Event}
 use Rattle.cmh_controller.specs.Controller.{Controller}
 use Rattle.cmh_journal.specs.Journal.{Journal}
 use Rattle.cmh_audit.specs.Journals.{journal_of}
-use Rattle.cmh_playground.specs.declared.playground.Playground.{Playground}
 use Rattle.cmh_playground.specs.declared.site.Step.{Step}
 use Rattle.cmh_playground.specs.declared.site.Step.TheVariants.{Taken, Refused}
 use Rattle.cmh_playground.specs.Links.{link_of}
-use Rattle.cmh_playground.specs.Sites.{IsStanding, IsTaken}
-use Rattle.cmh_playground.specs.Playground.{entries_at, IsWorldStep}
+use Rattle.cmh_playground.specs.Sites.{AreStanding, IsStanding, IsTaken}
+use Rattle.cmh_playground.specs.Playground.{Playground, entries_at, IsWorldStep}
 use Rattle.cmh_playground.proofs.Seats.{seat_entries, new_entries, others_stay}
 
 -- the site is as it is, but for its entries
@@ -37,18 +36,18 @@ pub same_site : (js : List Journal) (i : ℕ) (l : i < length js) (j w : Journal
 same_site js i l j w here same = same ∙ ap (λ (x : Journal). x.site) (here ∙ get_or_default js i j w l)
 
 -- the journal at place i, that of the site s, became w
-pub step_in : (old new : Playground) (s i : ℕ) (l : i < length old.journals.items) (c : Controller) (j w : Journal) (event : Event) → j ≡ get_or old.journals.items i j → j.site ≡ s → w.site ≡ j.site
-    → IsStanding old.topology c w → new.topology ≡ old.topology → new.journals.items ≡ set old.journals.items i w
+pub step_in : (old new : Playground) (cs : List Controller) (s i : ℕ) (l : i < length old.journals) (c : Controller) (j w : Journal) (event : Event) → AreStanding old.topology cs old.journals
+    → j ≡ get_or old.journals i j → j.site ≡ s → w.site ≡ j.site
+    → IsStanding old.topology c w → new.topology ≡ old.topology → new.journals ≡ set old.journals i w
     → (step : Step) → IsTaken old.topology j.site j.entries w.entries old.links new.links event step → IsWorldStep old new s event step
-step_in old new s i l c j w event here site same stands topology journals step taken =
-    let js = old.journals.items in
-    let cs = old.controllers.items in
+step_in old new cs s i l c j w event world here site same stands topology journals step taken =
+    let js = old.journals in
     let placed_same = same_site js i l j w here same in
     taken_in old new s w.entries event topology
     (ap (λ (xs : List Journal). journal_of xs s) journals
-    ∙ subst (λ (q : ℕ). journal_of (set js i w) q ≡ w.entries) (same ∙ site) (new_entries old.topology cs js old.ascending old.placed old.edition old.lawful old.played i l c w placed_same stands))
+    ∙ subst (λ (q : ℕ). journal_of (set js i w) q ≡ w.entries) (same ∙ site) (new_entries old.topology cs js world i l c w placed_same stands))
     (λ q apart. ap (λ (xs : List Journal). journal_of xs q) journals ∙ others_stay js i w l placed_same q (λ e. apart (e ∙ same ∙ site)))
     step
     (subst (λ (q : ℕ). IsTaken old.topology q (journal_of js q) w.entries old.links new.links event step) site
     (subst (λ (es : List Entry). IsTaken old.topology j.site es w.entries old.links new.links event step)
-    (sym (seat_entries old.topology cs js old.ascending old.placed old.edition old.lawful old.played i l j here)) taken))
+    (sym (seat_entries old.topology cs js world i l j here)) taken))

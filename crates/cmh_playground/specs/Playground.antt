@@ -1,7 +1,7 @@
 -- A world that is played: the journals of its sites, what is under way on its links, and what each call does to them.
 use Rattle.std.specs.Prelude.{◌≡◌, ◌≢◌, ℕ, Bool, true, ◌&&◌, not, ◌==◌, List, [], ◌∷◌, ◌++◌, length, if◌then◌else◌, Option, None, Some, MatchOption, false}
 use Rattle.cmh_frames.specs.declared.frame.Frame.{Frame}
-use Rattle.cmh_frames.specs.Topology.{home, is_site}
+use Rattle.cmh_frames.specs.Topology.{Topology, home, is_site}
 use Rattle.cmh_model.specs.declared.event.Event.{Event}
 use Rattle.cmh_model.specs.declared.event.Event.TheVariants.{Got}
 use Rattle.cmh_model.specs.declared.journal.Entry.{Entry}
@@ -9,11 +9,11 @@ use Rattle.cmh_model.specs.Journals.{value}
 use Rattle.cmh_model.specs.Rules.{Accepts, Sends}
 use Rattle.cmh_model.specs.State.{State}
 use Rattle.cmh_controller.specs.declared.refusal.Refusal.TheVariants.{UnknownProcess}
+use Rattle.cmh_journal.specs.Journal.{Journal}
 use Rattle.cmh_audit.specs.Journals.{journal_of}
-use Rattle.cmh_playground.specs.Links.{link_of, link_after, goes, next_of, without_first}
+use Rattle.cmh_playground.specs.Links.{Links, link_of, link_after, goes, next_of, without_first}
 use Rattle.cmh_playground.specs.Sites.{IsReasonOf}
 use Rattle.cmh_playground.specs.declared.site.Done.{Done}
-use Rattle.cmh_playground.specs.declared.playground.Playground.{Playground}
 use Rattle.cmh_playground.specs.declared.site.Refused.{Refused}
 use Rattle.cmh_playground.specs.declared.site.Refused.TheVariants.{Rule}
 use Rattle.cmh_playground.specs.declared.site.Step.{Step}
@@ -23,9 +23,15 @@ use Rattle.cmh_playground.specs.declared.playground.Delivery.TheVariants.{BadLin
 use Rattle.cmh_playground.specs.declared.playground.Severance.{Severance}
 use Rattle.cmh_playground.specs.declared.playground.Severance.TheVariants.{BadLink as NoLink, Closed as CutBefore, Lost}
 
+-- a world that is played
+pub record Playground : Type 0 where
+  pub topology : Topology
+  pub journals : List Journal
+  pub links : Links
+
 -- what the journal of a site holds; nothing, where there is no such site
 abbrev pub entries_at : Playground → ℕ → List Entry
-entries_at world s = journal_of world.journals.items s
+entries_at world s = journal_of world.journals s
 
 -- the state of a site's controller
 abbrev pub state_at : Playground → ℕ → State

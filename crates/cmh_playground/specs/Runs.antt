@@ -3,8 +3,7 @@ use Rattle.std.specs.Prelude.{◌≡◌, ℕ, List, MatchOption, ⊤}
 use Rattle.cmh_model.specs.declared.journal.WorldEvent.{WorldEvent}
 use Rattle.cmh_model.specs.Runs.{IsRun, ComesFrom, under_way}
 use Rattle.cmh_controller.specs.declared.refusal.Refusal.TheVariants.{Memory}
-use Rattle.cmh_playground.specs.Playground.{entries_at, link_at}
-use Rattle.cmh_playground.specs.declared.playground.Playground.{Playground}
+use Rattle.cmh_playground.specs.Playground.{Playground, entries_at, link_at}
 use Rattle.cmh_playground.specs.declared.site.Refused.{Refused}
 use Rattle.cmh_playground.specs.declared.site.Refused.TheVariants.{Full, Rule}
 

@@ -1,5 +1,6 @@
 -- The sites of a world that is played.
 use Rattle.std.specs.Prelude.{◌≡◌, ℕ, ◌<◌, List, [], ◌∷◌, ◌++◌, length, map, All}
+use Rattle.std.specs.List.Sorted.{IsStrictlyIncreasing}
 use Rattle.cmh_frames.specs.declared.frame.Frame.{Frame}
 use Rattle.cmh_frames.specs.Topology.{Topology, sites_of}
 use Rattle.cmh_model.specs.declared.event.Event.{Event}
@@ -9,8 +10,8 @@ use Rattle.cmh_model.specs.Rules.{Accepts, Sends}
 use Rattle.cmh_controller.specs.Controller.{Controller}
 use Rattle.cmh_controller.specs.Refusals.{Refuses, number_of as refusal_number}
 use Rattle.cmh_journal.specs.Journal.{Journal, entry_limit}
-use Rattle.cmh_audit.specs.Journals.{journal_of}
-use Rattle.cmh_playground.specs.Links.{Row, link_of, link_after}
+use Rattle.cmh_audit.specs.Journals.{AreAllLawful}
+use Rattle.cmh_playground.specs.Links.{Links, link_of, link_after}
 use Rattle.cmh_playground.specs.declared.site.Done.{Done}
 use Rattle.cmh_playground.specs.declared.site.Refused.{Refused}
 use Rattle.cmh_playground.specs.declared.site.Refused.TheVariants.{Full, Rule}
@@ -24,7 +25,7 @@ controller_of t j = record { topology = t; site = j.site; state = value t j.site
 -- A controller and the journal that it wrote.
 pub record IsStanding (t : Topology) (c : Controller) (j : Journal) : Type 0 where
   pub edition : j.edition ≡ t.edition
-  pub lawful : ∥ IsLawful t j.site j.entries ∥₁
+  pub lawful : IsLawful t j.site j.entries
   pub wrote : c ≡ controller_of t j
 
 -- ---- of all sites
@@ -36,13 +37,17 @@ ArePlaced t js = map (λ (j : Journal). j.site) js ≡ sites_of t
 abbrev pub AreOfEdition : Topology → List Journal → Type 0
 AreOfEdition t js = All (λ (j : Journal). j.edition ≡ t.edition) js
 
--- each is a journal of its site's written controller
-abbrev pub AreLawful : Topology → List Journal → Type 0
-AreLawful t js = (s : ℕ) → ∥ IsLawful t s (journal_of js s) ∥₁
-
 -- each controller wrote the journal at its place
 abbrev pub ArePlayed : Topology → List Controller → List Journal → Type 0
 ArePlayed t cs js = cs ≡ map (controller_of t) js
+
+-- what holds of all sites of a world, whatever steps were taken
+pub record AreStanding (t : Topology) (cs : List Controller) (js : List Journal) : Type 0 where
+  pub ascending : IsStrictlyIncreasing (sites_of t)
+  pub placed : ArePlaced t js
+  pub edition : AreOfEdition t js
+  pub lawful : AreAllLawful t js
+  pub played : ArePlayed t cs js
 
 -- ---- a step of one site
 
@@ -53,7 +58,7 @@ IsReasonOf t s entries event (Rule refusal) =
     (length entries < entry_limit) × Refuses t s (value t s entries) event refusal
 
 -- the controller took the event by the rules, its journal has the entry behind the others, its frames are on the links
-pub record Takes (t : Topology) (s : ℕ) (before later : List Entry) (links after : List Row) (event : Event)
+pub record Takes (t : Topology) (s : ℕ) (before later : List Entry) (links after : Links) (event : Event)
     (done : Done) : Type 0 where
   pub sent : List (ℕ × Frame)
   pub accepted : Accepts t s (value t s before) event
@@ -63,7 +68,7 @@ pub record Takes (t : Topology) (s : ℕ) (before later : List Entry) (links aft
   pub links_are : (a b : ℕ) → link_of after a b ≡ link_after links s sent a b
 
 -- what came of an event
-abbrev pub IsTaken : Topology → ℕ → List Entry → List Entry → List Row → List Row → Event → Step → Type 0
+abbrev pub IsTaken : Topology → ℕ → List Entry → List Entry → Links → Links → Event → Step → Type 0
 IsTaken t s before later links after event (Taken done) = Takes t s before later links after event done
 IsTaken t s before later links after event (StepRefused refused) =
     (later ≡ before) × (after ≡ links) × IsReasonOf t s before event refused

@@ -5,7 +5,7 @@ ghost use Rattle.cmh_playground.specs.Links.{is_cut, link_of, next_of, with_last
 
 use cmh_frames::{Frame, SiteId};
 use std::alloc::{AllocError, Global};
-use std::collections::{BTreeMap, VecDeque};
+use std::collections::BTreeSet;
 use std::marker::Model;
 
 /// The sites that a link goes from and to.
@@ -15,94 +15,21 @@ struct Ends {
     to: SiteId,
 }
 
-/// The frames under way on a link, oldest first; none of them, for good, once the link is cut.
-#[derive(Debug, Drop)]
-struct Link {
-    frames: Option<VecDeque<Frame>>,
-}
-
-impl Model for Link {
-    ghost use Rattle.std.specs.Prelude.{List, Option};
-    ghost use Rattle.std.specs.Option.{option_map};
-    ghost use Rattle.cmh_frames.specs.declared.frame.Frame.{Frame};
-
-    ghost Value = { Option (List Frame) };
-
-    ghost view = { λ l. option_map (λ q. q.items) l.frames };
-}
-
-impl Link {
-    fn new(alloc: Global) -> Self
-        ensures { result ≡ Some [] }
-    {
-        Link {
-            frames: Some(VecDeque::new(alloc)),
-        }
-    }
-
-    fn is_cut(&self) -> bool
-        ensures { result ≡ is_cut self.now }
-    {
-        self.frames.is_none()
-    }
-
-    fn len(&self) -> usize
-        ensures { MatchOption self.now (result ≡ 0) (λ frames. result ≡ length frames) }
-    {
-        match &self.frames {
-            Some(frames) => frames.len(),
-            None => 0,
-        }
-    }
-
-    fn front(&self) -> Option<Frame>
-        ensures { result ≡ next_of self.now }
-    {
-        match &self.frames {
-            Some(frames) => frames.front().copied(),
-            None => None,
-        }
-    }
-
-    fn send(&mut self, frame: Frame) -> Result<(), AllocError>
-        ensures ok { OnOk result (self.new ≡ with_last self.old frame) }
-        ensures err { OnErr result (self.new ≡ self.old) }
-    {
-        if let Some(frames) = &mut self.frames {
-            frames.push_back(frame)?;
-        }
-        Ok(())
-    }
-
-    fn drop_front(&mut self)
-        ensures { self.new ≡ without_first self.old }
-    {
-        if let Some(frames) = &mut self.frames {
-            let _ = frames.pop_front();
-        }
-    }
-
-    fn cut(&mut self)
-        ensures { self.new ≡ None }
-    {
-        self.frames = None;
-    }
-}
-
 /// The links of a world, each with the frames under way on it. A link that was never used is open and empty.
 #[derive(Debug, Drop)]
 pub struct Links {
-    alloc: Global,
-    by_ends: BTreeMap<Ends, Link>,
+    under_way: cmh_world::Links,
+
+    /// The links that are cut, for good: nothing is under way on them.
+    cut: BTreeSet<Ends>,
 }
 
 impl Model for Links {
-    ghost use Rattle.std.specs.Prelude.{List};
-    ghost use Rattle.cmh_playground.specs.Links.{Row};
+    ghost use Rattle.cmh_playground.specs.Links as spec;
 
-    ghost Value = { List Row };
+    ghost Value = { spec.Links };
 
-    ghost view = { λ l. l.by_ends.entries };
+    ghost view = { λ l. (l.under_way, l.cut.keys) };
 }
 
 impl Links {
@@ -111,38 +38,35 @@ impl Links {
         ensures { (a b : ℕ) → link_of result a b ≡ Some [] }
     {
         Links {
-            alloc,
-            by_ends: BTreeMap::new(alloc),
+            under_way: cmh_world::Links::new(alloc),
+            cut: BTreeSet::new(alloc),
         }
     }
 
     pub fn is_cut(&self, from: SiteId, to: SiteId) -> bool
         ensures { result ≡ is_cut (link_of self.now from to) }
     {
-        match self.by_ends.get(&Ends { from, to }) {
-            Some(link) => link.is_cut(),
-            None => false,
-        }
+        self.cut.contains(&Ends { from, to })
     }
 
     /// The oldest frame under way.
     pub fn front(&self, from: SiteId, to: SiteId) -> Option<Frame>
         ensures { result ≡ next_of (link_of self.now from to) }
     {
-        match self.by_ends.get(&Ends { from, to }) {
-            Some(link) => link.front(),
-            None => None,
+        if self.cut.contains(&Ends { from, to }) {
+            return None;
         }
+        self.under_way.front(from, to)
     }
 
     /// How many frames are under way.
     pub fn len(&self, from: SiteId, to: SiteId) -> usize
         ensures { MatchOption (link_of self.now from to) (result ≡ 0) (λ frames. result ≡ length frames) }
     {
-        match self.by_ends.get(&Ends { from, to }) {
-            Some(link) => link.len(),
-            None => 0,
+        if self.cut.contains(&Ends { from, to }) {
+            return 0;
         }
+        self.under_way.len(from, to)
     }
 
     /// Puts a frame behind those under way; a cut link loses it.
@@ -151,15 +75,10 @@ impl Links {
             (with_last (link_of self.old from to) frame)) }
         ensures err { OnErr result (SameLinks self.old self.new) }
     {
-        match self.by_ends.get_mut(&Ends { from, to }) {
-            Some(link) => link.send(frame),
-            None => {
-                let mut link = Link::new(self.alloc);
-                link.send(frame)?;
-                self.by_ends.insert(Ends { from, to }, link)?;
-                Ok(())
-            }
+        if self.cut.contains(&Ends { from, to }) {
+            return Ok(());
         }
+        self.under_way.send(from, to, frame)
     }
 
     /// Takes the oldest frame off the link, if there is one.
@@ -167,8 +86,8 @@ impl Links {
         ensures { ChangesLink self.old self.new from to
             (without_first (link_of self.old from to)) }
     {
-        if let Some(link) = self.by_ends.get_mut(&Ends { from, to }) {
-            link.drop_front();
+        if !self.cut.contains(&Ends { from, to }) {
+            let _ = self.under_way.receive(from, to);
         }
     }
 
@@ -177,17 +96,8 @@ impl Links {
         ensures ok { OnOk result (ChangesLink self.old self.new from to None) }
         ensures err { OnErr result (SameLinks self.old self.new) }
     {
-        match self.by_ends.get_mut(&Ends { from, to }) {
-            Some(link) => {
-                link.cut();
-                Ok(())
-            }
-            None => {
-                let mut link = Link::new(self.alloc);
-                link.cut();
-                self.by_ends.insert(Ends { from, to }, link)?;
-                Ok(())
-            }
-        }
+        self.cut.insert(Ends { from, to })?;
+        self.under_way.clear(from, to);
+        Ok(())
     }
 }

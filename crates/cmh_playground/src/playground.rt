@@ -1,21 +1,21 @@
 //! A world that is played: the controllers of all its sites with their journals, and the links between them.
 
-ghost use Rattle.std.specs.Prelude.{◌≡◌, ℕ, true, [], IfOk, OnOk, List, Some};
-ghost use Rattle.std.specs.List.Sorted.{IsStrictlyIncreasing};
-ghost use Rattle.cmh_frames.specs.Topology.{is_site, sites_of};
+ghost use Rattle.std.specs.Prelude.{◌≡◌, ◌<◌, ℕ, true, [], IfOk, OnOk, List, Some, length, HoldsAt};
+ghost use Rattle.cmh_journal.specs.Journal as journal;
+ghost use Rattle.cmh_frames.specs.Topology.{is_site};
 ghost use Rattle.cmh_playground.specs.Links.{link_of, link_after};
-ghost use Rattle.cmh_playground.specs.Sites.{AreLawful, AreOfEdition, ArePlaced, ArePlayed};
 ghost use Rattle.cmh_playground.specs.Texts as texts;
 
 use crate::links::Links;
 use crate::site::{Done, Refused, Step, take};
-use cmh_audit::{AuditMemory, Verdict, audit, place_of};
+use cmh_audit::{AuditMemory, Verdict, audit_lawful};
 use cmh_controller::{Controller, Refusal};
 use cmh_frames::{Edition, Frame, ProcId, SiteId, Topology};
 use cmh_journal::Journal;
 use cmh_model::Event;
 use std::alloc::{AllocError, Global};
 use std::fmt;
+use std::marker::Model;
 
 /// A world that is played: of each site its controller and the journal of its steps, both in the order of the topology,
 /// and the links between the sites.
@@ -25,11 +25,21 @@ pub struct Playground {
     controllers: Vec<Controller>,
     journals: Vec<Journal>,
     links: Links,
-    ghost ascending: { IsStrictlyIncreasing (sites_of topology) },
-    ghost placed: { ArePlaced topology journals.items },
-    ghost edition: { AreOfEdition topology journals.items },
-    ghost lawful: { AreLawful topology journals.items },
-    ghost played: { ArePlayed topology controllers.items journals.items },
+}
+
+impl Model for Playground {
+    ghost use Rattle.cmh_playground.specs.Playground as spec;
+    ghost use Rattle.cmh_playground.specs.Sites.{AreStanding};
+
+    ghost Value = { spec.Playground };
+
+    ghost view = { λ w. record {
+      topology = w.topology;
+      journals = w.journals.items;
+      links = w.links;
+    } };
+
+    ghost invariant = { λ w. AreStanding w.topology w.controllers.items w.journals.items };
 }
 
 /// What came of handing over the next frame of a link.
@@ -118,7 +128,7 @@ impl Playground {
 
     /// The journals of all sites, in the order of the topology.
     pub fn journals(&self) -> &[Journal]
-        ensures { result.now ≡ self.now.journals.items }
+        ensures { result.now ≡ self.now.journals }
     {
         &self.journals
     }
@@ -182,10 +192,7 @@ impl Playground {
         requires { is_site self.old.topology site ≡ true }
         ensures { IfOk result (IsWorldStep self.old self.new site event) }
     {
-        let Some(place) = place_of(&self.journals, site) else {
-            // Each site of the topology has its journal here.
-            unreachable!()
-        };
+        let place = self.place(site);
         take(
             &self.topology,
             &mut self.controllers[place],
@@ -195,11 +202,25 @@ impl Playground {
         )
     }
 
-    /// Audits the journals as they stand. The only error is want of memory.
-    pub fn audit(&self, alloc: Global) -> Result<Verdict, AuditMemory>
-        ensures { IfOk result (IsVerdictOn self.now.topology self.now.journals.items) }
+    /// Where the controller and the journal of a site stand.
+    fn place(&self, site: SiteId) -> usize
+        requires { is_site self.now.topology site ≡ true }
+        ensures within { result < length self.now.journals }
+        ensures site { HoldsAt (λ (j : journal.Journal). j.site ≡ site) self.now.journals result }
     {
-        audit(alloc, &self.topology, &self.journals)
+        let Ok(place) = self.topology.sites().binary_search(&site) else {
+            // Each site of the topology has its journal here.
+            unreachable!()
+        };
+        place
+    }
+
+    /// Audits the journals as they stand: what the controllers wrote is lawful, so none is replayed. The only error is
+    /// want of memory.
+    pub fn audit(&self, alloc: Global) -> Result<Verdict, AuditMemory>
+        ensures { IfOk result (IsVerdictOn self.now.topology self.now.journals) }
+    {
+        audit_lawful(alloc, &self.topology, &self.journals)
     }
 }
 

@@ -112,14 +112,9 @@ pub fn take(
                 declared: outcome.declared,
             };
             let sending = send_all(links, journal.site(), outcome.sent.as_slice());
-            match journal.push(entry_of(event, outcome)) {
-                Ok(()) => {
-                    sending?;
-                    Ok(Step::Taken(done))
-                }
-                // Never so: there is room for it.
-                Err(_) => Err(AllocError),
-            }
+            journal.push_reserved(entry_of(event, outcome));
+            sending?;
+            Ok(Step::Taken(done))
         }
         Err(refusal) => Ok(Step::Refused(Refused::Rule(refusal))),
     }

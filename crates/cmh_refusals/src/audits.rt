@@ -6,7 +6,7 @@ use crate::sheet::Sheet;
 use cmh_audit::{AuditMemory, Report, Verdict, audit, check_set};
 use cmh_frames::{Edition, Topology};
 use cmh_journal::Journal;
-use cmh_site::{Device, run_audit};
+use cmh_site::{Output, run_audit};
 use cmh_worlds::{AUDITS, RUNS, STARTING, World};
 use std::alloc::Global;
 
@@ -123,8 +123,8 @@ fn write_audit(alloc: Global, world: &World, files: &[Vec<u8>]) -> Result<(u8, S
         alloc,
         world.topology.as_bytes(),
         files,
-        &mut Device::new(&mut out),
-        &mut Device::new(&mut err),
+        &mut Output::new(&mut out),
+        &mut Output::new(&mut err),
     );
     Ok((status, Sheet { out, err }))
 }

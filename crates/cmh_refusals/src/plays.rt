@@ -2,7 +2,7 @@
 
 use crate::failure::{Failure, expect};
 use crate::sheet::Sheet;
-use cmh_site::{Device, run_play};
+use cmh_site::{Input, Output, run_play};
 use cmh_worlds::{SEVERAL_SITES, Script};
 use std::alloc::Global;
 
@@ -32,9 +32,9 @@ fn play_one(alloc: Global, script: &Script) -> Result<(u8, Sheet), Failure> {
     let Sheet { mut out, mut err } = Sheet::new(alloc)?;
     let status = run_play(
         alloc,
-        &mut Device::new(script.lines.as_bytes()),
-        &mut Device::new(&mut out),
-        &mut Device::new(&mut err),
+        &mut Input::new(script.lines.as_bytes()),
+        &mut Output::new(&mut out),
+        &mut Output::new(&mut err),
     );
     Ok((status, Sheet { out, err }))
 }

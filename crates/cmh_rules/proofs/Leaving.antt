@@ -1,23 +1,26 @@
 -- The waits that leave a site, collected process by process.
-use Rattle.std.proofs.Common.{inl, inr, zero, suc, ◌≡◌, ◌↔◌, ℕ, ◌+◌, ◌<◌, false, true, true≢false, List, [], ◌∷◌, ◌++◌, length, get_or, map, refl, sym, ap, ◌∙◌, subst, arith, Contains, Less, nat_cmp, take, not, ◌&&◌}
+use Rattle.std.proofs.Common.{inl, inr, zero, suc, ◌≡◌, ◌↔◌, ℕ, ◌+◌, ◌<◌, false, true, true≢false, List, [], ◌∷◌, ◌++◌, length, get_or, map, refl, sym, ap, ◌∙◌, subst, arith, Contains, Less, nat_cmp, not, ◌&&◌}
 use Rattle.std.specs.List.{AllByRecursion}
 use Rattle.std.specs.List.Sorted.{IsStrictlySortedBy, IsStrictlyIncreasing}
 use Rattle.std.specs.Ordering.{ordering_then}
 use Rattle.std.specs.Cmp.{nat_cmp_is, nat_cmp_total, tied_itself}
 use Rattle.std.proofs.lemmas.Bool.{and_from}
-use Rattle.std.proofs.lemmas.List.{map-append, take_more}
+use Rattle.std.proofs.lemmas.List.{map-append}
 use Rattle.std.proofs.lemmas.List.Elements.{Contains-push, Contains-append_left, Contains-append_right, Contains-append_cases}
 use Rattle.cmh_model.proofs.Members.{no_member, increasing_tail}
 use Rattle.cmh_frames.specs.declared.frame.Frame.{Frame}
 use Rattle.cmh_frames.specs.declared.frame.Frame.TheVariants.{Probe}
 use Rattle.cmh_model.specs.Relation.{Relation, pair_cmp, has, has_some}
-use Rattle.cmh_model.proofs.PathLemmas.{path_ends_here}
 use Rattle.cmh_waits.specs.Held.{Held, is_member, IsMember}
-use Rattle.cmh_rules.specs.Verdicts.{AreProbesOf, AreProbesFrom, Reaches, acts, probe_along}
+use Rattle.cmh_waits.specs.Rows.{is_set}
+use Rattle.cmh_dependents.specs.Marks.{IsMarked}
+use Rattle.cmh_dependents.proofs.Marked.{AreMarkedBelow, none_below, skip_member, take_member, all_below}
+use Rattle.std.proofs.lemmas.Map.Keys.{sorted_from_strictly_increasing, below_from_sorted}
+use Rattle.cmh_rules.specs.Verdicts.{AreProbesOf, acts, probe_along}
 use Rattle.cmh_frames.proofs.Each.{all_append}
 use Rattle.cmh_model.proofs.Ascending.{head_below}
 
-pub none_yet : (v : Held) (origin : ℕ) → AreProbesOf v origin [] []
+pub none_yet : (v : Held) (origin : ℕ) → AreProbesOf v origin (λ q. Contains [] q) []
 unfolding IsStrictlySortedBy
 none_yet v origin = record {
   edges = [];
@@ -28,7 +31,7 @@ none_yet v origin = record {
 
 -- ---- two lists in order, the first below the second
 
-sorted_append : (xs ys : List (ℕ × ℕ)) → IsStrictlySortedBy pair_cmp xs → IsStrictlySortedBy pair_cmp ys → ((x : ℕ × ℕ) → Contains xs x → AllByRecursion (λ y. pair_cmp x y ≡ Less) ys) → IsStrictlySortedBy pair_cmp (xs ++ ys)
+pub sorted_append : (xs ys : List (ℕ × ℕ)) → IsStrictlySortedBy pair_cmp xs → IsStrictlySortedBy pair_cmp ys → ((x : ℕ × ℕ) → Contains xs x → AllByRecursion (λ y. pair_cmp x y ≡ Less) ys) → IsStrictlySortedBy pair_cmp (xs ++ ys)
 unfolding IsStrictlySortedBy
 sorted_append [] ys a b below = b
 sorted_append (x ∷ xs) ys a b below =
@@ -42,7 +45,7 @@ lesser_first x y h = ap (λ r. ordering_then r (nat_cmp x.1 y.1)) (sym (nat_cmp_
 lesser_second : (p a b : ℕ) → a < b → pair_cmp (p, a) (p, b) ≡ Less
 lesser_second p a b h = ap (λ r. ordering_then r (nat_cmp a b)) (tied_itself nat_cmp_total p) ∙ sym (nat_cmp_is a b Less h)
 
-pairs_ascend : (p : ℕ) (xs : List ℕ) → IsStrictlyIncreasing xs → IsStrictlySortedBy pair_cmp (map (λ to. (p, to)) xs)
+pub pairs_ascend : (p : ℕ) (xs : List ℕ) → IsStrictlyIncreasing xs → IsStrictlySortedBy pair_cmp (map (λ to. (p, to)) xs)
 unfolding IsStrictlySortedBy
 pairs_ascend p [] up = tt
 pairs_ascend p (x ∷ xs) up = (each xs (head_below x xs up), pairs_ascend p xs (increasing_tail x xs up))
@@ -51,18 +54,18 @@ pairs_ascend p (x ∷ xs) up = (each xs (head_below x xs up), pairs_ascend p xs 
     each [] all = tt
     each (y ∷ ys) all = (lesser_second p x y all.0, each ys all.1)
 
-all_above : (q p b : ℕ) (xs : List ℕ) → q < p → AllByRecursion (λ y. pair_cmp (q, b) y ≡ Less) (map (λ to. (p, to)) xs)
+pub all_above : (q p b : ℕ) (xs : List ℕ) → q < p → AllByRecursion (λ y. pair_cmp (q, b) y ≡ Less) (map (λ to. (p, to)) xs)
 all_above q p b [] h = tt
 all_above q p b (x ∷ xs) h = (lesser_first (q, b) (p, x) h, all_above q p b xs h)
 
 -- ---- members of a list of pairs
 
-in_pairs : (p : ℕ) (xs : List ℕ) (k : ℕ) → Contains xs k → Contains {X = ℕ × ℕ} (map (λ to. (p, to)) xs) (p, k)
+pub in_pairs : (p : ℕ) (xs : List ℕ) (k : ℕ) → Contains xs k → Contains {X = ℕ × ℕ} (map (λ to. (p, to)) xs) (p, k)
 in_pairs p [] k c = absurd (no_member k c)
 in_pairs p (x ∷ xs) k (zero, h, e) = (0, omega arith, ap (λ y. (p, y)) e)
 in_pairs p (x ∷ xs) k (suc n, h, e) = let c = in_pairs p xs k (n, omega arith, e) in (suc c.0, (let h : c.0 < length (map (λ to. (p, to)) xs) = c.1 in omega arith), c.2)
 
-from_pairs : (p : ℕ) (xs : List ℕ) (e : ℕ × ℕ) → Contains (map (λ to. (p, to)) xs) e → (p ≡ e.0) × Contains xs e.1
+pub from_pairs : (p : ℕ) (xs : List ℕ) (e : ℕ × ℕ) → Contains (map (λ to. (p, to)) xs) e → (p ≡ e.0) × Contains xs e.1
 from_pairs p [] e c = absurd (no_member e c)
 from_pairs p (x ∷ xs) e (zero, h, i) = (ap (λ (y : ℕ × ℕ). y.0) i, (0, omega arith, ap (λ (y : ℕ × ℕ). y.1) i))
 from_pairs p (x ∷ xs) e (suc n, h, i) = let c = from_pairs p xs e (n, omega arith, i) in (c.0, (suc c.1.0, (let h : c.1.0 < length xs = c.1.1 in omega arith), c.1.2))
@@ -70,7 +73,7 @@ from_pairs p (x ∷ xs) e (suc n, h, i) = let c = from_pairs p xs e (n, omega ar
 -- ---- one more process
 
 -- the waits of one more process, whose number is greater
-pub more_probes : (v : Held) (processes : List ℕ) (p : ℕ) (targets : List ℕ) (origin : ℕ) (frames : List Frame) → ((q : ℕ) → Contains processes q → q < p) → IsStrictlyIncreasing targets → ((k : ℕ) → Contains targets k ↔ ((has v.waits p k ≡ true) × (is_member v k ≡ false))) → AreProbesOf v origin processes frames → AreProbesOf v origin (processes ++ p ∷ []) (frames ++ map (λ to. Probe (origin, p, to)) targets)
+pub more_probes : (v : Held) (processes : List ℕ) (p : ℕ) (targets : List ℕ) (origin : ℕ) (frames : List Frame) → ((q : ℕ) → Contains processes q → q < p) → IsStrictlyIncreasing targets → ((k : ℕ) → Contains targets k ↔ ((has v.waits p k ≡ true) × (is_member v k ≡ false))) → AreProbesOf v origin (λ q. Contains processes q) frames → AreProbesOf v origin (λ q. Contains (processes ++ p ∷ []) q) (frames ++ map (λ to. Probe (origin, p, to)) targets)
 more_probes v processes p targets origin frames below up each so_far =
     let new = map (λ to. (p, to)) targets in
     record {
@@ -102,9 +105,9 @@ more_probes v processes p targets origin frames below up each so_far =
     along_pairs [] = refl
     along_pairs (k ∷ ks) = ap (λ fs. Probe (origin, p, k) ∷ fs) (along_pairs ks)
 
--- of those that a process reaches, they are those of the rule
-pub probes_are : (v : Held) (reached : List ℕ) (origin from : ℕ) (frames : List Frame) → ((q : ℕ) → Contains reached q ↔ Reaches v from q) → AreProbesOf v origin reached frames → AreProbesFrom v origin from frames
-probes_are v reached origin from frames all p = record {
+-- they are the same of the same processes
+pub probes_of : (v : Held) (origin : ℕ) (Some Those : ℕ → Type 0) (frames : List Frame) → ((q : ℕ) → Some q ↔ Those q) → AreProbesOf v origin Some frames → AreProbesOf v origin Those frames
+probes_of v origin Some Those frames all p = record {
   edges = p.edges;
   ascending = p.ascending;
   all = λ edge. (
@@ -114,33 +117,42 @@ probes_are v reached origin from frames all p = record {
   are = p.are;
 }
 
--- ---- the processes in turn
+-- ---- the members in turn
 
--- all that a process reaches are members
-pub are_members : (v : Held) (reached : List ℕ) (from : ℕ) → ((q : ℕ) → Contains reached q ↔ Reaches v from q) → (p : ℕ) → Contains reached p → IsMember v p
-are_members v reached from all p found = let r = (all p).0 found in path_ends_here (λ q. IsMember v q) v.waits from r.1.0 p r.0 r.1.1
+-- the probes from the members before a place that are reached
+pub record ProbesBelow (v : Held) (origin places n : ℕ) (frames : List Frame) : Type 0 where
+  pub reached : List ℕ
+  pub marked : AreMarkedBelow v.members places n reached
+  pub probes : AreProbesOf v origin (λ q. Contains reached q) frames
+
+pub probes_begin : (v : Held) (origin places : ℕ) → ProbesBelow v origin places 0 []
+probes_begin v origin places = record { reached = []; marked = none_below v.members places; probes = none_yet v origin }
+
+module _ (v : Held) (origin places n : ℕ) (frames : List Frame) (so_far : ProbesBelow v origin places n frames) where
+  pub probes_skip : is_set places n ≡ false → ProbesBelow v origin places (n + 1) frames
+  probes_skip unmarked = record { reached = so_far.reached; marked = skip_member v.members places n so_far.reached unmarked so_far.marked; probes = so_far.probes }
+
+  pub probes_on : (p : ℕ) (targets : List ℕ) → IsStrictlyIncreasing v.members → n < length v.members → get_or v.members n 0 ≡ p → is_set places n ≡ true
+      → IsStrictlyIncreasing targets → ((k : ℕ) → Contains targets k ↔ ((has v.waits p k ≡ true) × (is_member v k ≡ false)))
+      → ProbesBelow v origin places (n + 1) (frames ++ map (λ to. Probe (origin, p, to)) targets)
+  probes_on p targets up inside is set ascending each =
+      let below : (q : ℕ) → Contains so_far.reached q → q < p = λ q c.
+      let m = so_far.marked.only q c in
+      let less : get_or v.members m.0 0 < get_or v.members n 0 = below_from_sorted v.members m.0 n 0 (sorted_from_strictly_increasing v.members up) m.1 inside in
+      let same : get_or v.members m.0 0 ≡ q = m.2 in
+      omega arith in
+      record {
+        reached = so_far.reached ++ p ∷ [];
+        marked = take_member v.members places n p so_far.reached up inside is set so_far.marked;
+        probes = more_probes v so_far.reached p targets origin frames below ascending each so_far.probes;
+      }
+
+  pub probes_end : n ≡ length v.members → AreProbesOf v origin (λ q. IsMarked v.members places q) frames
+  probes_end end = probes_of v origin (λ q. Contains so_far.reached q) (λ q. IsMarked v.members places q) frames (all_below v.members places n so_far.reached end so_far.marked).all so_far.probes
 
 -- a member is none of another site
 pub apart : (v : Held) (q to : ℕ) → IsMember v q → is_member v to ≡ false → q ≡ to → ⊥
 apart v q to here away e = true≢false (sym (subst (λ p. IsMember v p) e here) ∙ away)
-
--- those before a place are below the one there
-pub below_place : (xs : List ℕ) (i p : ℕ) → IsStrictlyIncreasing xs → i < length xs → p ≡ get_or xs i p → (q : ℕ) → Contains (take i xs) q → q < p
-below_place [] i p up h is q c = absurd (omega arith)
-below_place (x ∷ xs) zero p up h is q c = absurd (no_member q c)
-below_place (x ∷ xs) (suc i) p up h is q (zero, l, e) = subst (λ y. y < p) e (all_at xs i (head_below x xs up) (omega arith) is)
-  where
-    all_at : (ys : List ℕ) (k : ℕ) → AllByRecursion (λ y. x < y) ys → k < length ys → p ≡ get_or ys k p → x < p
-    all_at [] k all h is = absurd (omega arith)
-    all_at (y ∷ ys) zero all h is = subst (λ z. x < z) (sym is) all.0
-    all_at (y ∷ ys) (suc k) all h is = all_at ys k all.1 (omega arith) is
-below_place (x ∷ xs) (suc i) p up h is q (suc k, l, e) = below_place xs i p (increasing_tail x xs up) (omega arith) is q (k, omega arith, e)
-
-pub take_next : (xs : List ℕ) (i p : ℕ) → i < length xs → p ≡ get_or xs i p → take (i + 1) xs ≡ take i xs ++ p ∷ []
-take_next xs i p h is = take_more xs i p h ∙ ap (λ y. take i xs ++ y ∷ []) (sym is)
-
-pub at_place : (xs : List ℕ) (i p : ℕ) → i < length xs → p ≡ get_or xs i p → Contains xs p
-at_place xs i p h is = (i, h, sym is)
 
 -- a probe to a blocked process acts where that is not yet known to depend on the origin, and still owes the sender
 pub acts_where : (v : Held) (dependents : Relation) (origin from to : ℕ) → has_some v.waits to ≡ true → has dependents to origin ≡ false → has v.owed to from ≡ true → acts v dependents origin from to ≡ true

@@ -1,5 +1,5 @@
 -- What the rules say of a start and of a probe, in terms of what a site holds of its members.
-use Rattle.std.specs.Prelude.{◌≡◌, ℕ, Bool, true, false, List, Contains}
+use Rattle.std.specs.Prelude.{◌≡◌, ℕ, Bool, true, false, List}
 use Rattle.std.specs.FinSet as set
 use Rattle.cmh_frames.specs.declared.frame.Frame.{Frame}
 use Rattle.cmh_frames.specs.declared.frame.Frame.TheVariants.{Probe}
@@ -29,10 +29,10 @@ abbrev pub probe_along : ℕ → ℕ × ℕ → Frame
 probe_along origin edge = Probe (origin, edge.0, edge.1)
 
 -- the probes of `origin` along each wait that leaves the site from some of its members
-abbrev pub AreProbesOf : Held → ℕ → List ℕ → List Frame → Type 0
-AreProbesOf v origin processes frames =
+abbrev pub AreProbesOf : Held → ℕ → (ℕ → Type 0) → List Frame → Type 0
+AreProbesOf v origin Some frames =
     AreOneForEach (λ edge.
-    Contains processes edge.0 × (has v.waits edge.0 edge.1 ≡ true) × (is_member v edge.1 ≡ false)) (probe_along origin) frames
+    Some edge.0 × (has v.waits edge.0 edge.1 ≡ true) × (is_member v edge.1 ≡ false)) (probe_along origin) frames
 
 -- those along each wait that leaves the site from what `from` reaches
 abbrev pub AreProbesFrom : Held → ℕ → ℕ → List Frame → Type 0

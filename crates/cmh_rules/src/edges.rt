@@ -1,29 +1,29 @@
 //! The probes that leave a site.
 
 ghost use Rattle.std.specs.Prelude.{◌≡◌, ◌≢◌, ℕ, ◌++◌, map, IfOk, OnOk, Contains};
-ghost use Rattle.std.specs.List.Sorted.{IsStrictlyIncreasing};
-ghost use Rattle.cmh_waits.specs.Held.{IsMember};
+ghost use Rattle.cmh_dependents.specs.Marks.{IsMarked};
 ghost use Rattle.cmh_rules.specs.Verdicts.{AreProbesOf};
 
+use cmh_dependents::Reach;
 use cmh_frames::{Frame, Probe, ProcId};
 use cmh_waits::LocalWaits;
 use std::alloc::{AllocError, Global};
 
-/// The probes of the computation of `origin` along each wait that leaves the site from some of its processes.
+/// The probes of the computation of `origin` along each wait that leaves the site from the members that are reached.
 pub fn probes_along(
     alloc: Global,
     waits: &LocalWaits,
     origin: ProcId,
-    processes: &[ProcId],
+    reach: Reach,
 ) -> Result<Vec<Frame>, AllocError>
-    requires ascending { IsStrictlyIncreasing processes.now }
-    requires members { (p : ℕ) → Contains processes.now p → IsMember waits.now p }
-    ensures { IfOk result (λ frames. AreProbesOf waits.now origin processes.now frames.items) }
+    ensures { IfOk result (λ frames. AreProbesOf waits.now origin (λ p. IsMarked waits.now.members reach.places p)
+        frames.items) }
 {
     let mut frames = Vec::new(alloc);
-    for process in processes {
-        let targets = waits.remote_waits(alloc, *process)?;
-        push_probes(&mut frames, origin, *process, &targets)?;
+    for (place, process) in waits.members().iter().enumerate() {
+        if reach.has(place) {
+            push_probes(&mut frames, origin, *process, waits.remote_at(place))?;
+        }
     }
     Ok(frames)
 }

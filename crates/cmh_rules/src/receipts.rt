@@ -5,7 +5,7 @@ ghost use Rattle.cmh_waits.specs.Held.{IsMember};
 ghost use Rattle.cmh_rules.specs.Verdicts.{IsReceipt};
 
 use crate::edges::probes_along;
-use cmh_dependents::{DependentSets, local_reach};
+use cmh_dependents::{DependentSets, Reach};
 use cmh_frames::{Frame, ProcId};
 use cmh_waits::LocalWaits;
 use std::alloc::{AllocError, Global};
@@ -37,10 +37,10 @@ pub fn on_probe(
     if !waits.is_blocked(to) || dependents.has(to, origin) || !waits.owes(to, from) {
         return Ok(ProbeVerdict::Ignored);
     }
-    let reached = local_reach(alloc, waits, to)?;
-    if reached.contains(&origin) {
+    let reach = Reach::new(waits, to);
+    if reach.contains(waits, origin) {
         return Ok(ProbeVerdict::Declared(origin));
     }
-    let frames = probes_along(alloc, waits, origin, &reached)?;
+    let frames = probes_along(alloc, waits, origin, reach)?;
     Ok(ProbeVerdict::Forward(frames))
 }

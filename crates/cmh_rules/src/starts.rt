@@ -5,7 +5,7 @@ ghost use Rattle.cmh_waits.specs.Held.{IsMember};
 ghost use Rattle.cmh_rules.specs.Verdicts.{IsStart};
 
 use crate::edges::probes_along;
-use cmh_dependents::{leads_back, local_reach};
+use cmh_dependents::Reach;
 use cmh_frames::{Frame, ProcId};
 use cmh_waits::LocalWaits;
 use std::alloc::{AllocError, Global};
@@ -25,10 +25,10 @@ pub fn start(alloc: Global, waits: &LocalWaits, process: ProcId) -> Result<Start
     requires { IsMember waits.now process }
     ensures { IfOk result (IsStart waits.now process) }
 {
-    let reached = local_reach(alloc, waits, process)?;
-    if leads_back(waits, process, &reached) {
+    let reach = Reach::new(waits, process);
+    if reach.on_cycle {
         return Ok(StartVerdict::Declared);
     }
-    let frames = probes_along(alloc, waits, process, &reached)?;
+    let frames = probes_along(alloc, waits, process, reach)?;
     Ok(StartVerdict::Send(frames))
 }

@@ -9,7 +9,7 @@ use Rattle.cmh_script.specs.Lines.{IsNextLine, IsEndless, IsLineFault}
 use Rattle.cmh_script.specs.declared.lines.LineFault.{LineFault}
 use Rattle.cmh_script.specs.declared.lines.LineFault.TheVariants.{Input as NoInput, Memory as NoSpace}
 use Rattle.cmh_script.specs.declared.lines.NextLine.{NextLine}
-use Rattle.cmh_script.specs.declared.lines.NextLine.TheVariants.{Line, TooLong, End}
+use Rattle.cmh_script.specs.declared.lines.NextLine.TheVariants.{Line as Read, TooLong, End}
 use Rattle.cmh_files.specs.Faults.{of_line}
 use Rattle.cmh_files.specs.declared.faults.Fault.{Fault}
 use Rattle.cmh_files.specs.declared.faults.Fault.TheVariants.{TopologyFile, ScriptFile, OutFile, JournalFile, Json, Topology, Journal, Set, Site, JournalDisk, Listen, Input, Output, Memory}
@@ -20,13 +20,13 @@ use Rattle.cmh_running.specs.declared.dialogue.Flow.{Flow}
 use Rattle.cmh_running.specs.declared.dialogue.Flow.TheVariants.{Awaits, Ends}
 
 -- what was read is the first line, and there is one
-pub first_is : (bytes line : List ℕ) (next : NextLine) → IsNextLine bytes line next → next ≢ End → (0 < length bytes) × (line_of next line ≡ line_in bytes)
-first_is bytes line Line is more =
+pub first_is : (bytes : List ℕ) (next : NextLine) → IsNextLine bytes next → next ≢ End → (0 < length bytes) × (line_of next ≡ line_in bytes)
+first_is bytes (Read line) is more =
     let short : nat_lt 1024 (length (first_line bytes)) ≡ false = le-ltb 1024 (length (first_line bytes)) (subst (λ (l : List ℕ). length l ≤ 1024) is.1 is.2) in
     (is.0, ap Some is.1 ∙ sym (ap (λ (b : Bool). if b then None else Some (first_line bytes)) short))
-first_is bytes line TooLong is more =
+first_is bytes TooLong is more =
     (long_some bytes is, sym (ap (λ (b : Bool). if b then None else Some (first_line bytes)) (lt-ltb 1024 (length (first_line bytes)) is)))
-first_is bytes line End is more = absurd (more refl)
+first_is bytes End is more = absurd (more refl)
 
 -- n lines of the bytes were answered
 pub record TalkedSoFar (S : Type 0) (answers : S → S → Option (List ℕ) → List ℕ → Flow → Type 0) (first : S) (bytes : List ℕ)
@@ -55,14 +55,13 @@ module _ (S : Type 0) (answers : S → S → Option (List ℕ) → List ℕ → 
 
   module _ (now out : Option (List ℕ)) (last : S) (n : ℕ) (so_far : HasTalked S answers first start now old out last n) where
     -- one line more
-    pub talked_more : (after wrote : Option (List ℕ)) (next : NextLine) (line given : List ℕ) (later : S) (flow : Flow)
-        → IfSome now (λ bytes. IsNextLine bytes line next) → IfSome now (λ bytes. after ≡ Some (drop_through 10 bytes)) → next ≢ End → given ≡ line → flow ≡ Awaits
-        → HasAnswered (λ said text. answers last later said text flow) (line_of next given) out wrote → HasTalked S answers first start after old wrote later (n + 1)
-    talked_more after wrote next line given later flow is left more same awaits said = λ bytes e.
+    pub talked_more : (after wrote : Option (List ℕ)) (next : NextLine) (later : S) (flow : Flow)
+        → IfSome now (λ bytes. IsNextLine bytes next) → IfSome now (λ bytes. after ≡ Some (drop_through 10 bytes)) → next ≢ End → flow ≡ Awaits
+        → HasAnswered (λ said text. answers last later said text flow) (line_of next) out wrote → HasTalked S answers first start after old wrote later (n + 1)
+    talked_more after wrote next later flow is left more awaits said = λ bytes e.
         let s = so_far bytes e in
-        let answered = subst (λ (f : Flow). answers last later (line_of next line) said.text f) awaits
-        (subst (λ (l : List ℕ). answers last later (line_of next l) said.text flow) same said.answered) in
-        let one = first_is s.rest line next (at_some now (λ bytes. IsNextLine bytes line next) s.rest s.now_is is) more in
+        let answered = subst (λ (f : Flow). answers last later (line_of next) said.text f) awaits said.answered in
+        let one = first_is s.rest next (at_some now (λ bytes. IsNextLine bytes next) s.rest s.now_is is) more in
         let shorter = length-drop_through 10 s.rest one.0 in
         let counted = s.counted in
         record {
@@ -75,11 +74,11 @@ module _ (S : Type 0) (answers : S → S → Option (List ℕ) → List ℕ → 
         }
 
     -- no line is left
-    pub talked_all : (next : NextLine) (line : List ℕ) (has_failed : Bool) (done : Unit {0}) → IfSome now (λ bytes. IsNextLine bytes line next) → next ≡ End
+    pub talked_all : (next : NextLine) (has_failed : Bool) (done : Unit {0}) → IfSome now (λ bytes. IsNextLine bytes next) → next ≡ End
         → IfSome start (λ bytes. Conversed answers first bytes old out has_failed (Ok done))
-    talked_all next line has_failed done is ends = if_some start _ (λ bytes e.
+    talked_all next has_failed done is ends = if_some start _ (λ bytes e.
         let s = so_far bytes e in
-        let none : s.rest ≡ [] = subst (IsNextLine s.rest line) ends (at_some now (λ bytes. IsNextLine bytes line next) s.rest s.now_is is) in
+        let none : s.rest ≡ [] = subst (IsNextLine s.rest) ends (at_some now (λ bytes. IsNextLine bytes next) s.rest s.now_is is) in
         record {
           text = s.text;
           is = inl (record { last = last; dialogue = subst (λ (r : List ℕ). Dialogue S answers first bytes r s.text last) none s.dialogue });
@@ -87,15 +86,14 @@ module _ (S : Type 0) (answers : S → S → Option (List ℕ) → List ℕ → 
         })
 
     -- a line ends it
-    pub talked_to_end : (wrote : Option (List ℕ)) (next : NextLine) (line given : List ℕ) (later : S) (flow : Flow) (has_failed : Bool) (done : Unit {0})
-        → IfSome now (λ bytes. IsNextLine bytes line next) → next ≢ End → given ≡ line → flow ≡ Ends
-        → HasAnswered (λ said text. answers last later said text flow) (line_of next given) out wrote
+    pub talked_to_end : (wrote : Option (List ℕ)) (next : NextLine) (later : S) (flow : Flow) (has_failed : Bool) (done : Unit {0})
+        → IfSome now (λ bytes. IsNextLine bytes next) → next ≢ End → flow ≡ Ends
+        → HasAnswered (λ said text. answers last later said text flow) (line_of next) out wrote
         → IfSome start (λ bytes. Conversed answers first bytes old wrote has_failed (Ok done))
-    talked_to_end wrote next line given later flow has_failed done is more same over said = if_some start _ (λ bytes e.
+    talked_to_end wrote next later flow has_failed done is more over said = if_some start _ (λ bytes e.
         let s = so_far bytes e in
-        let answered = subst (λ (f : Flow). answers last later (line_of next line) said.text f) over
-        (subst (λ (l : List ℕ). answers last later (line_of next l) said.text flow) same said.answered) in
-        let one = first_is s.rest line next (at_some now (λ bytes. IsNextLine bytes line next) s.rest s.now_is is) more in
+        let answered = subst (λ (f : Flow). answers last later (line_of next) said.text f) over said.answered in
+        let one = first_is s.rest next (at_some now (λ bytes. IsNextLine bytes next) s.rest s.now_is is) more in
         record {
           text = s.text ++ said.text;
           is = inr (record {

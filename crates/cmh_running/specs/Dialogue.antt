@@ -4,16 +4,16 @@ use Rattle.std.specs.Io.BufRead.{first_line, drop_through}
 use Rattle.std.specs.Io.KnownBytes.{Appends}
 use Rattle.cmh_script.specs.Device.{Tells}
 use Rattle.cmh_script.specs.declared.lines.NextLine.{NextLine}
-use Rattle.cmh_script.specs.declared.lines.NextLine.TheVariants.{Line, TooLong, End}
+use Rattle.cmh_script.specs.declared.lines.NextLine.TheVariants.{Line as Read, TooLong, End}
 use Rattle.cmh_files.specs.declared.faults.Fault.{Fault}
 use Rattle.cmh_running.specs.declared.dialogue.Flow.{Flow}
 use Rattle.cmh_running.specs.declared.dialogue.Flow.TheVariants.{Awaits, Ends}
 
 -- what was read, unless it was too long
-abbrev pub line_of : NextLine → List ℕ → Option (List ℕ)
-line_of Line line = Some line
-line_of TooLong line = None
-line_of End line = None
+abbrev pub line_of : NextLine → Option (List ℕ)
+line_of (Read line) = Some line.now
+line_of TooLong = None
+line_of End = None
 
 -- the first line of the bytes, unless it has more than 1,024 of them
 abbrev pub line_in : List ℕ → Option (List ℕ)

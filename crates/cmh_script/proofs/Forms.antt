@@ -1,12 +1,12 @@
 -- The forms of lines.
 use Rattle.std.proofs.Common.{◌≡◌, ◌≢◌, ◌+◌, ◌==◌, ℕ, true, false, true≢false, List, [], ◌∷◌, length, Option, None, Some, refl, sym, ap, subst, ◌∙◌}
 use Rattle.std.specs.Prelude.{if◌then◌else◌, slice_index}
-use Rattle.cmh_script.specs.Script.{Spell, name_of, is_comment, AreSilent, Fits, IsLineOf, AreOf, IsFitted, Say}
+use Rattle.cmh_script.specs.Script.{Spell, name_of, is_comment, AreSilent, Fits, ReadsAll, AreOf, IsFitted, Say}
+use Rattle.cmh_script.specs.declared.script.Command.TheVariants.{Act, Deliver, Cut, Report}
 use Rattle.cmh_script.specs.declared.script.Form.{Form}
 use Rattle.cmh_script.specs.declared.script.Form.TheVariants.{Edition as EditionForm, Site as SiteForm, Ask as AskForm, Reply as ReplyForm, Start as StartForm, Deliver as DeliverForm, Cut as CutForm, Report as ReportForm}
 use Rattle.cmh_script.specs.declared.script.Line.{Line}
 use Rattle.cmh_script.specs.declared.script.Line.TheVariants.{Silent, Bad, Edition as Edition_line, Site, Command as Command_line}
-use Rattle.cmh_script.proofs.Spellings.{spell_unique}
 
 -- ---- a form has a name of its own
 
@@ -31,6 +31,28 @@ told ReportForm = refl
 
 name_unique : (one other : Form) → name_of one ≡ name_of other → one ≡ other
 name_unique one other same = sym (told one) ∙ ap (λ name. form_at (key name)) same ∙ told other
+
+-- ---- what is delivered and cut is a link
+
+pub deliver_link : (ns : List ℕ) (line : Line) → Fits DeliverForm ns line → (ends : ℕ × ℕ) × (ns ≡ ends.0 ∷ ends.1 ∷ [])
+deliver_link ns (Command_line (Deliver from to)) fits = ((from, to), fits)
+deliver_link ns (Command_line (Act process event)) fits = absurd fits
+deliver_link ns (Command_line (Cut from to)) fits = absurd fits
+deliver_link ns (Command_line Report) fits = absurd fits
+deliver_link ns Silent fits = absurd fits
+deliver_link ns Bad fits = absurd fits
+deliver_link ns (Edition_line edition) fits = absurd fits
+deliver_link ns (Site row) fits = absurd fits
+
+pub cut_link : (ns : List ℕ) (line : Line) → Fits CutForm ns line → (ends : ℕ × ℕ) × (ns ≡ ends.0 ∷ ends.1 ∷ [])
+cut_link ns (Command_line (Cut from to)) fits = ((from, to), fits)
+cut_link ns (Command_line (Act process event)) fits = absurd fits
+cut_link ns (Command_line (Deliver from to)) fits = absurd fits
+cut_link ns (Command_line Report) fits = absurd fits
+cut_link ns Silent fits = absurd fits
+cut_link ns Bad fits = absurd fits
+cut_link ns (Edition_line edition) fits = absurd fits
+cut_link ns (Site row) fits = absurd fits
 
 -- ---- no line, and the line, of a name and words
 
@@ -75,22 +97,22 @@ module _ (name : List ℕ) (behind : List (List ℕ)) where
   pub no_form : ((form : Form) → name ≢ name_of form) → IsFitted (name ∷ behind) None
   no_form none = λ line a. none a.form (name_is line a)
 
-  -- a word behind it spells no number
-  pub no_numbers : ((numbers : List ℕ) → Spell behind numbers → ⊥) → IsFitted (name ∷ behind) None
-  no_numbers none = λ line a. none a.numbers (spell_is line a)
-
-  pub fitted : (form : Form) (numbers : List ℕ) (line : Option Line) → name ≡ name_of form → Spell behind numbers → IsLineOf form numbers line → IsFitted (name ∷ behind) line
-  fitted form numbers None is spell none = λ line a.
+  -- the form has this name
+  pub fitted : (form : Form) (line : Option Line) → name ≡ name_of form → ReadsAll (Fits form) behind line → IsFitted (name ∷ behind) line
+  fitted form None is none = λ line a.
       let forms : a.form ≡ form = name_unique a.form form (sym (name_is line a) ∙ is) in
-      let same : a.numbers ≡ numbers = spell_unique behind a.numbers numbers (spell_is line a) spell in
-      none line (subst (λ (f : Form). Fits f numbers line) forms (subst (λ (ns : List ℕ). Fits a.form ns line) same a.fits))
-  fitted form numbers (Some line) is spell fits = record {
+      none line (record {
+        numbers = a.numbers;
+        spell = spell_is line a;
+        is_of = subst (λ (f : Form). Fits f a.numbers line) forms a.fits;
+      })
+  fitted form (Some line) is one = record {
     form = form;
     behind = behind;
-    numbers = numbers;
+    numbers = one.numbers;
     words_are = ap (λ (n : List ℕ). n ∷ behind) is;
-    spell = spell;
-    fits = fits;
+    spell = one.spell;
+    fits = one.is_of;
   }
 
   -- ---- a whole line

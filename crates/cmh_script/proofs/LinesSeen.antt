@@ -1,22 +1,22 @@
 -- What was read of a line so far.
-use Rattle.std.proofs.Common.{◌≡◌, ℕ, suc, zero, ◌+◌, ◌-◌, ◌^◌, ◌<◌, ◌≤◌, Bool, true, false, ◌&&◌, List, [], ◌∷◌, ◌++◌, Option, None, Some, ◌==◌, length, get_or, take, refl, sym, ap, subst, ◌∙◌, arith, inl, inr, nat_lt, length-append, length-take, append_assoc, true≢false}
-use Rattle.std.proofs.lemmas.List.{take_all, take-append-le}
+use Rattle.std.proofs.Common.{◌≡◌, ℕ, suc, zero, ◌+◌, ◌-◌, ◌^◌, min, ◌<◌, ◌≤◌, Bool, true, false, ◌&&◌, List, [], ◌∷◌, ◌++◌, Option, None, Some, ◌==◌, length, get_or, take, refl, sym, ap, subst, ◌∙◌, arith, inl, inr, nat_lt, length-append, length-take, append_assoc, true≢false}
+use Rattle.std.proofs.lemmas.List.{take_all, take-append-le, take_more}
+use native.Mathlib.Numerals.{unary_clauses}
 use Rattle.std.proofs.lemmas.Bool.{lt-ltb}
+use Rattle.std.proofs.lemmas.Bool.Decides.{leb_tells}
 use Rattle.std.specs.Prelude.{if◌then◌else◌, IfSome, ◌⊎◌}
 use Rattle.std.specs.Io.BufRead.{take_through, drop_through, ends_with_byte, strip_last, first_line}
 use Rattle.std.proofs.lemmas.List.{append-nil}
 use Rattle.cmh_script.specs.declared.lines.NextLine.{NextLine}
-use Rattle.cmh_script.specs.declared.lines.NextLine.TheVariants.{Line, TooLong, End}
-use Rattle.cmh_script.specs.Lines.{IsEndless, IsNextByte, Judges, JudgesAtEnd, IsNextLine}
+use Rattle.cmh_script.specs.declared.lines.NextLine.TheVariants.{Line as Read, TooLong, End}
+use Rattle.cmh_script.specs.declared.device.Piece.{Piece}
+use Rattle.cmh_script.specs.declared.device.Piece.TheVariants.{Fed, Unfed, End as End_piece}
+use Rattle.std.specs.Io.KnownBytes.{Consumes}
+use Rattle.cmh_script.specs.Lines.{NoFeed, IsPiece, IsEndless, Judges, JudgesAtEnd, IsNextLine}
 
--- no byte is a line feed
-abbrev pub NoFeed : List ℕ → Type 0
-NoFeed [] = Unit {0}
-NoFeed (b ∷ bs) = ((b == 10) ≡ false) × NoFeed bs
-
-no_feed-append : (xs : List ℕ) (b : ℕ) → NoFeed xs → (b == 10) ≡ false → NoFeed (xs ++ b ∷ [])
-no_feed-append [] b none h = (h, tt)
-no_feed-append (x ∷ xs) b none h = (none.0, no_feed-append xs b none.1 h)
+no_feed-append : (xs ys : List ℕ) → NoFeed xs → NoFeed ys → NoFeed (xs ++ ys)
+no_feed-append [] ys none none' = none'
+no_feed-append (x ∷ xs) ys none none' = (none.0, no_feed-append xs ys none.1 none')
 
 no_feed-at : (xs : List ℕ) (k : ℕ) → NoFeed xs → k < length xs → (get_or xs k 0 == 10) ≡ false
 no_feed-at [] k none below = absurd (omega arith)
@@ -94,26 +94,46 @@ length-strip_last b xs = go (ends_with_byte b xs)
     go true = let taken = length-take (length xs - 1) xs in omega arith
     go false = omega arith
 
--- of the bytes, these n were seen and those are left; the line keeps the first 1,025 of them
-pub record SeenOf (bytes : List ℕ) (now : Option (List ℕ)) (line : List ℕ) (is_cut : Bool) (n : ℕ) : Type 0 where
+-- ---- what a look at bytes shows
+
+-- the first bytes before a line feed, and that one
+pub no_feed-more : (xs : List ℕ) (k : ℕ) → k < length xs → NoFeed (take k xs) → (get_or xs k 0 == 10) ≡ false → NoFeed (take (k + 1) xs)
+no_feed-more xs k inside none h = subst NoFeed (sym (take_more xs k 0 inside)) (no_feed-append (take k xs) (get_or xs k 0 ∷ []) none (h, tt))
+
+-- ---- the first bytes of what comes in pieces
+take_on : (n : ℕ) (xs ys : List ℕ) → take n xs ++ take (n - length (take n xs)) ys ≡ take n (xs ++ ys)
+take_on zero xs ys = refl
+take_on (suc n) [] ys = simp unary_clauses refl
+take_on (suc n) (x ∷ xs) ys = simp unary_clauses (ap (λ zs. x ∷ zs) (take_on n xs ys))
+
+take_nil : (m : ℕ) → take {A = ℕ} m [] ≡ []
+take_nil zero = refl
+take_nil (suc m) = refl
+
+pub take_min : (m n : ℕ) (xs : List ℕ) → take (min n m) xs ≡ take m (take n xs)
+take_min m zero xs = simp unary_clauses (sym (take_nil m))
+take_min zero (suc n) xs = simp unary_clauses refl
+take_min (suc m) (suc n) [] = simp unary_clauses refl
+take_min (suc m) (suc n) (x ∷ xs) = simp unary_clauses (ap (λ ys. x ∷ ys) (take_min m n xs))
+
+-- of the bytes these were seen and those are left; the line keeps the first 1,026 that were seen
+pub record SeenOf (bytes : List ℕ) (now : Option (List ℕ)) (line : List ℕ) (n : ℕ) : Type 0 where
   pub seen : List ℕ
   pub left : List ℕ
   pub split : bytes ≡ seen ++ left
   pub now_is : now ≡ Some left
   pub no_feed : NoFeed seen
-  pub kept : line ≡ take 1025 seen
-  pub cut : is_cut ≡ true → 1025 < length seen
-  pub uncut : is_cut ≡ false → length seen ≤ 1025
-  pub counted : length seen ≡ n
+  pub kept : line ≡ take 1026 seen
+  pub counted : n ≤ length seen
 
 -- the same, where the reader tells its bytes
-abbrev pub HasSeen : Option (List ℕ) → Option (List ℕ) → List ℕ → Bool → ℕ → Type 0
-HasSeen start now line is_cut n = (bytes : List ℕ) → start ≡ Some bytes → SeenOf bytes now line is_cut n
+abbrev pub HasSeen : Option (List ℕ) → Option (List ℕ) → List ℕ → ℕ → Type 0
+HasSeen start now line n = (bytes : List ℕ) → start ≡ Some bytes → SeenOf bytes now line n
 
 -- who sees so many bytes has no end of them
-pub endless : (start now : Option (List ℕ)) (line : List ℕ) (is_cut : Bool) (n : ℕ) → HasSeen start now line is_cut n → 2 ^ 64 - 1 ≤ n → IsEndless start
-endless None now line is_cut n seen many = tt
-endless (Some bytes) now line is_cut n seen many =
+pub endless : (start now : Option (List ℕ)) (line : List ℕ) (n : ℕ) → HasSeen start now line n → 2 ^ 64 - 1 ≤ n → IsEndless start
+endless None now line n seen many = tt
+endless (Some bytes) now line n seen many =
     let s = seen bytes refl in
     let whole = ap length s.split ∙ length-append s.seen s.left in
     let counted = s.counted in
@@ -123,106 +143,103 @@ pub if_some : (o : Option (List ℕ)) (P : List ℕ → Type 0) → ((bytes : Li
 if_some None P f = tt
 if_some (Some bytes) P f = f bytes refl
 
-module _ (bytes : List ℕ) (now after : Option (List ℕ)) (line : List ℕ) (is_cut : Bool) (n : ℕ) (s : SeenOf bytes now line is_cut n) where
-  length-kept : length line ≡ length (take 1025 s.seen)
-  length-kept = ap length s.kept
+pub piece_of : (now after : Option (List ℕ)) (line grown : List ℕ) (piece is : Piece) → piece ≡ is
+    → IfSome now (λ left. IsPiece 1026 left line grown piece after) → IfSome now (λ left. IsPiece 1026 left line grown is after)
+piece_of now after line grown piece is e = subst (λ (p : Piece). IfSome now (λ left. IsPiece 1026 left line grown p after)) e
 
-  read : (next : Option ℕ) → IfSome now (λ left. IsNextByte left next after) → IsNextByte s.left next after
-  read next h = subst (λ (o : Option (List ℕ)). IfSome o (λ left. IsNextByte left next after)) s.now_is h
+module _ (bytes : List ℕ) (now after : Option (List ℕ)) (line grown : List ℕ) (n : ℕ) (s : SeenOf bytes now line n) where
+  read : (piece : Piece) → IfSome now (λ left. IsPiece 1026 left line grown piece after) → IsPiece 1026 s.left line grown piece after
+  read piece h = subst (λ (o : Option (List ℕ)). IfSome o (λ left. IsPiece 1026 left line grown piece after)) s.now_is h
 
-  short : length s.seen ≤ 1025 → line ≡ s.seen
-  short few = s.kept ∙ take_all 1025 s.seen few
+  kept_on : (seen : List ℕ) → grown ≡ line ++ take (1026 - length line) seen → grown ≡ take 1026 (s.seen ++ seen)
+  kept_on seen is = is ∙ ap (λ xs. xs ++ take (1026 - length xs) seen) s.kept ∙ take_on 1026 s.seen seen
 
-  -- one byte more is kept, or left out
-  pub seen_kept : (byte : ℕ) → IfSome now (λ left. IsNextByte left (Some byte) after) → (byte == 10) ≡ false → length line ≤ 1024 → SeenOf bytes after (line ++ byte ∷ []) is_cut (n + 1)
-  seen_kept byte h feed room =
-      let r = read (Some byte) h in
-      let lengths = length-kept in
-      let taken = length-take 1025 s.seen in
-      let few : length s.seen ≤ 1024 = omega arith in
-      let grown = length-append s.seen (byte ∷ []) in
-      let within : length (s.seen ++ byte ∷ []) ≤ 1025 = omega arith in
+  -- what stood ready is seen too
+  pub seen_more : IfSome now (λ left. IsPiece 1026 left line grown Unfed after) → SeenOf bytes after grown (n + 1)
+  seen_more h =
+      let r = read Unfed h in
+      let lengths = length-append s.seen r.0 in
+      let counted = s.counted in
       record {
-        seen = s.seen ++ byte ∷ [];
-        left = r.0;
-        split = s.split ∙ ap (λ xs. s.seen ++ xs) r.1 ∙ sym (append_assoc s.seen (byte ∷ []) r.0);
-        now_is = r.2;
-        no_feed = no_feed-append s.seen byte s.no_feed feed;
-        kept = ap (λ xs. xs ++ byte ∷ []) (short (omega arith)) ∙ sym (take_all 1025 (s.seen ++ byte ∷ []) within);
-        cut = λ c. let many = s.cut c in absurd (omega arith);
-        uncut = λ _. within;
-        counted = let counted = s.counted in omega (arith, grown, counted);
-      }
-
-  pub seen_left : (byte : ℕ) → IfSome now (λ left. IsNextByte left (Some byte) after) → (byte == 10) ≡ false → 1024 < length line → SeenOf bytes after line true (n + 1)
-  seen_left byte h feed full =
-      let r = read (Some byte) h in
-      let lengths = length-kept in
-      let taken = length-take 1025 s.seen in
-      let many : 1025 ≤ length s.seen = omega arith in
-      let grown = length-append s.seen (byte ∷ []) in
-      record {
-        seen = s.seen ++ byte ∷ [];
-        left = r.0;
-        split = s.split ∙ ap (λ xs. s.seen ++ xs) r.1 ∙ sym (append_assoc s.seen (byte ∷ []) r.0);
-        now_is = r.2;
-        no_feed = no_feed-append s.seen byte s.no_feed feed;
-        kept = s.kept ∙ sym (take-append-le 1025 s.seen (byte ∷ []) many);
-        cut = λ c. omega arith;
-        uncut = λ e. absurd (true≢false e);
-        counted = let counted = s.counted in omega (arith, grown, counted);
+        seen = s.seen ++ r.0;
+        left = r.1;
+        split = s.split ∙ ap (λ xs. s.seen ++ xs) r.4 ∙ sym (append_assoc s.seen r.0 r.1);
+        now_is = r.5;
+        no_feed = no_feed-append s.seen r.0 s.no_feed r.2;
+        kept = kept_on r.0 r.6;
+        counted = omega (arith, lengths, counted, r.3);
       }
 
   -- the script ends
-  pub ended : (next : NextLine) → IfSome now (λ left. IsNextByte left None after) → JudgesAtEnd line is_cut next → IsNextLine bytes line next × (after ≡ Some (drop_through 10 bytes))
+  pub ended : (next : NextLine) → IfSome now (λ left. IsPiece 1026 left line grown End_piece after) → JudgesAtEnd grown next
+      → IsNextLine bytes next × (after ≡ Some (drop_through 10 bytes))
   ended next h judges =
-      let r = read None h in
+      let r = read End_piece h in
       let all : bytes ≡ s.seen = s.split ∙ ap (λ xs. s.seen ++ xs) r.0 ∙ append-nil s.seen in
       let whole : first_line bytes ≡ s.seen = ap first_line all ∙ first_line-end s.seen s.no_feed in
-      (go next judges all whole, r.1 ∙ ap Some (sym (ap (drop_through 10) all ∙ drop_through-end s.seen s.no_feed)))
+      (go next judges all whole (r.2 ∙ s.kept), r.1 ∙ ap Some (sym (ap (drop_through 10) all ∙ drop_through-end s.seen s.no_feed)))
     where
-      go : (next : NextLine) → JudgesAtEnd line is_cut next → bytes ≡ s.seen → first_line bytes ≡ s.seen → IsNextLine bytes line next
-      go Line j all whole =
-          let lengths = length-kept in
-          let taken = length-take 1025 s.seen in
-          let some = j.0 in
+      go : (next : NextLine) → JudgesAtEnd grown next → bytes ≡ s.seen → first_line bytes ≡ s.seen → grown ≡ take 1026 s.seen → IsNextLine bytes next
+      go (Read line) (some, is, few) all whole kept =
+          let lengths = ap length kept in
+          let taken = length-take 1026 s.seen in
           let same = ap length all in
-          (omega (arith, lengths, taken, some, same), short (s.uncut j.1) ∙ sym whole, j.2)
-      go TooLong j all whole =
-          let lengths = length-kept in
-          let taken = length-take 1025 s.seen in
-          subst (λ (xs : List ℕ). 1024 < length xs) (sym whole) (elim j [ inl c ↦ let many = s.cut c in omega arith | inr l ↦ omega arith ])
-      go End j all whole =
-          let lengths = length-kept in
-          let taken = length-take 1025 s.seen in
-          let none = ap length j in
+          let short : grown ≡ s.seen = kept ∙ take_all 1026 s.seen (omega arith) in
+          (omega (arith, lengths, taken, some, same), is ∙ short ∙ sym whole, subst (λ (xs : List ℕ). length xs ≤ 1024) (sym is) few)
+      go TooLong long all whole kept =
+          let lengths = ap length kept in
+          let taken = length-take 1026 s.seen in
+          subst (λ (xs : List ℕ). 1024 < length xs) (sym whole) (omega arith)
+      go End none all whole kept =
+          let lengths = ap length kept in
+          let taken = length-take 1026 s.seen in
+          let empty = ap length none in
           all ∙ no_items s.seen (omega arith)
 
   -- the line ends with a line feed
-  pub fed : (byte : ℕ) (stripped : List ℕ) (next : NextLine) → IfSome now (λ left. IsNextByte left (Some byte) after) → byte ≡ 10 → stripped ≡ strip_last 13 line
-      → Judges stripped is_cut next → IsNextLine bytes stripped next × (after ≡ Some (drop_through 10 bytes))
-  fed byte stripped next h feed strips judges =
-      let r = read (Some byte) h in
-      let all : bytes ≡ s.seen ++ 10 ∷ r.0 = s.split ∙ ap (λ xs. s.seen ++ xs) r.1 ∙ ap (λ b. s.seen ++ b ∷ r.0) feed in
-      let whole : first_line bytes ≡ strip_last 13 s.seen = ap first_line all ∙ first_line-feed s.seen r.0 s.no_feed in
-      (go next judges whole, r.2 ∙ ap Some (sym (ap (drop_through 10) all ∙ drop_through-feed s.seen r.0 s.no_feed)))
+  pub fed : (stripped : List ℕ) (next : NextLine) → IfSome now (λ left. IsPiece 1026 left line grown Fed after)
+      → stripped ≡ strip_last 13 grown → Judges stripped next → IsNextLine bytes next × (after ≡ Some (drop_through 10 bytes))
+  fed stripped next h strips judges =
+      let r = read Fed h in
+      let seen = s.seen ++ r.0 in
+      let none : NoFeed seen = no_feed-append s.seen r.0 s.no_feed r.2 in
+      let all : bytes ≡ seen ++ 10 ∷ r.1 = s.split ∙ ap (λ xs. s.seen ++ xs) r.3 ∙ sym (append_assoc s.seen r.0 (10 ∷ r.1)) in
+      let whole : first_line bytes ≡ strip_last 13 seen = ap first_line all ∙ first_line-feed seen r.1 none in
+      let lengths = ap length all ∙ length-append seen (10 ∷ r.1) in
+      (go seen next judges whole (kept_on r.0 r.5) (omega (arith, lengths)), r.4 ∙ ap Some (sym (ap (drop_through 10) all ∙ drop_through-feed seen r.1 none)))
     where
-      same : length s.seen ≤ 1025 → stripped ≡ strip_last 13 s.seen
-      same few = strips ∙ ap (strip_last 13) (short few)
+      go : (seen : List ℕ) (next : NextLine) → Judges stripped next → first_line bytes ≡ strip_last 13 seen → grown ≡ take 1026 seen → 0 < length bytes → IsNextLine bytes next
+      go seen (Read line) (is, few) whole kept some =
+          let lengths = ap length kept in
+          let taken = length-take 1026 seen in
+          let most = length-strip_last 13 grown in
+          let strip = ap length strips in
+          let short : grown ≡ seen = kept ∙ take_all 1026 seen (omega arith) in
+          (some, is ∙ strips ∙ ap (strip_last 13) short ∙ sym whole, subst (λ (xs : List ℕ). length xs ≤ 1024) (sym is) few)
+      go seen TooLong long whole kept some = subst (λ (xs : List ℕ). 1024 < length xs) (sym whole) (elim (leb_tells (length seen) 1026) [
+        | inl e ↦
+            let short : grown ≡ seen = kept ∙ take_all 1026 seen e.1 in
+            subst (λ (xs : List ℕ). 1024 < length xs) (strips ∙ ap (strip_last 13) short) long
+        | inr e ↦
+            let most = length-strip_last 13 seen in
+            let many = e.1 in
+            omega arith
+      ])
+      go seen End j whole kept some = absurd j
 
-      long : 1025 < length s.seen → 1024 < length (strip_last 13 s.seen)
-      long many = let most = length-strip_last 13 s.seen in omega arith
+-- ---- one look
 
-      over : (cut : Bool) → (cut ≡ true → 1025 < length s.seen) → (cut ≡ false → length s.seen ≤ 1025) → (cut ≡ true) ⊎ (1024 < length stripped) → 1024 < length (strip_last 13 s.seen)
-      over true many few j = long (many refl)
-      over false many few (inl c) = absurd (true≢false (sym c))
-      over false many few (inr l) = subst (λ (xs : List ℕ). 1024 < length xs) (same (few refl)) l
-
-      go : (next : NextLine) → Judges stripped is_cut next → first_line bytes ≡ strip_last 13 s.seen → IsNextLine bytes stripped next
-      go Line j whole =
-          let r = read (Some byte) h in
-          let lengths = ap length (s.split ∙ ap (λ xs. s.seen ++ xs) r.1) in
-          let grown = length-append s.seen (byte ∷ r.0) in
-          (omega (arith, lengths, grown), same (s.uncut j.0) ∙ sym whole, j.1)
-      go TooLong j whole = subst (λ (xs : List ℕ). 1024 < length xs) (sym whole) (over is_cut s.cut s.uncut j)
-      go End j whole = absurd j
+-- what a reader consumes of the bytes that it showed
+pub piece_fed : (a c : Option (List ℕ)) (shown : List ℕ) (seen most : ℕ) (old new : List ℕ) → seen < length shown → NoFeed (take seen shown)
+    → get_or shown seen 0 ≡ 10 → Consumes a c (take (seen + 1) shown) → new ≡ old ++ take (most - length old) (take seen shown)
+    → IfSome a (λ bytes. IsPiece most bytes old new Fed c)
+piece_fed None c shown seen most old new inside none feed consumes grows = tt
+piece_fed (Some bytes) None shown seen most old new inside none feed consumes grows = absurd consumes
+piece_fed (Some bytes) (Some left) shown seen most old new inside none feed consumes grows = (
+  take seen shown,
+  left,
+  none,
+  consumes ∙ ap (λ xs. xs ++ left) (take_more shown seen 0 inside ∙ ap (λ x. take seen shown ++ x ∷ []) feed) ∙ append_assoc (take seen shown) (10 ∷ []) left,
+  refl,
+  grows,
+)

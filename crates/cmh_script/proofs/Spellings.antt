@@ -1,10 +1,11 @@
 -- Words that spell numbers.
-use Rattle.std.proofs.Common.{◌≡◌, ◌≤◌, ◌^◌, ℕ, zero, suc, List, [], ◌∷◌, ◌++◌, length, All, refl, sym, subst, ◌∙◌, arith, lit≤}
+use Rattle.std.proofs.Common.{◌≡◌, ◌≢◌, ◌≤◌, ◌^◌, ℕ, zero, suc, List, [], ◌∷◌, ◌++◌, Option, None, Some, length, refl, sym, ap, subst, ◌∙◌, arith, lit≤}
 use Rattle.std.proofs.lemmas.List.{append-nil, append_assoc}
-use Rattle.std.proofs.lemmas.List.Elements.{All-nil, All-cons}
 use Rattle.std.proofs.lemmas.Int.Digits.{digits_value-lt}
+use Rattle.std.specs.Prelude.{SomeIff}
 use Rattle.cmh_frames.specs.Number.{IsNumber}
-use Rattle.cmh_script.specs.Words.{IsNumeral, decimal}
+use Rattle.cmh_script.specs.Words.{decimal}
+use Rattle.cmh_script.specs.Front.{AreFewDigits, Begins, BeginsNone, Takes}
 use Rattle.cmh_script.specs.Script.{Spell}
 
 -- ---- the numbers that words spell
@@ -17,32 +18,34 @@ small_power (suc (suc (suc zero))) h = lit≤ tt
 small_power (suc (suc (suc (suc zero)))) h = lit≤ tt
 small_power (suc (suc (suc (suc (suc k))))) h = absurd (omega arith)
 
-numeral_number : (word : List ℕ) (n : ℕ) → IsNumeral word → decimal word ≡ n → IsNumber n
-numeral_number word n numeral is = subst IsNumber is (record {
-  least = numeral.positive;
-  most =
-      let below = digits_value-lt 10 word numeral.digits in
-      let power = small_power (length word) numeral.few in
-      omega (arith, below, power);
-})
+below_limit : (word : List ℕ) → AreFewDigits word → decimal word ≤ 9999
+below_limit word d =
+    let below = digits_value-lt 10 word d.digits in
+    let power = small_power (length word) d.few in
+    omega (arith, below, power)
 
-pub spell_numbers : (ws : List (List ℕ)) (ns : List ℕ) → Spell ws ns → All IsNumber ns
-spell_numbers [] [] spell = All-nil IsNumber
-spell_numbers [] (n ∷ ns) spell = absurd spell
-spell_numbers (w ∷ ws) [] spell = absurd spell
-spell_numbers (w ∷ ws) (n ∷ ns) spell = All-cons IsNumber n ns (numeral_number w n spell.0 spell.1) (spell_numbers ws ns spell.2)
+-- what a site or a process may have for its number is what the first word spells
+pub takes_named : {words behind : List (List ℕ)} {word : List ℕ} {n : ℕ} (named : Option ℕ) → words ≡ word ∷ behind → AreFewDigits word × (n ≡ decimal word)
+    → SomeIff named (IsNumber n) n → Takes words behind named
+takes_named {words} {behind} {word} {n} (Some k) are (few, spells) (is_number, same) = record {
+  word = word;
+  words_are = are;
+  numeral = record { few = few.few; digits = few.digits; positive = subst (λ (m : ℕ). 1 ≤ m) spells is_number.least };
+  value = sym spells ∙ sym same;
+}
+takes_named {words} {behind} {word} {n} None are (few, spells) refused = λ number others begins.
+    let firsts = sym are ∙ begins.words_are in
+    let same : word ≡ begins.word = cc in
+    refused (record {
+      least = subst (λ (m : ℕ). 1 ≤ m) (sym spells) (subst (λ (w : List ℕ). 1 ≤ decimal w) (sym same) begins.numeral.positive);
+      most = subst (λ (m : ℕ). m ≤ 9999) (sym spells) (below_limit word few);
+    })
 
--- the same words spell the same numbers
-pub spell_unique : (ws : List (List ℕ)) (ns ms : List ℕ) → Spell ws ns → Spell ws ms → ns ≡ ms
-spell_unique [] [] [] one other = refl
-spell_unique [] [] (m ∷ ms) one other = absurd other
-spell_unique [] (n ∷ ns) ms one other = absurd one
-spell_unique (w ∷ ws) [] ms one other = absurd one
-spell_unique (w ∷ ws) (n ∷ ns) [] one other = absurd other
-spell_unique (w ∷ ws) (n ∷ ns) (m ∷ ms) one other =
-    let heads : n ≡ m = sym one.1 ∙ other.1 in
-    let tails : ns ≡ ms = spell_unique ws ns ms one.2 other.2 in
-    λ i. heads i ∷ tails i
+-- words that spell no numbers are none
+pub spell_nothing : (words : List (List ℕ)) (numbers : List ℕ) → Spell words numbers → numbers ≡ [] → words ≡ []
+spell_nothing [] numbers spell none = refl
+spell_nothing (w ∷ ws) [] spell none = absurd spell
+spell_nothing (w ∷ ws) (n ∷ ns) spell none = cc
 
 -- ---- word after word
 
@@ -55,32 +58,58 @@ pub record SpellSoFar (all left : List (List ℕ)) (numbers : List ℕ) : Type 0
 pub spell_begin : (all : List (List ℕ)) → SpellSoFar all all []
 spell_begin all = record { seen = []; split = refl; spell = tt }
 
-spell_append : (ws : List (List ℕ)) (ns : List ℕ) (w : List ℕ) (n : ℕ) → Spell ws ns → IsNumeral w → decimal w ≡ n → Spell (ws ++ w ∷ []) (ns ++ n ∷ [])
-spell_append [] [] w n spell numeral is = (numeral, is, tt)
-spell_append [] (m ∷ ns) w n spell numeral is = absurd spell
-spell_append (v ∷ ws) [] w n spell numeral is = absurd spell
-spell_append (v ∷ ws) (m ∷ ns) w n spell numeral is = (spell.0, spell.1, spell_append ws ns w n spell.2 numeral is)
+spell_join : (seen left : List (List ℕ)) (numbers more : List ℕ) → Spell seen numbers → Spell left more → Spell (seen ++ left) (numbers ++ more)
+spell_join [] left [] more before spell = spell
+spell_join [] left (m ∷ ms) more before spell = absurd before
+spell_join (w ∷ ws) left [] more before spell = absurd before
+spell_join (w ∷ ws) left (m ∷ ms) more before spell = (before.0, before.1, spell_join ws left ms more before.2 spell)
 
 -- the next word spells the next number
-pub spell_more : (all left : List (List ℕ)) (numbers : List ℕ) (w : List ℕ) (n : ℕ) → SpellSoFar all (w ∷ left) numbers → IsNumeral w → decimal w ≡ n → SpellSoFar all left (numbers ++ n ∷ [])
-spell_more all left numbers w n so_far numeral is = record {
-  seen = so_far.seen ++ w ∷ [];
-  split = so_far.split ∙ sym (append_assoc so_far.seen (w ∷ []) left);
-  spell = spell_append so_far.seen numbers w n so_far.spell numeral is;
+pub spell_more : {all left behind : List (List ℕ)} {numbers : List ℕ} {n : ℕ} → SpellSoFar all left numbers → Begins left n behind → SpellSoFar all behind (numbers ++ n ∷ [])
+spell_more {behind = behind} {numbers = numbers} {n = n} so_far next = record {
+  seen = so_far.seen ++ next.word ∷ [];
+  split = so_far.split ∙ ap (λ ws. so_far.seen ++ ws) next.words_are ∙ sym (append_assoc so_far.seen (next.word ∷ []) behind);
+  spell = spell_join so_far.seen (next.word ∷ []) numbers (n ∷ []) so_far.spell (next.numeral, next.value, tt);
 }
 
--- no word is left
-pub spell_all : (all : List (List ℕ)) (numbers : List ℕ) → SpellSoFar all [] numbers → Spell all numbers
-spell_all all numbers so_far =
-    subst (λ (ws : List (List ℕ)). Spell ws numbers) (sym (so_far.split ∙ append-nil so_far.seen)) so_far.spell
+-- what all of the words spell is spelled by those that are left, behind these numbers
+pub record SpellOn (left : List (List ℕ)) (numbers ns : List ℕ) : Type 0 where
+  pub more : List ℕ
+  pub numbers_are : ns ≡ numbers ++ more
+  pub spell : Spell left more
 
-word_spells : (ws left : List (List ℕ)) (w : List ℕ) (ns : List ℕ) → Spell (ws ++ w ∷ left) ns → IsNumeral w
-word_spells [] left w [] spell = absurd spell
-word_spells [] left w (n ∷ ns) spell = spell.0
-word_spells (v ∷ ws) left w [] spell = absurd spell
-word_spells (v ∷ ws) left w (n ∷ ns) spell = word_spells ws left w ns spell.2
+spell_on : (seen left : List (List ℕ)) (numbers ns : List ℕ) → Spell seen numbers → Spell (seen ++ left) ns → SpellOn left numbers ns
+spell_on [] left [] ns before spell = record { more = ns; numbers_are = refl; spell = spell }
+spell_on [] left (m ∷ ms) ns before spell = absurd before
+spell_on (w ∷ ws) left [] ns before spell = absurd before
+spell_on (w ∷ ws) left (m ∷ ms) [] before spell = absurd spell
+spell_on (w ∷ ws) left (m ∷ ms) (n ∷ ns) before spell =
+    let on = spell_on ws left ms ns before.2 spell.2 in
+    let heads : n ≡ m = sym spell.1 ∙ before.1 in
+    record { more = on.more; numbers_are = λ i. heads i ∷ on.numbers_are i; spell = on.spell }
 
--- the next word spells no number
-pub spell_none : (all left : List (List ℕ)) (numbers : List ℕ) (w : List ℕ) → SpellSoFar all (w ∷ left) numbers → (IsNumeral w → ⊥) → (ns : List ℕ) → Spell all ns → ⊥
-spell_none all left numbers w so_far none ns spell =
-    none (word_spells so_far.seen left w ns (subst (λ (ws : List (List ℕ)). Spell ws ns) so_far.split spell))
+module _ {all left : List (List ℕ)} {numbers : List ℕ} (so_far : SpellSoFar all left numbers) where
+  pub spelled_on : (ns : List ℕ) → Spell all ns → SpellOn left numbers ns
+  spelled_on ns spell = spell_on so_far.seen left numbers ns so_far.spell (subst (λ (ws : List (List ℕ)). Spell ws ns) so_far.split spell)
+
+  -- those that are left spell more
+  pub spell_both : (more : List ℕ) → Spell left more → Spell all (numbers ++ more)
+  spell_both more spell =
+      subst (λ (ws : List (List ℕ)). Spell ws (numbers ++ more)) (sym so_far.split) (spell_join so_far.seen left numbers more so_far.spell spell)
+
+  -- no word is left
+  pub spell_all : left ≡ [] → Spell all numbers
+  spell_all end =
+      subst (λ (ws : List (List ℕ)). Spell ws numbers) (sym (so_far.split ∙ ap (λ ws. so_far.seen ++ ws) end ∙ append-nil so_far.seen)) so_far.spell
+
+  -- a word is left, and spells no number
+  pub spell_none : left ≢ [] → BeginsNone left → (ns : List ℕ) → Spell all ns → ⊥
+  spell_none some none ns spell = go left some none on.more on.spell
+    where
+      on : SpellOn left numbers ns
+      on = spelled_on ns spell
+
+      go : (ws : List (List ℕ)) → ws ≢ [] → BeginsNone ws → (more : List ℕ) → Spell ws more → ⊥
+      go [] some none more spell = some refl
+      go (w ∷ ws) some none [] spell = spell
+      go (w ∷ ws) some none (m ∷ more) spell = none m ws (record { word = w; words_are = refl; numeral = spell.0; value = spell.1 })

@@ -1,4 +1,5 @@
 pub mod Device
 pub mod Lines
 pub mod Words
+pub mod Front
 pub mod Script

@@ -1,34 +1,45 @@
 -- Lines of a script.
-use Rattle.std.specs.Prelude.{◌≡◌, ℕ, ◌-◌, ◌^◌, ◌<◌, ◌≤◌, Bool, true, false, ◌⊎◌, List, [], ◌∷◌, length, Option, None, Some, ⊤}
+use Rattle.std.specs.Prelude.{◌≡◌, ℕ, ◌+◌, ◌-◌, ◌^◌, ◌<◌, ◌≤◌, ◌==◌, Bool, true, false, ◌⊎◌, List, [], ◌∷◌, ◌++◌, length, take, Option, None, Some, ⊤}
 use Rattle.std.specs.Io.BufRead.{first_line}
+use Rattle.cmh_script.specs.declared.device.Piece.{Piece}
+use Rattle.cmh_script.specs.declared.device.Piece.TheVariants.{Fed, Unfed, End as End_piece}
 use Rattle.cmh_script.specs.declared.lines.NextLine.{NextLine}
-use Rattle.cmh_script.specs.declared.lines.NextLine.TheVariants.{Line, TooLong, End}
+use Rattle.cmh_script.specs.declared.lines.NextLine.TheVariants.{Line as Read, TooLong, End}
 use Rattle.cmh_script.specs.declared.lines.LineFault.{LineFault}
 use Rattle.cmh_script.specs.declared.lines.LineFault.TheVariants.{Input, Memory}
 
--- of these bytes that are left, the next was read and the others are left
-abbrev pub IsNextByte : List ℕ → Option ℕ → Option (List ℕ) → Type 0
-IsNextByte bytes None left = (bytes ≡ []) × (left ≡ Some [])
-IsNextByte bytes (Some byte) left = (rest : List ℕ) × (bytes ≡ byte ∷ rest) × (left ≡ Some rest)
+-- no byte is a line feed
+abbrev pub NoFeed : List ℕ → Type 0
+NoFeed [] = ⊤
+NoFeed (b ∷ bs) = ((b == 10) ≡ false) × NoFeed bs
 
--- whether a line, of which a part may have been left out, is within the limit
-abbrev pub Judges : List ℕ → Bool → NextLine → Type 0
-Judges line is_cut Line = (is_cut ≡ false) × (length line ≤ 1024)
-Judges line is_cut TooLong = (is_cut ≡ true) ⊎ (1024 < length line)
-Judges line is_cut End = ⊥
+-- Of these bytes a piece was read and `left` is left: some with no line feed, and behind them a line feed, or the end
+-- of what stood ready. What has room of them stands behind the line.
+abbrev pub IsPiece : ℕ → List ℕ → List ℕ → List ℕ → Piece → Option (List ℕ) → Type 0
+IsPiece most bytes old new Fed left = (seen : List ℕ) × (rest : List ℕ) × NoFeed seen
+    × (bytes ≡ seen ++ 10 ∷ rest) × (left ≡ Some rest) × (new ≡ old ++ take (most - length old) seen)
+IsPiece most bytes old new Unfed left = (seen : List ℕ) × (rest : List ℕ) × NoFeed seen × (0 < length seen)
+    × (bytes ≡ seen ++ rest) × (left ≡ Some rest) × (new ≡ old ++ take (most - length old) seen)
+IsPiece most bytes old new End_piece left = (bytes ≡ []) × (left ≡ Some []) × (new ≡ old)
+
+-- whether a line is within the limit
+abbrev pub Judges : List ℕ → NextLine → Type 0
+Judges line (Read read) = (read.now ≡ line) × (length line ≤ 1024)
+Judges line TooLong = 1024 < length line
+Judges line End = ⊥
 
 -- the same at the end of the script, where an empty line is none
-abbrev pub JudgesAtEnd : List ℕ → Bool → NextLine → Type 0
-JudgesAtEnd line is_cut Line = (0 < length line) × (is_cut ≡ false) × (length line ≤ 1024)
-JudgesAtEnd line is_cut TooLong = (is_cut ≡ true) ⊎ (1024 < length line)
-JudgesAtEnd line is_cut End = line ≡ []
+abbrev pub JudgesAtEnd : List ℕ → NextLine → Type 0
+JudgesAtEnd line (Read read) = (0 < length line) × (read.now ≡ line) × (length line ≤ 1024)
+JudgesAtEnd line TooLong = 1024 < length line
+JudgesAtEnd line End = line ≡ []
 
 -- Of these bytes the first line was read: what stands before the first line feed without one carriage return at its
 -- end, or all that is left.
-abbrev pub IsNextLine : List ℕ → List ℕ → NextLine → Type 0
-IsNextLine bytes line Line = (0 < length bytes) × (line ≡ first_line bytes) × (length line ≤ 1024)
-IsNextLine bytes line TooLong = 1024 < length (first_line bytes)
-IsNextLine bytes line End = bytes ≡ []
+abbrev pub IsNextLine : List ℕ → NextLine → Type 0
+IsNextLine bytes (Read line) = (0 < length bytes) × (line.now ≡ first_line bytes) × (length line.now ≤ 1024)
+IsNextLine bytes TooLong = 1024 < length (first_line bytes)
+IsNextLine bytes End = bytes ≡ []
 
 -- the bytes, where they are told, are so many that no number counts them
 abbrev pub IsEndless : Option (List ℕ) → Type 0

@@ -16,6 +16,17 @@ Spell [] (n ∷ ns) = ⊥
 Spell (w ∷ ws) [] = ⊥
 Spell (w ∷ ws) (n ∷ ns) = IsNumeral w × (decimal w ≡ n) × Spell ws ns
 
+-- the words spell the numbers of this
+pub record SpellsOne {X : Type 0} (IsOf : List ℕ → X → Type 0) (words : List (List ℕ)) (x : X) : Type 0 where
+  pub numbers : List ℕ
+  pub spell : Spell words numbers
+  pub is_of : IsOf numbers x
+
+-- what is read of words up to their end: that of which they spell the numbers, or nothing where there is none such
+abbrev pub ReadsAll : {X : Type 0} → (List ℕ → X → Type 0) → List (List ℕ) → Option X → Type 0
+ReadsAll {X} IsOf words None = (x : X) → SpellsOne IsOf words x → ⊥
+ReadsAll IsOf words (Some x) = SpellsOne IsOf words x
+
 -- ---- the forms of lines, each a name with numbers
 
 abbrev pub name_of : Form → List ℕ
@@ -41,11 +52,6 @@ Fits DeliverForm numbers (Command_line (Deliver from to)) = numbers ≡ from ∷
 Fits CutForm numbers (Command_line (Cut from to)) = numbers ≡ from ∷ to ∷ []
 Fits ReportForm numbers (Command_line Report) = numbers ≡ []
 Fits form numbers line = ⊥
-
--- what is made of a form and numbers: the line that fits, or nothing where none does
-abbrev pub IsLineOf : Form → List ℕ → Option Line → Type 0
-IsLineOf form numbers None = (line : Line) → Fits form numbers line → ⊥
-IsLineOf form numbers (Some line) = Fits form numbers line
 
 -- ---- a whole line, by its words
 

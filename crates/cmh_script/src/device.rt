@@ -1,17 +1,13 @@
 //! What a command reads from and writes to, and whether that failed.
 
-ghost use Rattle.std.specs.Prelude.{◌≡◌, true, false, IfOk, OnOk, OnErr, IfSome};
+ghost use Rattle.std.specs.Prelude.{◌≡◌, ◌<◌, ◌≤◌, true, false, IfOk, IfErr, IfSome, OnOk, OnErr, length, take, get_or};
 ghost use Rattle.std.specs.Fmt.{with_newline};
-ghost use Rattle.std.specs.Io.{ReadsAtMost};
-ghost use Rattle.std.specs.Io.KnownBytes.{Appends, Keeps, ReadConsumes};
-ghost use Rattle.cmh_script.specs.Lines.{IsNextByte};
+ghost use Rattle.std.specs.Io.KnownBytes.{Appends, Keeps};
+ghost use Rattle.cmh_script.specs.Lines.{IsPiece, NoFeed};
 
-use std::io::{BufReader, ErrorKind, Read, Write};
+use crate::lines::LineFault;
+use std::io::{BufRead, BufReader, ErrorKind, Read, Write};
 use std::{fmt, io};
-
-/// The reader failed.
-#[derive(Clone, Copy, Debug, PartialEq, Eq)]
-pub struct ReadFault;
 
 /// The writer failed.
 #[derive(Clone, Copy, Debug, PartialEq, Eq)]
@@ -34,22 +30,161 @@ impl Ahead for &[u8] {
     }
 }
 
-/// A reader or a writer, and whether a call of it has failed. Only a call that failed sets that.
-///
-/// Of a writer also whether nothing was written since it was flushed.
+/// How far the bytes went that were read at once.
+#[derive(Clone, Copy, Debug, PartialEq, Eq)]
+pub enum Piece {
+    /// Through a line feed.
+    Fed,
+    /// To the end of what stood ready, which has no line feed.
+    Unfed,
+    /// The script has no byte left.
+    End,
+}
+
+/// Why no piece was taken.
+#[derive(Clone, Copy, Debug, PartialEq, Eq)]
+enum PieceFault {
+    /// A signal came; the read is made again.
+    Interrupted,
+    /// The reader failed.
+    Failed,
+    /// Memory was refused.
+    Memory,
+}
+
+/// A reader of a script, and whether a call of it has failed. Only a call that failed sets that.
 #[derive(Debug, Drop)]
-pub struct Device<D> {
-    inner: D,
+pub struct Input<R> {
+    inner: R,
+    has_failed: bool,
+}
+
+impl<R> Input<R> {
+    pub fn new(inner: R) -> Self
+        ensures inner { result.inner ≡ inner }
+        ensures fresh { result.has_failed ≡ false }
+    {
+        Input {
+            inner,
+            has_failed: false,
+        }
+    }
+
+    pub fn has_failed(&self) -> bool
+        ensures { result ≡ self.now.has_failed }
+    {
+        self.has_failed
+    }
+}
+
+impl<R: BufRead> Input<R> {
+    /// Reads on, at most to a line feed, and puts behind the line what stands before it.
+    ///
+    /// The line grows to at most `most` bytes; what is over is read and left out. A read that a signal interrupted is
+    /// made again.
+    ///
+    /// # Errors
+    ///
+    /// - [`LineFault::Input`]: the reader failed, or signals interrupted 2^64 - 1 reads.
+    /// - [`LineFault::Memory`]: memory for the line was refused.
+    pub fn next_piece(&mut self, line: &mut Vec<u8>, most: usize) -> Result<Piece, LineFault>
+        ensures piece { IfOk result (λ piece. IfSome (R.remaining self.old.inner)
+            (λ bytes. IsPiece most bytes line.old.items line.new.items piece (R.remaining self.new.inner))) }
+        ensures ok { OnOk result (self.new.has_failed ≡ self.old.has_failed) }
+        ensures err { IfErr result (λ fault. fault ≡ LineFault.Input → self.new.has_failed ≡ true) }
+    {
+        for turn in 0..u64::MAX {
+            match take_piece(&mut self.inner, line, most) {
+                Ok(piece) => return Ok(piece),
+                Err(PieceFault::Interrupted) => {}
+                Err(PieceFault::Memory) => return Err(LineFault::Memory),
+                Err(PieceFault::Failed) => {
+                    self.has_failed = true;
+                    return Err(LineFault::Input);
+                }
+            }
+        }
+        self.has_failed = true;
+        Err(LineFault::Input)
+    }
+}
+
+impl<R: Ahead> Input<R> {
+    /// Whether a whole line can be read without waiting.
+    pub fn has_line(&self) -> bool {
+        self.inner.ahead().contains(&b'\n')
+    }
+}
+
+/// One read of a piece.
+fn take_piece<R: BufRead>(
+    reader: &mut R,
+    line: &mut Vec<u8>,
+    most: usize,
+) -> Result<Piece, PieceFault>
+    ensures piece { IfOk result (λ piece. IfSome (R.remaining reader.old)
+        (λ bytes. IsPiece most bytes line.old.items line.new.items piece (R.remaining reader.new))) }
+    ensures line { OnErr result (line.new.items ≡ line.old.items) }
+    ensures reader { OnErr result (Keeps (R.remaining reader.old) (R.remaining reader.new)) }
+{
+    let bytes = match reader.fill_buf() {
+        Ok(bytes) => bytes,
+        Err(error) => return Err(fault_of(&error)),
+    };
+    let seen = feed_at(bytes);
+    let is_fed = seen < bytes.len();
+    let kept = seen.min(most.saturating_sub(line.len()));
+    if line.extend_from_slice(&bytes[..kept]).is_err() {
+        return Err(PieceFault::Memory);
+    }
+    if is_fed {
+        reader.consume(seen + 1);
+        return Ok(Piece::Fed);
+    }
+    reader.consume(seen);
+    if seen == 0 {
+        Ok(Piece::End)
+    } else {
+        Ok(Piece::Unfed)
+    }
+}
+
+fn fault_of(error: &io::Error) -> PieceFault {
+    if error.kind() == ErrorKind::Interrupted {
+        PieceFault::Interrupted
+    } else {
+        PieceFault::Failed
+    }
+}
+
+/// How many bytes stand before the first line feed, or all of them.
+fn feed_at(bytes: &[u8]) -> usize
+    ensures within { result ≤ length bytes.now }
+    ensures before { NoFeed (take result bytes.now) }
+    ensures feed { result < length bytes.now → get_or bytes.now result 0 ≡ 10 }
+{
+    for at in 0..bytes.len() {
+        if bytes[at] == b'\n' {
+            return at;
+        }
+    }
+    bytes.len()
+}
+
+/// A writer, whether a call of it has failed, and whether nothing was written since it was flushed.
+#[derive(Debug, Drop)]
+pub struct Output<W> {
+    inner: W,
     has_failed: bool,
     is_flushed: bool,
 }
 
-impl<D> Device<D> {
-    pub fn new(inner: D) -> Self
+impl<W> Output<W> {
+    pub fn new(inner: W) -> Self
         ensures inner { result.inner ≡ inner }
         ensures fresh { result.has_failed ≡ false }
     {
-        Device {
+        Output {
             inner,
             has_failed: false,
             is_flushed: false,
@@ -63,52 +198,7 @@ impl<D> Device<D> {
     }
 }
 
-impl<R: Read> Device<R> {
-    /// The next byte, or `None` at the end. A read that a signal interrupted is made again.
-    pub fn next_byte(&mut self) -> Result<Option<u8>, ReadFault>
-        ensures byte { IfOk result (λ byte. IfSome (R.remaining self.old.inner)
-            (λ bytes. IsNextByte bytes byte (R.remaining self.new.inner))) }
-        ensures ok { OnOk result (self.new.has_failed ≡ self.old.has_failed) }
-        ensures err { OnErr result (self.new.has_failed ≡ true) }
-    {
-        let mut byte = [0];
-        match read_again(&mut self.inner, &mut byte) {
-            Ok(0) => Ok(None),
-            Ok(_) => Ok(Some(byte[0])),
-            Err(_) => {
-                self.has_failed = true;
-                Err(ReadFault)
-            }
-        }
-    }
-}
-
-impl<R: Ahead> Device<R> {
-    /// Whether a whole line can be read without waiting.
-    pub fn has_line(&self) -> bool {
-        self.inner.ahead().contains(&b'\n')
-    }
-}
-
-/// One read, made again where a signal interrupts it.
-fn read_again<R: Read>(reader: &mut R, buf: &mut [u8]) -> io::Result<usize>
-    ensures bound { ReadsAtMost result buf.new }
-    ensures bytes { ReadConsumes (R.remaining reader.old) (R.remaining reader.new) result buf.new }
-{
-    for turn in 0..u64::MAX {
-        match reader.read(buf) {
-            Ok(n) => return Ok(n),
-            Err(error) => {
-                if error.kind() != ErrorKind::Interrupted {
-                    return Err(error);
-                }
-            }
-        }
-    }
-    Err(io::Error::from(ErrorKind::Interrupted))
-}
-
-impl<W: Write> Device<W> {
+impl<W: Write> Output<W> {
     /// Writes all of the text.
     pub fn write_text<T: fmt::Display + Drop>(&mut self, text: T) -> Result<(), WriteFault>
         ensures bytes { OnOk result (IfSome (T.output text) (Appends (W.contents self.old.inner)

@@ -6,7 +6,7 @@ mod lines;
 mod script;
 mod words;
 
-pub use crate::device::{Ahead, Device, ReadFault, WriteFault};
+pub use crate::device::{Ahead, Input, Output, Piece, WriteFault};
 pub use crate::lines::{LineFault, MAX_LINE, NextLine, read_line};
 pub use crate::script::{Command, Line, parse};
 pub use crate::words::{Words, number};

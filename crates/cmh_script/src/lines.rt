@@ -5,32 +5,32 @@ ghost use Rattle.std.specs.Io.BufRead.{drop_through, strip_last};
 ghost use Rattle.cmh_script.specs.declared.lines.LineFault.TheVariants.{Memory};
 ghost use Rattle.cmh_script.specs.Lines.{IsLineFault, IsNextLine, Judges, JudgesAtEnd};
 
-use crate::device::{Device, ReadFault};
+use crate::device::{Input, Piece};
 use std::alloc::AllocFailed;
-use std::io::Read;
+use std::io::BufRead;
 
 /// How many bytes a line of a script may have, its end left out.
 pub const MAX_LINE: usize = 1024;
 
 /// What stands next in a script.
 #[derive(Clone, Copy, Debug, PartialEq, Eq)]
-pub enum NextLine {
+pub enum NextLine<'a> {
     /// A line, without its end.
-    Line,
+    Line(&'a [u8]),
     /// A line of more bytes than a line of a script may have.
     TooLong,
     /// The end of the script.
     End,
 }
 
-impl NextLine {
+impl NextLine<'_> {
     pub fn is_end(self) -> bool
-        ensures yes { result ≡ true → self ≡ NextLine.End }
-        ensures no { result ≡ false → self ≢ NextLine.End }
+        ensures yes { result ≡ true → self.entry ≡ NextLine.End }
+        ensures no { result ≡ false → self.entry ≢ NextLine.End }
     {
         match self {
             NextLine::End => true,
-            NextLine::Line | NextLine::TooLong => false,
+            NextLine::Line(_) | NextLine::TooLong => false,
         }
     }
 }
@@ -52,16 +52,6 @@ impl<T: Drop> From<AllocFailed<T>> for LineFault {
     }
 }
 
-impl From<ReadFault> for LineFault {
-    ghost use Rattle.cmh_script.specs.declared.lines.LineFault.TheVariants.{Input};
-
-    ghost from_gives = { λ _ e. e ≡ Input };
-
-    fn from(_e: ReadFault) -> LineFault {
-        LineFault::Input
-    }
-}
-
 /// Drops a carriage return at the end of a line.
 fn drop_return(line: &mut Vec<u8>)
     ensures { line.new.items ≡ strip_last 13 line.old.items }
@@ -72,54 +62,52 @@ fn drop_return(line: &mut Vec<u8>)
     }
 }
 
-/// Whether a line, of which a part may have been left out, is within the limit.
-fn judged(line: &[u8], is_cut: bool) -> NextLine
-    ensures { Judges line.now is_cut result }
+/// Whether a line is within the limit.
+fn judged(line: &[u8]) -> NextLine<'_>
+    ensures { Judges line.now result }
 {
-    if is_cut || line.len() > MAX_LINE {
+    if line.len() > MAX_LINE {
         NextLine::TooLong
     } else {
-        NextLine::Line
+        NextLine::Line(line)
     }
 }
 
 /// The same at the end of the script, where an empty line is none.
-fn judged_at_end(line: &[u8], is_cut: bool) -> NextLine
-    ensures { JudgesAtEnd line.now is_cut result }
+fn judged_at_end(line: &[u8]) -> NextLine<'_>
+    ensures { JudgesAtEnd line.now result }
 {
     if line.is_empty() {
         NextLine::End
     } else {
-        judged(line, is_cut)
+        judged(line)
     }
 }
 
-/// Reads the next line into `line`, of which it keeps at most one byte more than the limit.
+/// Reads the next line into the buffer, which it empties first.
 ///
-/// A line ends with a line feed; one carriage return before it is dropped. The last line may lack its end.
-pub fn read_line<R: Read>(input: &mut Device<R>, line: &mut Vec<u8>) -> Result<NextLine, LineFault>
+/// A line ends with a line feed; one carriage return before it is dropped. The last line may lack its end. Of a line
+/// that is too long the buffer keeps two bytes more than the limit: with a carriage return dropped it is too long still.
+pub fn read_line<'a, R: BufRead>(
+    input: &mut Input<R>,
+    buffer: &'a mut Vec<u8>,
+) -> Result<NextLine<'a>, LineFault>
     // Where the reader tells its bytes, the line is the first of them.
-    ensures line { IfOk result (λ next. IfSome (R.remaining input.old.inner)
-        (λ bytes. IsNextLine bytes line.new.items next)) }
+    ensures line { IfOk result (λ next. IfSome (R.remaining input.old.inner) (λ bytes. IsNextLine bytes next)) }
     ensures rest { IfOk result (λ next. IfSome (R.remaining input.old.inner)
         (λ bytes. R.remaining input.new.inner ≡ Some (drop_through 10 bytes))) }
     ensures ok { OnOk result (input.new.has_failed ≡ input.old.has_failed) }
     ensures fault { IfErr result (IsLineFault (R.remaining input.old.inner) input.new.has_failed) }
 {
-    line.clear();
-    let mut is_cut = false;
+    buffer.clear();
     for turn in 0..u64::MAX {
-        let Some(byte) = input.next_byte()? else {
-            return Ok(judged_at_end(line, is_cut));
-        };
-        if byte == b'\n' {
-            drop_return(line);
-            return Ok(judged(line, is_cut));
-        }
-        if line.len() > MAX_LINE {
-            is_cut = true;
-        } else {
-            line.push(byte)?;
+        match input.next_piece(buffer, MAX_LINE + 2)? {
+            Piece::Unfed => {}
+            Piece::Fed => {
+                drop_return(buffer);
+                return Ok(judged(buffer));
+            }
+            Piece::End => return Ok(judged_at_end(buffer)),
         }
     }
     Err(LineFault::Input)

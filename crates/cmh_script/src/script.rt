@@ -1,11 +1,10 @@
 //! What the lines of a script of `play` say.
 
-ghost use Rattle.std.specs.Prelude.{◌≡◌, ◌≢◌, ℕ, List, [], ◌∷◌, All, IfOk, MatchOption};
-ghost use Rattle.cmh_frames.specs.Number.{IsNumber};
+ghost use Rattle.std.specs.Prelude.{◌≡◌, ◌≢◌, ℕ, List, [], ◌∷◌, IfOk, MatchOption};
 ghost use Rattle.cmh_script.specs.declared.script.Form as declared_form;
-ghost use Rattle.cmh_script.specs.Script.{IsFitted, IsLineOf, Says, Spell, is_comment, name_of};
+ghost use Rattle.cmh_script.specs.Script.{Fits, IsFitted, ReadsAll, Says, Spell, is_comment, name_of};
 
-use crate::words::{Words, number};
+use crate::words::Words;
 use cmh_frames::{Edition, ProcId, SiteId, SiteRow};
 use cmh_model::{Event, Targets};
 use std::alloc::{AllocError, Global};
@@ -79,13 +78,10 @@ fn is_comment(word: &[u8]) -> bool
 fn fitted(alloc: Global, name: &[u8], words: Words<'_>) -> Result<Option<Line>, AllocError>
     ensures { IfOk result (IsFitted (name.now ∷ words.entry)) }
 {
-    let Some(form) = form_of(name) else {
-        return Ok(None);
-    };
-    let Some(numbers) = numbers(alloc, words)? else {
-        return Ok(None);
-    };
-    line_of(alloc, form, &numbers)
+    match form_of(name) {
+        Some(form) => line_of(alloc, form, words),
+        None => Ok(None),
+    }
 }
 
 /// The form of this name.
@@ -120,21 +116,40 @@ fn form_of(name: &[u8]) -> Option<Form>
     None
 }
 
-/// The line of this form with these numbers.
-fn line_of(alloc: Global, form: Form, numbers: &[u16]) -> Result<Option<Line>, AllocError>
-    requires { All IsNumber numbers.now }
-    ensures { IfOk result (IsLineOf form numbers.now) }
+/// The line of this form with the numbers that the words spell.
+fn line_of(alloc: Global, form: Form, words: Words<'_>) -> Result<Option<Line>, AllocError>
+    ensures { IfOk result (ReadsAll (Fits form) words.entry) }
 {
     match form {
-        Form::Edition => Ok(edition(numbers)),
-        Form::Site => site(alloc, numbers),
-        Form::Ask => ask(alloc, numbers),
-        Form::Reply => Ok(reply(numbers)),
-        Form::Start => Ok(start(numbers)),
-        Form::Deliver => Ok(deliver(numbers)),
-        Form::Cut => Ok(cut(numbers)),
-        Form::Report => Ok(report(numbers)),
+        Form::Edition => Ok(edition(words)),
+        Form::Site => site(alloc, words),
+        Form::Ask => ask(alloc, words),
+        Form::Reply => Ok(reply(words)),
+        Form::Start => Ok(start(words)),
+        Form::Deliver => Ok(deliver(words)),
+        Form::Cut => Ok(cut(words)),
+        Form::Report => Ok(report(words)),
     }
+}
+
+fn edition(mut words: Words<'_>) -> Option<Line>
+    ensures { ReadsAll (Fits Form.Edition) words.entry result }
+{
+    let edition = Edition::of_number(u8::try_from(words.number()?).ok()?)?;
+    words.end()?;
+    Some(Line::Edition(edition))
+}
+
+fn site(alloc: Global, mut words: Words<'_>) -> Result<Option<Line>, AllocError>
+    ensures { IfOk result (ReadsAll (Fits Form.Site) words.entry) }
+{
+    let Some(site) = words.number() else {
+        return Ok(None);
+    };
+    let Some(processes) = numbers(alloc, words)? else {
+        return Ok(None);
+    };
+    Ok(Some(Line::Site(SiteRow { site, processes })))
 }
 
 /// The numbers that the words spell, if each of them spells one.
@@ -143,128 +158,100 @@ fn numbers(alloc: Global, mut words: Words<'_>) -> Result<Option<Vec<u16>>, Allo
         (λ numbers. Spell words.entry numbers.items)) }
 {
     let mut numbers = Vec::new(alloc);
-    while let Some(word) = words.next_word() {
-        match number(word) {
-            Some(number) => numbers.push(number)?,
-            None => return Ok(None),
-        }
+    while !words.is_empty() {
+        let Some(number) = words.number() else {
+            return Ok(None);
+        };
+        numbers.push(number)?;
     }
     Ok(Some(numbers))
 }
 
-fn edition(numbers: &[u16]) -> Option<Line>
-    ensures { IsLineOf Form.Edition numbers.now result }
-{
-    let [number] = numbers else {
-        return None;
-    };
-    let edition = Edition::of_number(u8::try_from(*number).ok()?)?;
-    Some(Line::Edition(edition))
-}
-
-fn site(alloc: Global, numbers: &[u16]) -> Result<Option<Line>, AllocError>
-    ensures { IfOk result (IsLineOf Form.Site numbers.now) }
-{
-    let Some((site, processes)) = numbers.split_first() else {
-        return Ok(None);
-    };
-    Ok(Some(Line::Site(SiteRow {
-        site: *site,
-        processes: Vec::from_slice(alloc, processes)?,
-    })))
-}
-
 /// An ask names at least one target.
-fn ask(alloc: Global, numbers: &[u16]) -> Result<Option<Line>, AllocError>
-    requires { All IsNumber numbers.now }
-    ensures { IfOk result (IsLineOf Form.Ask numbers.now) }
+fn ask(alloc: Global, mut words: Words<'_>) -> Result<Option<Line>, AllocError>
+    ensures { IfOk result (ReadsAll (Fits Form.Ask) words.entry) }
 {
-    let [asker, named @ ..] = numbers else {
+    let Some(asker) = words.process() else {
         return Ok(None);
     };
-    let Some(asker) = ProcId::new(*asker) else {
+    if words.is_empty() {
+        return Ok(None);
+    }
+    let Some(targets) = targets(alloc, words)? else {
         return Ok(None);
     };
-    if named.is_empty() {
-        return Ok(None);
-    }
-    let mut targets = Vec::with_capacity(alloc, named.len())?;
-    for number in named {
-        match ProcId::new(*number) {
-            Some(target) => targets.push(target)?,
-            None => return Ok(None),
-        }
-    }
-    let targets = Targets::new(targets);
     Ok(Some(Line::Command(Command::Act {
         process: asker,
         event: Event::Ask { asker, targets },
     })))
 }
 
-fn reply(numbers: &[u16]) -> Option<Line>
-    requires { All IsNumber numbers.now }
-    ensures { IsLineOf Form.Reply numbers.now result }
+/// The processes that the words name, if each of them names one.
+fn targets(alloc: Global, mut words: Words<'_>) -> Result<Option<Targets>, AllocError>
+    ensures { IfOk result (λ targets. MatchOption targets ((ns : List ℕ) → Spell words.entry ns → ⊥)
+        (λ targets. Spell words.entry targets)) }
 {
-    let [holder, asker] = numbers else {
-        return None;
-    };
-    let holder = ProcId::new(*holder)?;
-    let asker = ProcId::new(*asker)?;
+    let mut processes = Vec::new(alloc);
+    while !words.is_empty() {
+        let Some(process) = words.process() else {
+            return Ok(None);
+        };
+        processes.push(process)?;
+    }
+    Ok(Some(Targets::new(processes)))
+}
+
+fn reply(mut words: Words<'_>) -> Option<Line>
+    ensures { ReadsAll (Fits Form.Reply) words.entry result }
+{
+    let holder = words.process()?;
+    let asker = words.process()?;
+    words.end()?;
     Some(Line::Command(Command::Act {
         process: holder,
         event: Event::Reply { holder, asker },
     }))
 }
 
-fn start(numbers: &[u16]) -> Option<Line>
-    requires { All IsNumber numbers.now }
-    ensures { IsLineOf Form.Start numbers.now result }
+fn start(mut words: Words<'_>) -> Option<Line>
+    ensures { ReadsAll (Fits Form.Start) words.entry result }
 {
-    let [of] = numbers else {
-        return None;
-    };
-    let of = ProcId::new(*of)?;
+    let of = words.process()?;
+    words.end()?;
     Some(Line::Command(Command::Act {
         process: of,
         event: Event::Start { of },
     }))
 }
 
-fn deliver(numbers: &[u16]) -> Option<Line>
-    requires { All IsNumber numbers.now }
-    ensures { IsLineOf Form.Deliver numbers.now result }
+fn deliver(words: Words<'_>) -> Option<Line>
+    ensures { ReadsAll (Fits Form.Deliver) words.entry result }
 {
-    let (from, to) = link(numbers)?;
+    let (from, to) = link(words)?;
     Some(Line::Command(Command::Deliver { from, to }))
 }
 
-fn cut(numbers: &[u16]) -> Option<Line>
-    requires { All IsNumber numbers.now }
-    ensures { IsLineOf Form.Cut numbers.now result }
+fn cut(words: Words<'_>) -> Option<Line>
+    ensures { ReadsAll (Fits Form.Cut) words.entry result }
 {
-    let (from, to) = link(numbers)?;
+    let (from, to) = link(words)?;
     Some(Line::Command(Command::Cut { from, to }))
 }
 
 /// It stands alone on its line.
-fn report(numbers: &[u16]) -> Option<Line>
-    ensures { IsLineOf Form.Report numbers.now result }
+fn report(words: Words<'_>) -> Option<Line>
+    ensures { ReadsAll (Fits Form.Report) words.entry result }
 {
-    match numbers {
-        [] => Some(Line::Command(Command::Report)),
-        _ => None,
-    }
+    words.end()?;
+    Some(Line::Command(Command::Report))
 }
 
 /// The sites that a link goes from and to.
-fn link(numbers: &[u16]) -> Option<(SiteId, SiteId)>
-    requires { All IsNumber numbers.now }
-    ensures { MatchOption result ((from to : ℕ) → numbers.now ≢ from ∷ to ∷ [])
-        (λ ends. numbers.now ≡ ends.0 ∷ ends.1 ∷ []) }
+fn link(mut words: Words<'_>) -> Option<(SiteId, SiteId)>
+    ensures { ReadsAll (λ ns (ends : ℕ × ℕ). ns ≡ ends.0 ∷ ends.1 ∷ []) words.entry result }
 {
-    let [from, to] = numbers else {
-        return None;
-    };
-    Some((SiteId::new(*from)?, SiteId::new(*to)?))
+    let from = words.site()?;
+    let to = words.site()?;
+    words.end()?;
+    Some((from, to))
 }

@@ -28,11 +28,11 @@ use Rattle.cmh_site.specs.declared.site_reply.ClosedLink.{ClosedLink}
 
 module _ (t : Topology) (start old now out : Option (List ℕ)) (n : ℕ) (so_far : HasTalked (Unit {0}) (IsTurn t) tt start now old out tt n) where
   -- no line is left
-  pub replied_all : (next : NextLine) (line : List ℕ) (has_failed : Bool) → IfSome now (λ bytes. IsNextLine bytes line next) → next ≡ End
+  pub replied_all : (next : NextLine) (has_failed : Bool) → IfSome now (λ bytes. IsNextLine bytes next) → next ≡ End
       → IfSome start (λ bytes. Replied t bytes old out has_failed (Ok Awaits))
-  replied_all next line has_failed is ends = if_some start _ (λ bytes e.
+  replied_all next has_failed is ends = if_some start _ (λ bytes e.
       let s = so_far bytes e in
-      let none : s.rest ≡ [] = subst (IsNextLine s.rest line) ends (at_some now (λ bytes. IsNextLine bytes line next) s.rest s.now_is is) in
+      let none : s.rest ≡ [] = subst (IsNextLine s.rest) ends (at_some now (λ bytes. IsNextLine bytes next) s.rest s.now_is is) in
       record {
         text = s.text;
         is = record { last = tt; dialogue = subst (λ (r : List ℕ). Dialogue (Unit {0}) (IsTurn t) tt bytes r s.text tt) none s.dialogue };
@@ -40,14 +40,13 @@ module _ (t : Topology) (start old now out : Option (List ℕ)) (n : ℕ) (so_fa
       })
 
   -- a line ends it
-  pub replied_to_end : (wrote : Option (List ℕ)) (next : NextLine) (line given : List ℕ) (has_failed : Bool)
-      → IfSome now (λ bytes. IsNextLine bytes line next) → next ≢ End → given ≡ line
-      → HasAnswered (λ said text. IsTurnOfCluster t said text) (line_of next given) out wrote
+  pub replied_to_end : (wrote : Option (List ℕ)) (next : NextLine) (has_failed : Bool)
+      → IfSome now (λ bytes. IsNextLine bytes next) → next ≢ End
+      → HasAnswered (λ said text. IsTurnOfCluster t said text) (line_of next) out wrote
       → IfSome start (λ bytes. Replied t bytes old wrote has_failed (Ok Ends))
-  replied_to_end wrote next line given has_failed is more same said = if_some start _ (λ bytes e.
+  replied_to_end wrote next has_failed is more said = if_some start _ (λ bytes e.
       let s = so_far bytes e in
-      let answered = subst (λ (l : List ℕ). IsTurnOfCluster t (line_of next l) said.text) same said.answered in
-      let one = first_is s.rest line next (at_some now (λ bytes. IsNextLine bytes line next) s.rest s.now_is is) more in
+      let one = first_is s.rest next (at_some now (λ bytes. IsNextLine bytes next) s.rest s.now_is is) more in
       record {
         text = s.text ++ said.text;
         is = record {
@@ -58,7 +57,7 @@ module _ (t : Topology) (start old now out : Option (List ℕ)) (n : ℕ) (so_fa
           new = tt;
           dialogue = s.dialogue;
           more = one.0;
-          ends = subst (λ (l : Option (List ℕ)). IsTurnOfCluster t l said.text) one.1 answered;
+          ends = subst (λ (l : Option (List ℕ)). IsTurnOfCluster t l said.text) one.1 said.answered;
           text_is = refl;
         };
         wrote = appends-more old out wrote s.text said.text s.wrote said.wrote;

@@ -25,11 +25,11 @@ use cmh_links::{LinkFault, LinkState};
 use cmh_model::Event;
 use cmh_play::path_in;
 use cmh_running::{ClusterLine, EventLine, Flow, Ports, Tally, can_be_made, parse_for_cluster};
-use cmh_script::{Device, NextLine, read_line};
+use cmh_script::{Input, NextLine, Output, read_line};
 use cmh_station::{BoardReader, KeptBoard, Listing, StationRefusal};
 use std::alloc::{AllocError, Global};
 use std::fs::File;
-use std::io::{ErrorKind, Read, Write};
+use std::io::{BufRead, ErrorKind, Write};
 use std::net::{Net, TcpListener, TcpStream};
 use std::rt::Files;
 use std::sync::{Arc, Wait};
@@ -51,8 +51,8 @@ pub fn run_cluster<R, W: Write, E: Write>(
     topology: &[u8],
     script: &[u8],
     dir: &str,
-    out: &mut Device<W>,
-    err: &mut Device<E>,
+    out: &mut Output<W>,
+    err: &mut Output<E>,
 ) -> u8
 where
     R: Wait
@@ -99,7 +99,7 @@ fn cluster_into<R, W: Write>(
     topology: &[u8],
     script: &[u8],
     dir: &str,
-    out: &mut Device<W>,
+    out: &mut Output<W>,
 ) -> Result<Played, Fault>
 where
     R: Wait
@@ -126,7 +126,7 @@ where
     }
 }
 
-fn say_not_settled<W: Write>(out: &mut Device<W>) -> Result<(), Fault>
+fn say_not_settled<W: Write>(out: &mut Output<W>) -> Result<(), Fault>
     ensures said { OnOk result (Appends (W.contents out.old.inner) (W.contents out.new.inner)
         (codes "not settled\n")) }
     ensures flushed { OnOk result (out.new.is_flushed ≡ true) }
@@ -163,7 +163,7 @@ fn run_sites<R, W: Write>(
     ports: &Ports,
     script: &[u8],
     dir: &str,
-    out: &mut Device<W>,
+    out: &mut Output<W>,
 ) -> Result<Flow, Fault>
 where
     R: Wait
@@ -305,7 +305,7 @@ where
         ports: &Ports,
         dir: &str,
         script: &[u8],
-        out: &mut Device<W>,
+        out: &mut Output<W>,
     ) -> Result<Flow, Fault>
         ensures played { IfOk result (HasPlayed self.old.topology.now script.now (W.contents out.old.inner)
             (W.contents out.new.inner)) }
@@ -316,7 +316,7 @@ where
         for threads in self.running.iter_mut() {
             let _ = threads.connect();
         }
-        let mut input = Device::new(script);
+        let mut input = Input::new(script);
         match self.answer_all(&mut input, out) {
             Ok(Flow::Awaits) => {
                 self.write_closed(out)?;
@@ -433,22 +433,22 @@ where
     }
 
     /// Gives line after line to `answer`, until one ends it or none is left, and then another would be awaited.
-    fn answer_all<I: Read, W: Write>(
+    fn answer_all<I: BufRead, W: Write>(
         &mut self,
-        input: &mut Device<I>,
-        out: &mut Device<W>,
+        input: &mut Input<I>,
+        out: &mut Output<W>,
     ) -> Result<Flow, Fault>
         ensures answers { IfSome (I.remaining input.old.inner) (λ bytes. Replied self.old.topology.now bytes
             (W.contents out.old.inner) (W.contents out.new.inner) out.new.has_failed result) }
         ensures fault { IfErr result (IsPlayFault (I.remaining input.old.inner) input.new.has_failed out.new.has_failed) }
     {
-        let mut line = Vec::new(self.alloc);
+        let mut buffer = Vec::new(self.alloc);
         for turn in 0..u64::MAX {
-            let next = read_line(input, &mut line)?;
+            let next = read_line(input, &mut buffer)?;
             if next.is_end() {
                 return Ok(Flow::Awaits);
             }
-            let flow = self.answer(next, &line, out)?;
+            let flow = self.answer(next, out)?;
             match flow {
                 Flow::Awaits => {}
                 Flow::Ends => return Ok(Flow::Ends),
@@ -458,18 +458,13 @@ where
     }
 
     /// Answers a line and waits until all frames have come; where they don't, no other line is read.
-    fn answer<W: Write>(
-        &mut self,
-        next: NextLine,
-        line: &[u8],
-        out: &mut Device<W>,
-    ) -> Result<Flow, Fault>
-        ensures answers { IfOk result (λ flow. HasAnswered (λ said text. IsTurnOfCluster self.old.topology.now said text) (line_of next line.now)
+    fn answer<W: Write>(&mut self, next: NextLine<'_>, out: &mut Output<W>) -> Result<Flow, Fault>
+        ensures answers { IfOk result (λ flow. HasAnswered (λ said text. IsTurnOfCluster self.old.topology.now said text) (line_of next.entry)
             (W.contents out.old.inner) (W.contents out.new.inner)) }
         ensures topology { self.new.topology ≡ self.old.topology }
         ensures fault { IfErr result (IsAnswerFault (W.contents out.old.inner) (W.contents out.new.inner) out.new.has_failed) }
     {
-        let said = said_by(self.alloc, next, line)?;
+        let said = said_by(self.alloc, next)?;
         let reply = self.reply(&said)?;
         out.write_text(&reply)?;
         out.flush()?;
@@ -582,7 +577,7 @@ where
 
     /// A line for each link that is closed, ascending.
     #[tactic(auto, using(crate::proofs::ClusterEndings::none_closed, crate::proofs::ClusterEndings::one_more_closed))]
-    fn write_closed<W: Write>(&self, out: &mut Device<W>) -> Result<(), Fault>
+    fn write_closed<W: Write>(&self, out: &mut Output<W>) -> Result<(), Fault>
         ensures closed { OnOk result (NamesClosed (W.contents out.old.inner) (W.contents out.new.inner)) }
         ensures fault { IfErr result (λ fault. (fault ≡ Fault.Output) × (out.new.has_failed ≡ true)) }
     {
@@ -663,11 +658,11 @@ fn of_script(fault: Fault) -> Fault
 }
 
 /// What a line says; one that is too long is a bad one.
-fn said_by(alloc: Global, next: NextLine, line: &[u8]) -> Result<ClusterLine, AllocError>
-    ensures { IfOk result (WasSaidToCluster (line_of next line.now)) }
+fn said_by(alloc: Global, next: NextLine<'_>) -> Result<ClusterLine, AllocError>
+    ensures { IfOk result (WasSaidToCluster (line_of next.entry)) }
 {
     match next {
-        NextLine::Line => parse_for_cluster(alloc, line),
+        NextLine::Line(line) => parse_for_cluster(alloc, line),
         NextLine::TooLong => Ok(ClusterLine::Event(EventLine::Bad)),
         NextLine::End => Ok(ClusterLine::Event(EventLine::Bad)),
     }

@@ -13,4 +13,4 @@ pub use cmh_files::{
     run_audit, run_show,
 };
 pub use cmh_play::{Folder, Keeper, NoKeeper, run_play, run_play_keeping};
-pub use cmh_script::{Ahead, Device};
+pub use cmh_script::{Ahead, Input, Output};

@@ -19,11 +19,11 @@ use cmh_journal::{FileSink, Sink};
 use cmh_running::{
     EventLine, Flow, NoFile, Order, Ports, SiteLine, can_be_made, keep_old, parse_for_site,
 };
-use cmh_script::{Device, NextLine, read_line};
+use cmh_script::{Input, NextLine, Output, read_line};
 use cmh_station::{BoardReader, KeptBoard, Listing};
 use std::alloc::{AllocError, Global};
 use std::fs::File;
-use std::io::{Read, Write};
+use std::io::{BufRead, Write};
 use std::net::{Net, TcpListener, TcpStream};
 use std::rt::Files;
 use std::sync::{Arc, Wait};
@@ -35,15 +35,15 @@ use std::thread::Threads;
 /// Each line is answered, and the answer flushed, before the next one is awaited. The entry of a step is in the journal's
 /// file, and synced, before the step is answered. A file that stands at the journal's path and isn't empty is kept under
 /// the path with `.1` behind, or the first such name that is free.
-pub fn run_site<R, I: Read, W: Write, E: Write>(
+pub fn run_site<R, I: BufRead, W: Write, E: Write>(
     rt: R,
     alloc: Global,
     topology: &[u8],
     site: SiteId,
     journal: &str,
-    input: &mut Device<I>,
-    out: &mut Device<W>,
-    err: &mut Device<E>,
+    input: &mut Input<I>,
+    out: &mut Output<W>,
+    err: &mut Output<E>,
 ) -> u8
 where
     R: Wait
@@ -74,14 +74,14 @@ where
 }
 
 #[tactic(auto, using(crate::proofs::Endings::served))]
-fn site_into<R, I: Read, W: Write>(
+fn site_into<R, I: BufRead, W: Write>(
     rt: R,
     alloc: Global,
     topology: &[u8],
     site: SiteId,
     journal: &str,
-    input: &mut Device<I>,
-    out: &mut Device<W>,
+    input: &mut Input<I>,
+    out: &mut Output<W>,
 ) -> Result<(), Fault>
 where
     R: Wait
@@ -193,10 +193,10 @@ where
         + 'static,
 {
     /// Says that it listens, and answers line after line.
-    fn serve<I: Read, W: Write>(
+    fn serve<I: BufRead, W: Write>(
         &mut self,
-        input: &mut Device<I>,
-        out: &mut Device<W>,
+        input: &mut Input<I>,
+        out: &mut Output<W>,
     ) -> Result<(), Fault>
         ensures served { IfSome (I.remaining input.old.inner) (λ bytes.
             Welcomed self.old.site self.old.has_connected bytes
@@ -209,23 +209,23 @@ where
     }
 
     /// Gives line after line to `answer`, until one ends it or none is left.
-    fn answer_all<I: Read, W: Write>(
+    fn answer_all<I: BufRead, W: Write>(
         &mut self,
-        input: &mut Device<I>,
-        out: &mut Device<W>,
+        input: &mut Input<I>,
+        out: &mut Output<W>,
     ) -> Result<(), Fault>
         ensures answers { IfSome (I.remaining input.old.inner) (λ bytes.
             Conversed (IsTurnOfSite self.old.site) self.old.has_connected bytes
             (W.contents out.old.inner) (W.contents out.new.inner) out.new.has_failed result) }
         ensures fault { IfErr result (IsPlayFault (I.remaining input.old.inner) input.new.has_failed out.new.has_failed) }
     {
-        let mut line = Vec::new(self.alloc);
+        let mut buffer = Vec::new(self.alloc);
         for turn in 0..u64::MAX {
-            let next = read_line(input, &mut line)?;
+            let next = read_line(input, &mut buffer)?;
             if next.is_end() {
                 return Ok(());
             }
-            let flow = self.answer(next, &line, out)?;
+            let flow = self.answer(next, out)?;
             match flow {
                 Flow::Awaits => {}
                 Flow::Ends => return Ok(()),
@@ -235,19 +235,14 @@ where
     }
 
     /// Answers a line.
-    fn answer<W: Write>(
-        &mut self,
-        next: NextLine,
-        line: &[u8],
-        out: &mut Device<W>,
-    ) -> Result<Flow, Fault>
+    fn answer<W: Write>(&mut self, next: NextLine<'_>, out: &mut Output<W>) -> Result<Flow, Fault>
         ensures answers { IfOk result (λ flow.
             HasAnswered (λ said text. IsTurnOfSite self.old.site self.old.has_connected self.new.has_connected said text flow)
-            (line_of next line.now) (W.contents out.old.inner) (W.contents out.new.inner)) }
+            (line_of next.entry) (W.contents out.old.inner) (W.contents out.new.inner)) }
         ensures site { self.new.site ≡ self.old.site }
         ensures fault { IfErr result (IsAnswerFault (W.contents out.old.inner) (W.contents out.new.inner) out.new.has_failed) }
     {
-        let said = said_by(self.alloc, next, line)?;
+        let said = said_by(self.alloc, next)?;
         let (reply, flow) = self.reply(said)?;
         out.write_text(&reply)?;
         out.flush()?;
@@ -293,11 +288,11 @@ where
 }
 
 /// What a line says; one that is too long is a bad one.
-fn said_by(alloc: Global, next: NextLine, line: &[u8]) -> Result<SiteLine, AllocError>
-    ensures { IfOk result (WasSaidToSite (line_of next line.now)) }
+fn said_by(alloc: Global, next: NextLine<'_>) -> Result<SiteLine, AllocError>
+    ensures { IfOk result (WasSaidToSite (line_of next.entry)) }
 {
     match next {
-        NextLine::Line => parse_for_site(alloc, line),
+        NextLine::Line(line) => parse_for_site(alloc, line),
         NextLine::TooLong => Ok(SiteLine::Event(EventLine::Bad)),
         NextLine::End => Ok(SiteLine::Event(EventLine::Bad)),
     }

@@ -1,7 +1,7 @@
 //! The command `audit`, from the bytes of its files to the bytes of its answer.
 
 use crate::carriers::{Trouble, Writer};
-use cmh_site::{Device, run_audit};
+use cmh_site::{Output, run_audit};
 use cmh_worlds::{AUDITS, RUNS, STARTING, World};
 use std::process::Abort;
 use std::test::Fail;
@@ -172,8 +172,8 @@ fn audit<R: AllocGlobal>(rt: &R, topology: &str, files: &[Vec<u8>], writes: Trou
         rt.alloc(),
         topology.as_bytes(),
         files,
-        &mut Device::new(&mut out),
-        &mut Device::new(&mut fault),
+        &mut Output::new(&mut out),
+        &mut Output::new(&mut fault),
     );
     let met = out.met();
     Answer {
@@ -262,8 +262,8 @@ fn a_fault_line_that_cannot_be_written_is_left_out(rt: HostRuntime) {
         rt.alloc(),
         b"{",
         &[],
-        &mut Device::new(Vec::new(rt.alloc())),
-        &mut Device::new(Writer::new(&mut line, 1, Trouble::Fails(0))),
+        &mut Output::new(Vec::new(rt.alloc())),
+        &mut Output::new(Writer::new(&mut line, 1, Trouble::Fails(0))),
     );
     assert_eq!(rt; status, 3);
 }

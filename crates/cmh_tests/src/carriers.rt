@@ -2,7 +2,7 @@
 
 use cmh_site::Ahead;
 use std::io;
-use std::io::{ErrorKind, Read, Write};
+use std::io::{BufRead, ErrorKind, Read, Write};
 
 /// What goes wrong at one call of a reader or a writer, and at no other. Calls are counted from 0.
 #[derive(Clone, Copy, Debug, PartialEq, Eq)]
@@ -70,6 +70,22 @@ impl<'a> Read for Reader<'a> {
         buf[..len].copy_from_slice(&self.bytes[..len]);
         self.bytes = &self.bytes[len..];
         Ok(len)
+    }
+}
+
+/// It keeps nothing but what a read would give, and each look at that is a call.
+impl<'a> BufRead for Reader<'a> {
+    fn fill_buf(&mut self) -> io::Result<&[u8]> {
+        let call = self.calls;
+        self.calls = call.saturating_add(1);
+        self.trouble.at(call)?;
+        let len = self.bytes.len().min(self.most);
+        Ok(&self.bytes[..len])
+    }
+
+    fn consume(&mut self, amount: usize) {
+        let len = amount.min(self.bytes.len());
+        self.bytes = &self.bytes[len..];
     }
 }
 

@@ -1,9 +1,9 @@
 //! What a command has written is flushed before it ends, and each answer of a script before another line is waited for.
 
 use crate::carriers::{Reader, Trouble};
-use cmh_site::{Ahead, Device, run_audit, run_play};
+use cmh_site::{Ahead, Input, Output, run_audit, run_play};
 use std::io;
-use std::io::{ErrorKind, Read, Write};
+use std::io::{BufRead, ErrorKind, Read, Write};
 use std::test::Fail;
 
 /// Takes all that it is given, and keeps how much of it there was when it was flushed last.
@@ -50,15 +50,15 @@ fn writer<R: AllocGlobal>(rt: &R, can_flush: bool) -> Held {
 
 const SCRIPT: &[u8] = b"site 1 1\nreport\n";
 
-fn play<R: AllocGlobal, I: Read + Ahead + Drop>(rt: &R, input: I, can_flush: bool) -> Ended {
-    let mut input = Device::new(input);
+fn play<R: AllocGlobal, I: BufRead + Ahead + Drop>(rt: &R, input: I, can_flush: bool) -> Ended {
+    let mut input = Input::new(input);
     let mut out = writer(rt, can_flush);
     let mut fault = Vec::new(rt.alloc());
     let status = run_play(
         rt.alloc(),
         &mut input,
-        &mut Device::new(&mut out),
-        &mut Device::new(&mut fault),
+        &mut Output::new(&mut out),
+        &mut Output::new(&mut fault),
     );
     Ended { status, out, fault }
 }
@@ -72,8 +72,8 @@ fn audit<R: AllocGlobal>(rt: &R, can_flush: bool) -> Result<Ended, Fail> {
         rt.alloc(),
         br#"{"edition":1,"sites":[{"site":1,"processes":[1]}]}"#,
         &files,
-        &mut Device::new(&mut out),
-        &mut Device::new(&mut fault),
+        &mut Output::new(&mut out),
+        &mut Output::new(&mut fault),
     );
     Ok(Ended { status, out, fault })
 }

@@ -1,7 +1,7 @@
 //! The command `play`, from the bytes of a script to the bytes of its answers.
 
 use crate::carriers::{Reader, Trouble, Writer};
-use cmh_site::{Device, run_play};
+use cmh_site::{Input, Output, run_play};
 use cmh_worlds::{ONE_SITE, SEVERAL_SITES, Script};
 use std::process::Abort;
 use std::test::Fail;
@@ -29,9 +29,9 @@ fn play<R: AllocGlobal>(
     let mut out = Writer::new(&mut answers, piece, writes);
     let status = run_play(
         rt.alloc(),
-        &mut Device::new(&mut input),
-        &mut Device::new(&mut out),
-        &mut Device::new(&mut fault),
+        &mut Input::new(&mut input),
+        &mut Output::new(&mut out),
+        &mut Output::new(&mut fault),
     );
     let met = input.met() || out.met();
     Played {
@@ -126,9 +126,9 @@ fn a_fault_line_that_cannot_be_written_is_left_out(rt: HostRuntime) {
     let mut line = Vec::new(rt.alloc());
     let status = run_play(
         rt.alloc(),
-        &mut Device::new(Reader::new(b"site 1 1\n", 1, Trouble::Fails(0))),
-        &mut Device::new(Vec::new(rt.alloc())),
-        &mut Device::new(Writer::new(&mut line, 1, Trouble::Fails(0))),
+        &mut Input::new(Reader::new(b"site 1 1\n", 1, Trouble::Fails(0))),
+        &mut Output::new(Vec::new(rt.alloc())),
+        &mut Output::new(Writer::new(&mut line, 1, Trouble::Fails(0))),
     );
     assert_eq!(rt; status, 3);
 }
@@ -141,10 +141,10 @@ fn a_line_has_at_most_1024_bytes(rt: HostRuntime) -> Result<(), Fail> {
             script.push(b' ')?;
         }
         script.extend_from_slice(b"site 1 1\r\n")?;
-        let mut input = Device::new(script.as_slice());
+        let mut input = Input::new(script.as_slice());
         let mut out = Vec::new(rt.alloc());
-        let mut err = Device::new(Vec::new(rt.alloc()));
-        let status = run_play(rt.alloc(), &mut input, &mut Device::new(&mut out), &mut err);
+        let mut err = Output::new(Vec::new(rt.alloc()));
+        let status = run_play(rt.alloc(), &mut input, &mut Output::new(&mut out), &mut err);
         assert_eq!(rt; status, 0);
         assert!(rt; out.as_slice() == answers.as_bytes(), "{spaces} spaces");
     }

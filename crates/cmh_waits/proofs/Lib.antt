@@ -9,3 +9,4 @@ pub mod ListLemmas
 pub mod Updates
 pub mod AskLemmas
 pub mod Shown
+pub mod Placed

@@ -41,7 +41,7 @@ first_fits f a x y = elim (cases_eq a x) [
   | inr n ↦ ap (λ b. b && is_in (f a) y) (ne_eqb a x n) ∙ sym (ap (λ b. b && is_in (f x) y) (ne_eqb a x n))
 ]
 
-in_pairs_of : (xs : List ℕ) (f : ℕ → List ℕ) (x y : ℕ) → list_any (is_pair x y) (pairs_of xs f) ≡ (is_in xs x && is_in (f x) y)
+pub in_pairs_of : (xs : List ℕ) (f : ℕ → List ℕ) (x y : ℕ) → list_any (is_pair x y) (pairs_of xs f) ≡ (is_in xs x && is_in (f x) y)
 in_pairs_of [] f x y = refl
 in_pairs_of (a ∷ xs) f x y =
     list_any-append (is_pair x y) (map (λ b. (a, b)) (f a)) (pairs_of xs f)

@@ -97,6 +97,10 @@ module _ (v : Held) (ms rows : List ℕ) (lists : List (List ℕ)) (o : Relation
           found_at (get_or lists p []) k (sym (has_listed ms rows lists up are p x k within e away) ∙ ap (λ h. has h.waits x k) is ∙ both.0),
     )
 
+    -- a list that stands at its place
+    pub remote_at_place : (shown : List ℕ) → shown ≡ get_or lists p [] → (k : ℕ) → Contains shown k ↔ ((has v.waits x k ≡ true) × (is_member v k ≡ false))
+    remote_at_place shown e k = subst (λ xs. Contains xs k ↔ ((has v.waits x k ≡ true) × (is_member v k ≡ false))) (sym e) (remote_are k)
+
     module _ {A E : Type 0} where
       pub local_all : (r : Result (Vec ℕ A) E) (ms' : List ℕ) (row : ℕ) → ms' ≡ ms → row ≡ get_or rows p 0 → IfOk r (λ all. all.items ≡ filter (λ q. is_set row (place_in ms' q)) ms') → IfOk r (λ holders. (k : ℕ) → Contains holders.items k ↔ ((has v.waits x k ≡ true) × IsMember v k))
       local_all (Ok all) ms' row same was h = λ k. subst (λ xs. Contains xs k ↔ ((has v.waits x k ≡ true) × IsMember v k)) (sym (h ∙ ap (λ n. filter (λ q. is_set n (place_in ms' q)) ms') was ∙ ap (λ ns. filter (λ q. is_set (get_or rows p 0) (place_in ns q)) ns) same)) (local_are k)

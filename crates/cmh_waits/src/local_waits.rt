@@ -1,7 +1,7 @@
 //! The waits and the unanswered requests of a site's members.
 
 ghost use Rattle.std.specs.Prelude.{◌≡◌, ℕ, ◌<◌, ◌≤◌, ◌↔◌, ◌==◌, true, false, not, ◌&&◌, ◌||◌, IfOk, OnOk, OnErr};
-ghost use Rattle.std.specs.Prelude.{MatchOption, [], Contains, length, filter, replicate, slice_get, slice_index};
+ghost use Rattle.std.specs.Prelude.{IfSome, MatchOption, [], Contains, length, filter, replicate, slice_get, slice_index};
 ghost use Rattle.std.specs.List.{list_any};
 ghost use Rattle.std.specs.List.Sorted.{IsStrictlyIncreasing};
 ghost use Rattle.cmh_model.specs.Relation.{has, has_some};
@@ -11,6 +11,7 @@ ghost use Rattle.cmh_waits.specs.Held.{asked, before_ask, before_request, got_re
 ghost use Rattle.cmh_waits.specs.Rows.{AreRows, bit_of, is_at_in, is_in, is_set, joins, place_in, relation_of};
 
 use crate::bits::{has_bit, with_bit, without_bit};
+use crate::member_table::MemberTable;
 use crate::proc_list::ProcList;
 use cmh_frames::ProcId;
 use std::alloc::{AllocError, Global};
@@ -26,7 +27,7 @@ use std::marker::Model;
 pub struct LocalWaits {
     alloc: Global,
     /// A member's place here is its number in the rows.
-    members: Vec<ProcId>,
+    members: MemberTable,
     /// The members that each member waits for.
     waits: Vec<u64>,
     /// The members to which each member owes a reply.
@@ -45,9 +46,9 @@ impl Model for LocalWaits {
 
     ghost coded = { held_code };
 
-    ghost view = { λ w. held_of w.members.items w.waits.items w.remote_waits.items w.owed.items w.remote_owed.items };
+    ghost view = { λ w. held_of w.members w.waits.items w.remote_waits.items w.owed.items w.remote_owed.items };
 
-    ghost invariant = { λ w. AreKept w.members.items w.waits.items w.remote_waits.items
+    ghost invariant = { λ w. AreKept w.members w.waits.items w.remote_waits.items
         w.owed.items w.remote_owed.items };
 }
 
@@ -61,7 +62,7 @@ impl LocalWaits {
         let count = members.len();
         Ok(LocalWaits {
             alloc,
-            members: members.to_vec(alloc)?,
+            members: MemberTable::new(alloc, members)?,
             waits: vec![in alloc; 0; count]?,
             owed: vec![in alloc; 0; count]?,
             remote_waits: empty_lists(alloc, count)?,
@@ -87,17 +88,18 @@ impl LocalWaits {
 
     /// The number of a member: how many members stand before it.
     pub fn place(&self, process: ProcId) -> Option<usize>
-        ensures { MatchOption result (is_member self.now process ≡ false)
+        ensures place { MatchOption result (is_member self.now process ≡ false)
             (λ place. (place < length self.now.members) × (slice_index self.now.members place ≡ process)) }
+        ensures small { IfSome result (λ place. place < 64) }
     {
-        place_of(&self.members, process)
+        self.members.place_of(process)
     }
 
     /// The member with this number.
     pub fn member(&self, place: usize) -> Option<ProcId>
         ensures { result ≡ slice_get self.now.members place }
     {
-        self.members.get(place).copied()
+        self.members.as_slice().get(place).copied()
     }
 
     /// The numbers of the members for which the member with this number waits, as bits; 0 where no member has it.
@@ -148,7 +150,7 @@ impl LocalWaits {
         ensures err { OnErr result (self.new ≡ self.old) }
     {
         let others = others_among(self.alloc, &self.members, targets)?;
-        if let Some(place) = place_of(&self.members, asker) {
+        if let Some(place) = self.members.place_of(asker) {
             self.waits[place] = row_of(&self.members, targets);
             self.remote_waits[place] = ProcList::new(others);
             owe_each(&mut self.owed, &self.members, place, targets);
@@ -164,7 +166,7 @@ impl LocalWaits {
         requires asked { (k : ℕ) → has self.old.waits asker k ≡ true → list_any (λ q. q == k) targets.now ≡ true }
         ensures { self.new ≡ before_ask self.old asker targets.now }
     {
-        if let Some(place) = place_of(&self.members, asker) {
+        if let Some(place) = self.members.place_of(asker) {
             self.waits[place] = 0;
             self.remote_waits[place].clear();
             owe_no_more(&mut self.owed, &self.members, place, targets);
@@ -181,8 +183,8 @@ impl LocalWaits {
         ensures value { self.new ≡ replied self.old holder asker }
         ensures woke { result ≡ wakes self.old self.new asker }
     {
-        if let Some(second) = place_of(&self.members, holder) {
-            if let Some(first) = place_of(&self.members, asker) {
+        if let Some(second) = self.members.place_of(holder) {
+            if let Some(first) = self.members.place_of(asker) {
                 self.owed[second] = without_bit(self.owed[second], first);
                 self.waits[first] = without_bit(self.waits[first], second);
                 return !has_first(&self.members, &self.waits, &self.remote_waits, asker);
@@ -200,7 +202,7 @@ impl LocalWaits {
         ensures ok { OnOk result (self.new ≡ got_request self.old holder asker) }
         ensures err { OnErr result (self.new ≡ self.old) }
     {
-        match place_of(&self.members, holder) {
+        match self.members.place_of(holder) {
             Some(place) => self.remote_owed[place].insert(asker),
             None => Ok(()),
         }
@@ -214,7 +216,7 @@ impl LocalWaits {
         requires elsewhere { is_member self.old asker ≡ false }
         ensures { self.new ≡ before_request self.old holder asker }
     {
-        if let Some(place) = place_of(&self.members, holder) {
+        if let Some(place) = self.members.place_of(holder) {
             self.remote_owed[place].remove(asker);
         }
     }
@@ -229,7 +231,7 @@ impl LocalWaits {
         ensures value { self.new ≡ got_reply self.old asker holder }
         ensures woke { result ≡ wakes self.old self.new asker }
     {
-        if let Some(place) = place_of(&self.members, asker) {
+        if let Some(place) = self.members.place_of(asker) {
             self.remote_waits[place].remove(holder);
             return !has_first(&self.members, &self.waits, &self.remote_waits, asker);
         }
@@ -242,8 +244,8 @@ impl LocalWaits {
         ensures all { IfOk result (λ holders. (k : ℕ) →
             Contains holders.items k ↔ ((has self.now.waits asker k ≡ true) × IsMember self.now k)) }
     {
-        match place_of(&self.members, asker) {
-            Some(place) => members_of(alloc, &self.members, self.waits[place]),
+        match self.members.place_of(asker) {
+            Some(place) => members_of(alloc, self.members.as_slice(), self.waits[place]),
             None => Ok(Vec::new(alloc)),
         }
     }
@@ -254,9 +256,21 @@ impl LocalWaits {
         ensures all { IfOk result (λ holders. (k : ℕ) →
             Contains holders.items k ↔ ((has self.now.waits asker k ≡ true) × (is_member self.now k ≡ false))) }
     {
-        match place_of(&self.members, asker) {
+        match self.members.place_of(asker) {
             Some(place) => self.remote_waits[place].as_slice().to_vec(alloc),
             None => Ok(Vec::new(alloc)),
+        }
+    }
+
+    /// The processes of other sites that the member with this number waits for, ascending; none where no member has it.
+    pub fn remote_at(&self, place: usize) -> &[ProcId]
+        ensures ascending { IsStrictlyIncreasing result.now }
+        ensures all { place < length self.now.members → (k : ℕ) → Contains result.now k
+            ↔ ((has self.now.waits (slice_index self.now.members place) k ≡ true) × (is_member self.now k ≡ false)) }
+    {
+        match self.remote_waits.get(place) {
+            Some(list) => list.as_slice(),
+            None => &[],
         }
     }
 
@@ -266,30 +280,18 @@ impl LocalWaits {
     {
         Ok(LocalWaits {
             alloc,
-            members: self.members.to_vec(alloc)?,
+            members: self.members.copy(alloc)?,
             waits: self.waits.to_vec(alloc)?,
             owed: self.owed.to_vec(alloc)?,
-            remote_waits: copy_lists(alloc, &self.remote_waits)?,
-            remote_owed: copy_lists(alloc, &self.remote_owed)?,
+            remote_waits: ProcList::copy_all(alloc, &self.remote_waits)?,
+            remote_owed: ProcList::copy_all(alloc, &self.remote_owed)?,
         })
-    }
-}
-
-/// The place of a process among the members.
-fn place_of(members: &[ProcId], process: ProcId) -> Option<usize>
-    requires { IsStrictlyIncreasing members.now }
-    ensures { MatchOption result (is_in members.now process ≡ false)
-        (λ place. (place < length members.now) × (slice_index members.now place ≡ process)) }
-{
-    match members.binary_search(&process) {
-        Ok(place) => Some(place),
-        Err(_) => None,
     }
 }
 
 /// Whether the pair is in the relation of the rows and the lists.
 fn contains(
-    members: &[ProcId],
+    members: &MemberTable,
     rows: &[u64],
     lists: &[ProcList],
     first: ProcId,
@@ -300,8 +302,8 @@ fn contains(
     requires rows { AreRows members.now rows.now lists.now }
     ensures { result ≡ has (relation_of members.now rows.now lists.now) first second }
 {
-    match place_of(members, first) {
-        Some(place) => match place_of(members, second) {
+    match members.place_of(first) {
+        Some(place) => match members.place_of(second) {
             Some(other) => has_bit(rows[place], other),
             None => lists[place].contains(second),
         },
@@ -310,12 +312,12 @@ fn contains(
 }
 
 /// Whether the process is the first of a pair of the rows and the lists.
-fn has_first(members: &[ProcId], rows: &[u64], lists: &[ProcList], first: ProcId) -> bool
+fn has_first(members: &MemberTable, rows: &[u64], lists: &[ProcList], first: ProcId) -> bool
     requires ascending { IsStrictlyIncreasing members.now }
     requires rows { AreRows members.now rows.now lists.now }
     ensures { result ≡ has_some (relation_of members.now rows.now lists.now) first }
 {
-    match place_of(members, first) {
+    match members.place_of(first) {
         Some(place) => rows[place] != 0 || !lists[place].as_slice().is_empty(),
         None => false,
     }
@@ -324,7 +326,7 @@ fn has_first(members: &[ProcId], rows: &[u64], lists: &[ProcList], first: ProcId
 /// The processes of other sites among the targets.
 fn others_among(
     alloc: Global,
-    members: &[ProcId],
+    members: &MemberTable,
     targets: &[ProcId],
 ) -> Result<Vec<ProcId>, AllocError>
     requires { IsStrictlyIncreasing members.now }
@@ -338,22 +340,22 @@ fn others_among(
 }
 
 /// Whether the process is one of the members.
-fn is_among(members: &[ProcId], process: ProcId) -> bool
+fn is_among(members: &MemberTable, process: ProcId) -> bool
     requires { IsStrictlyIncreasing members.now }
     ensures { result ≡ is_in members.now process }
 {
-    place_of(members, process).is_some()
+    members.place_of(process).is_some()
 }
 
 /// The places of the members among the targets, as bits.
-fn row_of(members: &[ProcId], targets: &[ProcId]) -> u64
+fn row_of(members: &MemberTable, targets: &[ProcId]) -> u64
     requires ascending { IsStrictlyIncreasing members.now }
     requires few { length members.now ≤ 64 }
     ensures { (k : ℕ) → is_set result k ≡ is_at_in members.now targets.now k }
 {
     let mut row = 0;
     for target in targets {
-        if let Some(place) = place_of(members, *target) {
+        if let Some(place) = members.place_of(*target) {
             row = with_bit(row, place);
         }
     }
@@ -361,7 +363,7 @@ fn row_of(members: &[ProcId], targets: &[ProcId]) -> u64
 }
 
 /// Each member among the targets owes a reply to the member at the place.
-fn owe_each(owed: &mut Vec<u64>, members: &[ProcId], place: usize, targets: &[ProcId])
+fn owe_each(owed: &mut Vec<u64>, members: &MemberTable, place: usize, targets: &[ProcId])
     requires ascending { IsStrictlyIncreasing members.now }
     requires few { length members.now ≤ 64 }
     requires len { length owed.old.items ≡ length members.now }
@@ -371,14 +373,14 @@ fn owe_each(owed: &mut Vec<u64>, members: &[ProcId], place: usize, targets: &[Pr
         ≡ (((b == place) && is_at_in members.now targets.now a) || bit_of owed.old.items a b) }
 {
     for target in targets {
-        if let Some(holder) = place_of(members, *target) {
+        if let Some(holder) = members.place_of(*target) {
             owed[holder] = with_bit(owed[holder], place);
         }
     }
 }
 
 /// No member among the targets owes a reply to the member at the place any longer.
-fn owe_no_more(owed: &mut Vec<u64>, members: &[ProcId], place: usize, targets: &[ProcId])
+fn owe_no_more(owed: &mut Vec<u64>, members: &MemberTable, place: usize, targets: &[ProcId])
     requires ascending { IsStrictlyIncreasing members.now }
     requires few { length members.now ≤ 64 }
     requires len { length owed.old.items ≡ length members.now }
@@ -388,7 +390,7 @@ fn owe_no_more(owed: &mut Vec<u64>, members: &[ProcId], place: usize, targets: &
         ≡ (not ((b == place) && is_at_in members.now targets.now a) && bit_of owed.old.items a b) }
 {
     for target in targets {
-        if let Some(holder) = place_of(members, *target) {
+        if let Some(holder) = members.place_of(*target) {
             owed[holder] = without_bit(owed[holder], place);
         }
     }
@@ -418,15 +420,4 @@ fn empty_lists(alloc: Global, count: usize) -> Result<Vec<ProcList>, AllocError>
         lists.push(ProcList::empty(alloc))?;
     }
     Ok(lists)
-}
-
-/// Other lists of the same processes.
-fn copy_lists(alloc: Global, lists: &[ProcList]) -> Result<Vec<ProcList>, AllocError>
-    ensures { IfOk result (λ others. others.items ≡ lists.now) }
-{
-    let mut others = Vec::with_capacity(alloc, lists.len())?;
-    for list in lists {
-        others.push(list.copy(alloc)?)?;
-    }
-    Ok(others)
 }

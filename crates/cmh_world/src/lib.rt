@@ -1,7 +1,12 @@
-//! The laws of runs. They stand over the definitions of `cmh_model` alone; `docs/rules.md` explains each.
+//! The laws of runs, and the frames that are under way in one.
+//!
+//! The laws stand over the definitions of `cmh_model` alone; `docs/rules.md` explains each.
 #![tactic(auto)]
 
 mod laws;
+mod links;
+#[cfg(test)]
+mod tests;
 
 pub use crate::laws::{
     count_law, count_law_of_every_run, cut_law, cut_law_of_every_run, dark_path_law,
@@ -9,4 +14,5 @@ pub use crate::laws::{
     drained_law_of_every_run, growing_law, journal_law, order_law, order_law_of_every_run,
     outcome_law, settling_law, stranger_law, wait_law,
 };
+pub use crate::links::Links;
 pub use cmh_model::WorldEvent;

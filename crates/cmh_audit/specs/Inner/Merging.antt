@@ -1,5 +1,5 @@
 -- How far the journals were taken, and what can be taken next.
-use Rattle.std.specs.Prelude.{◌≡◌, ℕ, ◌+◌, ◌<◌, ◌≤◌, ◌==◌, ◌⊎◌, slice_index_or, Contains, List, [], ◌∷◌, ◌++◌, length, take, if◌then◌else◌}
+use Rattle.std.specs.Prelude.{◌≡◌, ℕ, ◌+◌, ◌<◌, ◌≤◌, ◌==◌, ◌⊎◌, slice_index_or, Contains, List, [], ◌∷◌, ◌++◌, length, map, take, if◌then◌else◌}
 use Rattle.cmh_frames.specs.declared.frame.Frame.{Frame}
 use Rattle.cmh_frames.specs.Topology.{Topology}
 use Rattle.cmh_model.specs.declared.event.Event.{Event}
@@ -8,7 +8,7 @@ use Rattle.cmh_model.specs.Journals.{IsLawful, frames_to, frame_from, sendings_o
 use Rattle.cmh_model.specs.Runs.{IsBeginningOf, ComeFromRun}
 use Rattle.cmh_journal.specs.Journal.{Journal}
 use Rattle.cmh_audit.specs.Journals.{journal_of}
-use Rattle.cmh_audit.specs.Inner.Links.{Links, waiting}
+use Rattle.cmh_world.specs.Links.{Links, waiting}
 use Rattle.cmh_audit.specs.Sums.{in_entries}
 use Rattle.cmh_audit.specs.Transit.{sent_count}
 
@@ -43,6 +43,10 @@ pub record IsLawfulLength (t : Topology) (site : ℕ) (entries : List Entry) (n 
   pub within : n ≤ length entries
   pub lawful : IsLawful t site (take n entries)
   pub stops : n < length entries → IsLawful t site (take (n + 1) entries) → ⊥
+
+-- how many entries each journal has
+abbrev pub entry_counts : List Journal → List ℕ
+entry_counts journals = map (λ (j : Journal). length j.entries) journals
 
 -- one for each journal
 abbrev pub AreLawfulLengths : Topology → List Journal → List ℕ → Type 0

@@ -1,5 +1,5 @@
 use Rattle.std.proofs.Common.{◌≡◌, length, take}
-use Rattle.cmh_audit.specs.Inner.Links.{waiting}
+use Rattle.cmh_world.specs.Links.{waiting}
 use Rattle.cmh_audit.specs.Transit.{sum_over}
 use Rattle.cmh_audit.proofs.count.count_from.Given as goal
 

@@ -8,7 +8,7 @@ use Rattle.cmh_audit.proofs.merge.is_next.Goals as goal
 
 pub returns-in-Got : goal.returns-in-Got
 returns-in-Got c =
-    let test = c.eq.ensures ∙ ap (λ o. option_eq eq-value.it o (Some c.in-Got.frame)) c.next_frame.ensures in
+    let test = c.eq.ensures ∙ ap (λ o. option_eq eq-value.it o (Some c.in-Got.frame)) c.front.ensures in
     let N : Event → Type 0 = λ event. IsNextFrame c.args.links.now c.args.site event in (
       λ yes. subst N (sym c.in-Got.is) (next_got c.args.links.now c.args.site c.in-Got.from c.in-Got.frame (sym test ∙ yes)),
       λ next. test ∙ next_got_back c.args.links.now c.args.site c.in-Got.from c.in-Got.frame (subst N c.in-Got.is next),

@@ -9,11 +9,11 @@ use Rattle.cmh_audit.proofs.merge.wake.Goals as goal
 use Rattle.cmh_audit.proofs.merge.wake.Goals.{in-Some+then-eq+in_ok-push, in-Some+else-eq, in_default}
 
 pub loop-to-init : goal.loop-to-init
-loop-to-init c = wakes_start c.args.journals.now c.args.sent.now c.args.ready.now.items c.args.lacks.now c.args.from
+loop-to-init c = wakes_start c.args.places.now c.args.sent.now c.args.ready.now.items c.args.lacks.now c.args.from
 
 pub loop-to-preserved : goal.loop-to-preserved
 loop-to-preserved c =
-    let js = c.args.journals.now in
+    let js = c.args.places.now in
     let i = c.loop-to.to-index in
     let s = c.loop-to-item.result in
     let site_of : Journal → ℕ = λ y. y.site in
@@ -21,7 +21,7 @@ loop-to-preserved c =
     let P : List ℕ → List (Option ℕ) → Type 0 = λ r l. Wakes js c.args.sent.now c.args.ready.now.items r c.args.lacks.now l c.args.from (i + 1) in
     let as_long = c.loop-to.invariant.long in
     let long = c.requires.long in
-    elim c.match-place_of.branch [
+    elim c.match-find.branch [
       | in-Some+then-eq+in_ok-push w ↦
           let k = w.in-Some.k in
           let x = journal_at js k w.in-Some.ensures.0 in

@@ -1,6 +1,6 @@
 use Rattle.std.proofs.Common.{◌≡◌, ◌↔◌, ◌<◌, ◌^◌, ℕ, List, true, false, length, sym, subst, ap, ◌∙◌, arith}
 use Rattle.std.specs.Prelude.{Contains}
-use Rattle.cmh_audit.specs.Inner.Links.{waiting}
+use Rattle.cmh_world.specs.Links.{waiting}
 use Rattle.cmh_audit.specs.Reports.{beside}
 use Rattle.cmh_audit.specs.Inner.FoundCycles.{AreFirstCycles, AreOnCycles}
 use Rattle.cmh_audit.specs.Inner.AllSums.{in_journals}

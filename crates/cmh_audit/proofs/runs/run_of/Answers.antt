@@ -24,13 +24,13 @@ merge-requires-clause-small c =
 
 pub returns-then-is_empty : goal.returns-then-is_empty
 returns-then-is_empty c =
-    let none : stops_at (sites_of c.args.topology.now) c.args.journals.now c.in_ok-merged.merged.taken.items ≡ [] = sym (c.in_ok-rows.ensures ∙ ap (λ ss. stops_at ss c.args.journals.now c.deref.result.now) c.sites-sites.ensures.value ∙ ap (stops_at (sites_of c.args.topology.now) c.args.journals.now) c.deref.ensures.value) ∙ empty_list c.in_ok-rows.rows.items (sym c.in_ok-rows.rows.ok.0 ∙ eqb-true c.in_ok-rows.rows.len 0 (sym c.is_empty.ensures ∙ c.if-is_empty.true)) in
+    let none : stops_at (sites_of c.args.topology.now) c.args.journals.now c.in_ok-merged.merged.taken.items ≡ [] = sym (c.in_ok-rows.ensures ∙ ap (λ ss. stops_at ss c.args.journals.now c.deref-2.result.now) c.sites-sites.ensures.value ∙ ap (stops_at (sites_of c.args.topology.now) c.args.journals.now) c.deref-2.ensures.value) ∙ empty_list c.in_ok-rows.rows.items (sym c.in_ok-rows.rows.ok.0 ∙ eqb-true c.in_ok-rows.rows.len 0 (sym c.is_empty.ensures ∙ c.if-is_empty.true)) in
     run_is c.args.topology.now c.args.journals.now c.in_ok-merged.merged.taken.items c.in_ok-merged.merged.steps.items
     (all_taken c.args.topology.now c.args.journals.now c.in_ok-merged.merged.taken.items c.requires c.in_ok-merged.ensures.stuck none) c.in_ok-merged.ensures.order
 
-pub returns-else-is_empty : goal.returns-else-is_empty
-returns-else-is_empty c =
-    let rows : c.in_ok-rows.rows.items ≡ stops_at (sites_of c.args.topology.now) c.args.journals.now c.in_ok-merged.merged.taken.items = c.in_ok-rows.ensures ∙ ap (λ ss. stops_at ss c.args.journals.now c.deref.result.now) c.sites-sites.ensures.value ∙ ap (stops_at (sites_of c.args.topology.now) c.args.journals.now) c.deref.ensures.value in
+pub returns : goal.returns
+returns c =
+    let rows : c.in_ok-rows.rows.items ≡ stops_at (sites_of c.args.topology.now) c.args.journals.now c.in_ok-merged.merged.taken.items = c.in_ok-rows.ensures ∙ ap (λ ss. stops_at ss c.args.journals.now c.deref-2.result.now) c.sites-sites.ensures.value ∙ ap (stops_at (sites_of c.args.topology.now) c.args.journals.now) c.deref-2.ensures.value in
     let some : 0 < length c.in_ok-rows.rows.items = some_list c.in_ok-rows.rows.items (λ h. eqb-false c.in_ok-rows.rows.len 0 (sym c.is_empty.ensures ∙ c.if-is_empty.false) (c.in_ok-rows.rows.ok.0 ∙ h)) in
     let stop : AreStops c.args.topology.now c.args.journals.now c.in_ok-rows.rows.items = subst (AreStops c.args.topology.now c.args.journals.now) (sym rows)
     (are_stops c.args.topology.now c.args.journals.now c.in_ok-merged.merged.taken.items (subst IsStrictlyIncreasing c.sites-sites.ensures.value c.sites-sites.ensures.ascending) c.requires c.in_ok-merged.ensures.stuck

@@ -4,4 +4,4 @@ use Rattle.cmh_audit.specs.Inner.Turns.{Turns}
 use Rattle.cmh_audit.proofs.waits.turn_all.Given as goal
 
 abbrev pub invariant-loop-target : goal.invariant-loop-target
-invariant-loop-target l = Turns l.fn.pairs l.pairs (λ j k. if l.asker == j then count_of (λ q. q == k) (take l.target-index l.targets) else 0)
+invariant-loop-target l = Turns l.fn.waits l.waits (λ j k. if l.asker == j then count_of (λ q. q == k) (take l.target-index l.targets) else 0)

@@ -7,6 +7,6 @@ use Rattle.cmh_audit.proofs.waits.turn_entries.Goals as goal
 
 pub loop-entry-preserved : goal.loop-entry-preserved
 loop-entry-preserved c =
-    turns_more c.args.pairs.now c.loop-entry.pairs c.turn_event.new.pairs (λ j k. in_entries (turns j k) (take c.loop-entry.entry-index c.args.entries.now)) (λ j k. turns_of j k c.entry-item.result.event)
+    turns_more c.args.waits.now c.loop-entry.waits c.turn_event.new.waits (λ j k. in_entries (turns j k) (take c.loop-entry.entry-index c.args.entries.now)) (λ j k. turns_of j k c.entry-item.result.event)
     (λ j k. in_entries (turns j k) (take (c.loop-entry.entry-index + 1) c.args.entries.now))
     c.loop-entry.invariant c.in_ok-turn_event.ensures (λ j k. entries_more (turns j k) c.args.entries.now c.loop-entry.entry-index c.entry-item.result c.loop-entry-test.true c.entry-item.is)

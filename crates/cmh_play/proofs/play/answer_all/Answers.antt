@@ -1,5 +1,4 @@
-use Rattle.std.proofs.Common.{ℕ, List, subst, inl, inr}
-use Rattle.cmh_play.specs.Play.{IsSaidBy}
+use Rattle.std.proofs.Common.{inl, inr}
 use Rattle.cmh_play.proofs.KeptPlays.{kept_fault, played_to_end, unanswered_err, unanswered_fault_err}
 use Rattle.cmh_play.proofs.Plays.{answered_all, answered_err, answered_some, begun, endless_lines, played_more, read_err}
 use Rattle.cmh_files.specs.declared.faults.Fault.TheVariants.{Input}
@@ -11,18 +10,18 @@ loop-turn-init g c = begun _ _ c.args.game.now c.requires
 pub loop-turn-preserved : goal.loop-turn-preserved
 loop-turn-preserved g c =
     let a = c.in_ok-answer_line.ensures.answers.answers in
-    played_more _ _ _ _ c.loop-turn.game c.loop-turn.turn c.loop-turn.invariant _ _ c.in_ok-next.next c.read_line.new.line.items a.said a.reply c.answer_line.new.self
-    c.in_ok-next.ensures.line c.in_ok-next.ensures.rest (subst (λ (l : List ℕ). IsSaidBy c.in_ok-next.next l a.said) c.deref.ensures.value a.says)
+    played_more _ _ _ _ c.loop-turn.game c.loop-turn.turn c.loop-turn.invariant _ _ c.in_ok-next.next a.said a.reply c.answer_line.new.self
+    c.in_ok-next.ensures.line c.in_ok-next.ensures.rest a.says
     (c.is_end.ensures.no c.if-is_end.false) a.replies a.wrote
 
 pub returns-then-is_end-clause-answers : goal.returns-then-is_end-clause-answers
 returns-then-is_end-clause-answers g c =
-    answered_all _ _ _ _ c.loop-turn.game c.loop-turn.turn c.loop-turn.invariant c.in_ok-next.next c.read_line.new.line.items _
+    answered_all _ _ _ _ c.loop-turn.game c.loop-turn.turn c.loop-turn.invariant c.in_ok-next.next _
     c.in_ok-next.ensures.line (c.is_end.ensures.yes c.if-is_end.true)
 
 pub returns-then-is_end-clause-all : goal.returns-then-is_end-clause-all
 returns-then-is_end-clause-all g c =
-    played_to_end _ _ _ _ c.loop-turn.game c.loop-turn.turn c.loop-turn.invariant c.in_ok-next.next c.read_line.new.line.items
+    played_to_end _ _ _ _ c.loop-turn.game c.loop-turn.turn c.loop-turn.invariant c.in_ok-next.next
     c.in_ok-next.ensures.line (c.is_end.ensures.yes c.if-is_end.true)
 
 pub returns-in_err-next-clause-answers : goal.returns-in_err-next-clause-answers

@@ -1,35 +1,55 @@
-use Rattle.std.proofs.Common.{◌≡◌, ◌≤◌, Contains, length, take, arith, ap, ◌∙◌, subst, ◌++◌, map}
-use Rattle.std.proofs.Math.Seq.{take-length}
-use Rattle.cmh_frames.specs.declared.frame.Frame.TheVariants.{Probe}
-use Rattle.cmh_rules.specs.Verdicts.{AreProbesOf}
-use Rattle.cmh_rules.proofs.Leaving.{none_yet, more_probes, apart, below_place, take_next, at_place}
+use Rattle.std.proofs.Common.{◌≡◌, ◌↔◌, ◌≤◌, ◌<◌, ℕ, true, false, List, Contains, length, get_or, arith, sym, ap, ◌∙◌, subst}
+use Rattle.std.specs.List.Sorted.{IsStrictlyIncreasing}
+use Rattle.std.proofs.lemmas.List.{get_or_default}
+use Rattle.cmh_model.specs.Relation.{has}
+use Rattle.cmh_waits.specs.Held.{is_member}
+use Rattle.cmh_waits.proofs.RowLemmas.{in_at}
+use Rattle.cmh_rules.proofs.Leaving.{apart, probes_begin, probes_end, probes_on, probes_skip}
+use Rattle.cmh_rules.proofs.edges.probes_along.Goals.{then-has+in_ok-push_probes, else-has}
 use Rattle.cmh_rules.proofs.edges.probes_along.Goals as goal
 
-pub loop-process-init : goal.loop-process-init
-loop-process-init c = rw c.new-frames.ensures.items (none_yet c.args.waits.now c.args.origin)
+pub loop-place-init : goal.loop-place-init
+loop-place-init c = rw c.new-frames.ensures.items (probes_begin c.args.waits.now c.args.origin c.args.reach.places)
 
 -- the processes are members, and the targets are of other sites
 pub push_probes-requires : goal.push_probes-requires
 push_probes-requires c = λ to found.
-    let process = c.process-item.result in
-    let here = c.requires.members process (at_place c.args.processes.now c.loop-process.process-index process c.loop-process-test.true c.process-item.is) in
-    let target = (c.in_ok-targets.ensures.all to).0 (subst (λ xs. Contains xs to) c.deref.ensures.value found) in
-    apart c.args.waits.now process to here target.1
-
-pub loop-process-preserved : goal.loop-process-preserved
-loop-process-preserved c =
     let v = c.args.waits.now in
+    let place = c.loop-place.place in
+    let members = c.members-process-items.result.now in
+    let same : members ≡ v.members = c.members-process-items.ensures.value in
+    let inside : place < length members = c.loop-place-test.true in
+    let here = subst (λ (xs : List ℕ). place < length xs) same inside in
+    let is : get_or v.members place 0 ≡ c.process-item.result = sym (c.process-item.is ∙ get_or_default members place c.process-item.result 0 inside ∙ ap (λ (xs : List ℕ). get_or xs place 0) same) in
+    apart v c.process-item.result to (in_at v.members place c.process-item.result here is) ((c.remote_at.ensures.all here to).0 found).1
+
+pub loop-place-preserved : goal.loop-place-preserved
+loop-place-preserved c =
+    let v = c.args.waits.now in
+    let origin = c.args.origin in
+    let places = c.args.reach.places in
+    let place = c.loop-place.place in
+    let frames = c.loop-place.frames.items in
+    let members = c.members-process-items.result.now in
+    let same : members ≡ v.members = c.members-process-items.ensures.value in
+    let inside : place < length members = c.loop-place-test.true in
+    let here = subst (λ (xs : List ℕ). place < length xs) same inside in
     let process = c.process-item.result in
-    let processes = c.args.processes.now in
-    let i = c.loop-process.process-index in
-    let front = below_place processes i process c.requires.ascending c.loop-process-test.true c.process-item.is in
-    let more = more_probes v (take i processes) process c.in_ok-targets.targets.items c.args.origin c.loop-process.frames.items front c.in_ok-targets.ensures.ascending c.in_ok-targets.ensures.all c.loop-process.invariant in
-    let added = subst (λ ks. c.push_probes.new.frames.items ≡ c.loop-process.frames.items ++ map (λ to. Probe (c.args.origin, process, to)) ks) c.deref.ensures.value c.in_ok-push_probes.ensures in
-    rw (take_next processes i process c.loop-process-test.true c.process-item.is, added) more
+    let is : get_or v.members place 0 ≡ process = sym (c.process-item.is ∙ get_or_default members place process 0 inside ∙ ap (λ (xs : List ℕ). get_or xs place 0) same) in
+    let up = subst IsStrictlyIncreasing same c.members-process-items.ensures.ascending in
+    elim c.if-has.branch [
+      | then-has+in_ok-push_probes w ↦
+          let targets = subst (λ p. (k : ℕ) → Contains w.remote_at.result.now k ↔ ((has v.waits p k ≡ true) × (is_member v k ≡ false))) is (w.remote_at.ensures.all here) in
+          rw (w.frames-is, w.in_ok-push_probes.ensures)
+          (probes_on v origin places place frames c.loop-place.invariant process w.remote_at.result.now up here is (sym c.has.ensures ∙ w.if-has.true) w.remote_at.ensures.ascending targets)
+      | else-has w ↦ rw w.frames-is (probes_skip v origin places place frames c.loop-place.invariant (sym c.has.ensures ∙ w.if-has.false))
+    ]
 
 pub returns : goal.returns
 returns c =
-    let processes = c.args.processes.now in
-    let i = c.loop-process.process-index in
-    let ended : i ≡ length processes = let past : length processes ≤ i = c.loop-process-test.false in omega arith in
-    subst (λ xs. AreProbesOf c.args.waits.now c.args.origin xs c.loop-process.frames.items) (ap (λ k. take k processes) ended ∙ take-length processes) c.loop-process.invariant
+    let v = c.args.waits.now in
+    let members = c.members-process-items.result.now in
+    let same = ap length c.members-process-items.ensures.value in
+    let past : length members ≤ c.loop-place.place = c.loop-place-test.false in
+    let within : c.loop-place.place ≤ length members = c.loop-place.auto.place-end in
+    probes_end v c.args.origin c.args.reach.places c.loop-place.place c.loop-place.frames.items c.loop-place.invariant (omega (arith, same, past, within))

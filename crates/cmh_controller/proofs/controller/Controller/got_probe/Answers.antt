@@ -14,7 +14,7 @@ use Rattle.cmh_controller.proofs.controller.Controller.got_probe.Goals as goal
 
 pub on_probe-requires : goal.on_probe-requires
 on_probe-requires c =
-    let here = subst (λ (v : Controller). At v.topology c.args.to v.site) (sym c.self.view_is) c.requires.2 in
+    let here = subst (λ (v : Controller). At v.topology c.args.to v.site) (sym c.self.view_is) c.requires.accepted.2 in
     member_here c.self.inside.topology c.self.inside.site c.self.inside.waits c.args.to c.self.invariant here
 
 pub send_each-requires : goal.send_each-requires
@@ -30,10 +30,10 @@ returns-in_ok-found-in-Declared-clause-ok c =
     let found = c.in_ok-found-in-Declared.found in
     let verdict = rw c.in-Declared.is at c.in_ok-on_probe.ensures in
     let ensures = c.in_ok-found-in-Declared.ensures in record {
-      accepted = c.requires;
+      accepted = c.requires.accepted;
       sends =
-          subst (λ (v : Controller). Sends v.topology v.site v.state (Got c.args.sender (Probe (c.args.origin, c.args.from, c.args.to))) c.new-in-Declared.result found) c.self.view_is
-          (receipt_declared inside.topology inside.site inside.waits c.self.invariant inside.dependents inside.declared c.args.sender c.args.origin c.args.from c.args.to _ _ verdict.0 verdict.2 (c.new-in-Declared.ensures ∙ c.new.ensures.items) ensures.new);
+          subst (λ (v : Controller). Sends v.topology v.site v.state (Got c.args.sender (Probe (c.args.origin, c.args.from, c.args.to))) c.new.result found) c.self.view_is
+          (receipt_declared inside.topology inside.site inside.waits c.self.invariant inside.dependents inside.declared c.args.sender c.args.origin c.args.from c.args.to _ _ verdict.0 verdict.2 (c.new.ensures ∙ c.requires.room) ensures.new);
       stands = probe_stands inside.topology inside.site inside.waits inside.dependents _ inside.declared _ old c.args.sender c.args.origin c.args.from c.args.to found c.self.view_is verdict.0 ensures.dependents ensures.declared;
       back = subst (λ (v : Controller). IsBack v (Got c.args.sender (Probe (c.args.origin, c.args.from, c.args.to))) true found) c.self.view_is
           (probe_back inside.topology inside.site (state_of inside.waits inside.dependents inside.declared) c.args.sender c.args.origin c.args.from c.args.to found verdict.0 ensures.back);
@@ -44,9 +44,9 @@ returns-in_ok-add-in-Forward-clause-ok c =
     let inside = c.self.inside in
     let old = c.args.self.now in
     let verdict = rw c.in-Forward.is at c.in_ok-on_probe.ensures in
-    let added = subst (λ (fs : List Frame). c.send_each.new.sent.items ≡ c.new-sent.result.items ++ map (addressed inside.topology) fs) c.deref.ensures.value c.in_ok-send_each-in-Forward.ensures in
-    let sent = c.new-in-Forward.ensures ∙ added ∙ ap (λ fs. fs ++ map (addressed inside.topology) c.in-Forward.frames.items) c.new-sent.ensures.items in record {
-      accepted = c.requires;
+    let added = subst (λ (fs : List Frame). c.send_each.new.sent.items ≡ c.args.room.items ++ map (addressed inside.topology) fs) c.deref.ensures.value c.in_ok-send_each-in-Forward.ensures in
+    let sent = c.new-in-Forward.ensures ∙ added ∙ ap (λ fs. fs ++ map (addressed inside.topology) c.in-Forward.frames.items) c.requires.room in record {
+      accepted = c.requires.accepted;
       sends =
           subst (λ (v : Controller). Sends v.topology v.site v.state (Got c.args.sender (Probe (c.args.origin, c.args.from, c.args.to))) c.new-in-Forward.result None) c.self.view_is
           (receipt_forward inside.topology inside.site inside.waits c.self.invariant inside.dependents inside.declared c.args.sender c.args.origin c.args.from c.args.to c.in-Forward.frames.items _ verdict.0 verdict.1 verdict.2 sent);

@@ -8,7 +8,7 @@ returns-clause-answers g c = record {
     said = c.in_ok-said.said;
     reply = c.in_ok-reply.reply;
     says = c.in_ok-said.ensures;
-    replies = c.in_ok-reply.ensures.replies;
+    replies = c.in_ok-reply.ensures;
     wrote = appends-kept _ _ _ _ c.in_ok-write_text.ensures.bytes c.in_ok-flush_awaited.ensures.bytes;
   };
   keeps = c.in_ok-keep_for.ensures.kept;

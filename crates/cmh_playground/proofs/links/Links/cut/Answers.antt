@@ -1,13 +1,20 @@
-use Rattle.std.proofs.Common.{None, rules, ap, ◌∙◌}
-use Rattle.cmh_playground.proofs.LinkSteps.{changes, entries_of, ends_of}
+use Rattle.std.proofs.Common.{None, cond, true, sym, ap, subst, ◌∙◌}
+use Rattle.std.specs.List.{list_any}
+use Rattle.std.specs.Ordering.{is_eq}
+use Rattle.cmh_playground.specs.Links.{Links, ChangesLink, goes}
+use Rattle.cmh_playground.proofs.LinkSteps.{among, cut_off, ends_cmp, ends_of, is_eq-ends_cmp}
 use Rattle.cmh_playground.proofs.links.Links.cut.Goals as goal
 
-pub returns-in-Some-clause-ok : goal.returns-in-Some-clause-ok
-returns-in-Some-clause-ok c =
-    changes c.self.inside.by_ends (c.get_mut.follows.lender c.cut.new.self) (ends_of c.args.from c.args.to) None c.cut.new.self c.args.self.now c.self.view_is c.cut.ensures
-    ((c.get_mut.follows.holds c.cut.new.self).3 (search rules)).0
-
-pub returns-in_ok-insert-in-None-clause-ok : goal.returns-in_ok-insert-in-None-clause-ok
-returns-in_ok-insert-in-None-clause-ok c =
-    changes c.get_mut.follows.lender-at-none c.insert.new.self (ends_of c.args.from c.args.to) None c.cut-in-None.new.self c.args.self.now
-    (ap entries_of c.get_mut.follows.holds-at-none ∙ c.self.view_is) c.cut-in-None.ensures c.in_ok-insert-in-None.ensures.updates.0
+pub returns-clause-ok : goal.returns-clause-ok
+returns-clause-ok c =
+    let from = c.args.from in
+    let to = c.args.to in
+    let cut = c.self.inside.cut.keys in
+    let later = c.insert.new.self.keys in
+    subst (λ (links : Links). ChangesLink links (c.clear.new.self, later) from to None) c.self.view_is
+    (cut_off cut c.self.inside.under_way from to later c.clear.new.self
+    (λ q.
+    sym (among later q.from q.to) ∙ c.in_ok-insert.ensures.updates.0 q
+    ∙ ap (λ t. cond t true (list_any (λ y. is_eq (ends_cmp q y)) cut)) (is_eq-ends_cmp (ends_of from to) q)
+    ∙ ap (λ t. cond (goes from to q) true t) (among cut q.from q.to))
+    c.clear.ensures)

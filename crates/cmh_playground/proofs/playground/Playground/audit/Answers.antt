@@ -4,7 +4,8 @@ use Rattle.cmh_audit.specs.Set.{IsSet}
 use Rattle.cmh_playground.proofs.Seats.{is_set}
 use Rattle.cmh_playground.proofs.playground.Playground.audit.Goals as goal
 
-pub audit-requires : goal.audit-requires
-audit-requires c =
-    let w = c.args.self.now in
-    subst (λ (js : List Journal). IsSet w.topology js) (sym c.deref.ensures.value) (is_set w.topology w.journals.items w.ascending w.placed w.edition)
+pub audit_lawful-requires-clause-set : goal.audit_lawful-requires-clause-set
+audit_lawful-requires-clause-set c =
+    let w = c.self.inside in
+    let stands = c.self.invariant in
+    subst (λ (js : List Journal). IsSet w.topology js) (sym c.deref.ensures.value) (is_set w.topology w.journals.items stands.ascending stands.placed stands.edition)

@@ -1,11 +1,11 @@
 use Rattle.std.proofs.Common.{List, ℕ, [], ◌∷◌, ◌++◌, ◌+◌, take, ap, sym, subst, ◌∙◌}
 use Rattle.std.specs.List.Sorted.{IsStrictlyIncreasing}
 use Rattle.std.proofs.lemmas.List.{take_all, take_more}
-use Rattle.cmh_frames.specs.Topology.{Topology, sites_of}
+use Rattle.cmh_frames.specs.Topology.{Topology}
 use Rattle.cmh_controller.specs.Controller.{Controller}
 use Rattle.cmh_journal.specs.Journal.{Journal}
-use Rattle.cmh_playground.specs.Sites.{ArePlaced, AreOfEdition, AreLawful, ArePlayed}
-use Rattle.cmh_playground.proofs.Fresh.{AreFresh, fresh_more, fresh_lawful}
+use Rattle.cmh_playground.specs.Sites.{AreStanding}
+use Rattle.cmh_playground.proofs.Fresh.{AreFresh, fresh_more}
 use Rattle.cmh_playground.proofs.playground.Playground.new.Goals as goal
 
 pub loop-site-preserved : goal.loop-site-preserved
@@ -26,17 +26,14 @@ loop-site-preserved c =
 
 pub invariant_of-result : goal.invariant_of-result
 invariant_of-result c =
-    let t = c.args.topology.now in
     let fresh = c.loop-site.invariant in
     let sites = c.sites-site-items.ensures in
-    let js = c.loop-site.journals.items in
-    let cs = c.loop-site.controllers.items in
-    let same = sym c.in_ok-copy.ensures in
     let all = take_all c.loop-site.site-index c.sites-site-items.result.now c.loop-site-test.false ∙ sites.value in
-    record {
-      ascending = subst (λ (x : Topology). IsStrictlyIncreasing (sites_of x)) same (subst (λ (xs : List ℕ). IsStrictlyIncreasing xs) sites.value sites.ascending);
-      placed = subst (λ (x : Topology). ArePlaced x js) same (fresh.sites ∙ all);
-      edition = subst (λ (x : Topology). AreOfEdition x js) same fresh.edition;
-      lawful = subst (λ (x : Topology). AreLawful x js) same (fresh_lawful t js fresh.no_entries);
-      played = subst (λ (x : Topology). ArePlayed x cs js) same fresh.played;
-    }
+    subst (λ (x : Topology). AreStanding x c.loop-site.controllers.items c.loop-site.journals.items) (sym c.in_ok-copy.ensures)
+    (record {
+      ascending = subst (λ (xs : List ℕ). IsStrictlyIncreasing xs) sites.value sites.ascending;
+      placed = fresh.sites ∙ all;
+      edition = fresh.edition;
+      lawful = fresh.lawful;
+      played = fresh.played;
+    })

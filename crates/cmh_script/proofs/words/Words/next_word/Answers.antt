@@ -1,4 +1,4 @@
-use Rattle.std.proofs.Common.{◌≡◌, ◌<◌, ℕ, suc, zero, false, ◌==◌, ◌∷◌, length, take, sym, subst, ◌∙◌, arith, true≢false}
+use Rattle.std.proofs.Common.{◌≡◌, ◌<◌, ℕ, suc, zero, false, ◌==◌, ◌∷◌, length, take, sym, ap, subst, ◌∙◌, arith, true≢false}
 use Rattle.cmh_script.specs.Words.{words_of}
 use Rattle.cmh_script.proofs.WordSplits.{words_of-word}
 use Rattle.cmh_script.proofs.words.Words.next_word.Goals as goal
@@ -12,11 +12,11 @@ pub returns-clause-word : goal.returns-clause-word
 returns-clause-word c = elim c.if-is_empty.branch [
   | then-is_empty w ↦ rw w.result-is tt
   | else-is_empty w ↦
-      let line = c.without_spaces-line.result.now in
+      let line = c.self.inside.rest.now in
       let n = c.word_len.result in
       let some : 0 < length (take n line) =
       subst (λ word. 0 < length word) c.split_at.ensures.front (some_of (length c.split_at.result.0.now) (sym c.is_empty.ensures ∙ w.if-is_empty.false)) in
       let e = words_of-word line n c.word_len.ensures.within c.word_len.ensures.before c.word_len.ensures.space some in
-      rw w.result-is (sym c.self.view_is ∙ sym c.without_spaces-line.ensures.words ∙ e
-      ∙ (λ i. sym c.split_at.ensures.front i ∷ words_of (sym c.split_at.ensures.back i)))
+      rw w.result-is (sym c.self.view_is ∙ e
+      ∙ (λ i. sym c.split_at.ensures.front i ∷ (ap words_of (sym c.split_at.ensures.back) ∙ sym c.without_spaces-self-inside.ensures.words) i))
 ]

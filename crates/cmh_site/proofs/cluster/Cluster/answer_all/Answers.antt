@@ -11,21 +11,21 @@ loop-turn-init g c = (begun _ _ tt _ _, refl)
 
 pub loop-turn-preserved : goal.loop-turn-preserved
 loop-turn-preserved g c = (
-  talked_more _ _ _ _ _ _ _ tt c.loop-turn.turn c.loop-turn.invariant.0 _ _ c.in_ok-next.next c.read_line.new.line.items c.deref.result.now
-      tt c.in_ok-flow.flow c.in_ok-next.ensures.line c.in_ok-next.ensures.rest (c.is_end.ensures.no c.if-is_end.false) c.deref.ensures.value c.in-Awaits.is
-      (subst (λ t. HasAnswered (λ said text. IsTurnOfCluster t.now said text) (line_of c.in_ok-next.next c.deref.result.now) (g.W.Write.contents c.loop-turn.out.inner) (g.W.Write.contents c.answer.new.out.inner)) c.loop-turn.invariant.1 c.in_ok-flow.ensures.answers),
+  talked_more _ _ _ _ _ _ _ tt c.loop-turn.turn c.loop-turn.invariant.0 _ _ c.in_ok-next.next
+      tt c.in_ok-flow.flow c.in_ok-next.ensures.line c.in_ok-next.ensures.rest (c.is_end.ensures.no c.if-is_end.false) c.in-Awaits.is
+      (subst (λ t. HasAnswered (λ said text. IsTurnOfCluster t.now said text) (line_of c.in_ok-next.next) (g.W.Write.contents c.loop-turn.out.inner) (g.W.Write.contents c.answer.new.out.inner)) c.loop-turn.invariant.1 c.in_ok-flow.ensures.answers),
   c.in_ok-flow.ensures.topology ∙ c.loop-turn.invariant.1,
 )
 
 pub returns-in-Ends-clause-answers : goal.returns-in-Ends-clause-answers
 returns-in-Ends-clause-answers g c =
-    replied_to_end _ _ _ _ _ c.loop-turn.turn c.loop-turn.invariant.0 _ c.in_ok-next.next c.read_line.new.line.items c.deref.result.now
-    _ c.in_ok-next.ensures.line (c.is_end.ensures.no c.if-is_end.false) c.deref.ensures.value
-    (subst (λ t. HasAnswered (λ said text. IsTurnOfCluster t.now said text) (line_of c.in_ok-next.next c.deref.result.now) (g.W.Write.contents c.loop-turn.out.inner) (g.W.Write.contents c.answer.new.out.inner)) c.loop-turn.invariant.1 c.in_ok-flow.ensures.answers)
+    replied_to_end _ _ _ _ _ c.loop-turn.turn c.loop-turn.invariant.0 _ c.in_ok-next.next
+    _ c.in_ok-next.ensures.line (c.is_end.ensures.no c.if-is_end.false)
+    (subst (λ t. HasAnswered (λ said text. IsTurnOfCluster t.now said text) (line_of c.in_ok-next.next) (g.W.Write.contents c.loop-turn.out.inner) (g.W.Write.contents c.answer.new.out.inner)) c.loop-turn.invariant.1 c.in_ok-flow.ensures.answers)
 
 pub returns-then-is_end-clause-answers : goal.returns-then-is_end-clause-answers
 returns-then-is_end-clause-answers g c =
-    replied_all _ _ _ _ _ c.loop-turn.turn c.loop-turn.invariant.0 c.in_ok-next.next c.read_line.new.line.items _
+    replied_all _ _ _ _ _ c.loop-turn.turn c.loop-turn.invariant.0 c.in_ok-next.next _
     c.in_ok-next.ensures.line (c.is_end.ensures.yes c.if-is_end.true)
 
 pub returns-in_err-next-clause-answers : goal.returns-in_err-next-clause-answers

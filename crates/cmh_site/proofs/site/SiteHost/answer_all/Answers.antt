@@ -12,21 +12,21 @@ loop-turn-preserved g c =
     let kept = c.loop-turn.invariant.0 in
     let answered = for_site _ _ _ _ _ _ _ _ kept c.in_ok-flow.ensures.answers in (
       c.answer.ensures.site ∙ kept,
-      talked_more _ _ _ _ _ _ _ c.loop-turn.self.has_connected c.loop-turn.turn c.loop-turn.invariant.1 _ _ c.in_ok-next.next c.read_line.new.line.items c.deref.result.now
+      talked_more _ _ _ _ _ _ _ c.loop-turn.self.has_connected c.loop-turn.turn c.loop-turn.invariant.1 _ _ c.in_ok-next.next
           c.answer.new.self.has_connected
-          c.in_ok-flow.flow c.in_ok-next.ensures.line c.in_ok-next.ensures.rest (c.is_end.ensures.no c.if-is_end.false) c.deref.ensures.value c.in-Awaits.is answered,
+          c.in_ok-flow.flow c.in_ok-next.ensures.line c.in_ok-next.ensures.rest (c.is_end.ensures.no c.if-is_end.false) c.in-Awaits.is answered,
     )
 
 pub returns-in-Ends-clause-answers : goal.returns-in-Ends-clause-answers
 returns-in-Ends-clause-answers g c =
     let answered = for_site _ _ _ _ _ _ _ _ c.loop-turn.invariant.0 c.in_ok-flow.ensures.answers in
-    talked_to_end _ _ _ _ _ _ _ c.loop-turn.self.has_connected c.loop-turn.turn c.loop-turn.invariant.1 _ c.in_ok-next.next c.read_line.new.line.items c.deref.result.now
+    talked_to_end _ _ _ _ _ _ _ c.loop-turn.self.has_connected c.loop-turn.turn c.loop-turn.invariant.1 _ c.in_ok-next.next
     c.answer.new.self.has_connected
-    c.in_ok-flow.flow _ _ c.in_ok-next.ensures.line (c.is_end.ensures.no c.if-is_end.false) c.deref.ensures.value c.in-Ends.is answered
+    c.in_ok-flow.flow _ _ c.in_ok-next.ensures.line (c.is_end.ensures.no c.if-is_end.false) c.in-Ends.is answered
 
 pub returns-then-is_end-clause-answers : goal.returns-then-is_end-clause-answers
 returns-then-is_end-clause-answers g c =
-    talked_all _ _ _ _ _ _ _ c.loop-turn.self.has_connected c.loop-turn.turn c.loop-turn.invariant.1 c.in_ok-next.next c.read_line.new.line.items _ _
+    talked_all _ _ _ _ _ _ _ c.loop-turn.self.has_connected c.loop-turn.turn c.loop-turn.invariant.1 c.in_ok-next.next _ _
     c.in_ok-next.ensures.line (c.is_end.ensures.yes c.if-is_end.true)
 
 pub returns-in_err-next-clause-answers : goal.returns-in_err-next-clause-answers

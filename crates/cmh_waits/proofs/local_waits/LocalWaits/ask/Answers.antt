@@ -1,10 +1,8 @@
-use Rattle.std.proofs.Common.{◌≡◌, ◌<◌, ◌&&◌, ◌||◌, ◌==◌, not, ℕ, List, length, get_or, ap, ◌∙◌, sym, subst}
-use Rattle.std.specs.List.{filter}
+use Rattle.std.proofs.Common.{ap, ◌∙◌, sym, subst}
 use Rattle.std.specs.List.Sorted.{IsStrictlyIncreasing}
 use Rattle.std.proofs.lemmas.List.Kept.{IsStrictlyIncreasing-filter}
 use Rattle.cmh_model.specs.Relation.{has_some}
 use Rattle.cmh_waits.specs.Held.{Held, IsKept, asked}
-use Rattle.cmh_waits.specs.Rows.{bit_of, is_at_in, is_in, is_set}
 use Rattle.cmh_waits.proofs.Asks.{same_held, undone}
 use Rattle.cmh_waits.proofs.Kept.{kept_as, kept_ask}
 use Rattle.cmh_waits.proofs.AskLemmas.{increasing_from, owed_asked, rows_owing, rows_asked, waits_asked}
@@ -16,15 +14,15 @@ new-requires c = subst IsStrictlyIncreasing (sym c.in_ok-others.ensures) (IsStri
 pub invariant_of-self : goal.invariant_of-self
 invariant_of-self c =
     let w = c.self.inside in
-    let ms = w.members.items in
+    let ms = w.members in
     let p = c.in-Some.place in
     let j = c.args.asker in
     let ts = c.args.targets.now in
-    let at = subst (λ (xs : List ℕ). (p < length xs) × (get_or xs p 0 ≡ j)) c.deref-2.ensures.value c.in-Some.ensures in
+    let at = c.in-Some.ensures in
     let up = c.self.invariant.2.ascending in
-    let bits = subst (λ (xs : List ℕ). (k : ℕ) → is_set c.row_of.result k ≡ is_at_in xs ts k) c.deref-in-Some.ensures.value c.row_of.ensures in
-    let list = subst (λ (xs : List ℕ). c.new.result ≡ filter (λ k. not (is_in xs k)) ts) c.deref.ensures.value (c.new.ensures ∙ c.in_ok-others.ensures) in
-    let owes = subst (λ (xs : List ℕ). (a b : ℕ) → bit_of c.owe_each.new.owed.items a b ≡ (((b == p) && is_at_in xs ts a) || bit_of w.owed.items a b)) c.deref-in-Some-2.ensures.value c.owe_each.ensures.bits in
+    let bits = c.row_of.ensures in
+    let list = c.new.ensures ∙ c.in_ok-others.ensures in
+    let owes = c.owe_each.ensures.bits in
     let active = ap (λ (v : Held). has_some v.waits j) c.self.view_is ∙ c.requires.active in (
       rows_asked ms w.waits.items w.remote_waits.items up c.self.invariant.0 p j at.0 at.1 ts c.row_of.result c.new.result bits list,
       rows_owing ms w.owed.items w.remote_owed.items up c.self.invariant.1 p j at.0 at.1 ts c.owe_each.new.owed.items c.owe_each.ensures.len owes,
@@ -34,15 +32,15 @@ invariant_of-self c =
 pub returns-in-Some-clause-ok : goal.returns-in-Some-clause-ok
 returns-in-Some-clause-ok c =
     let w = c.self.inside in
-    let ms = w.members.items in
+    let ms = w.members in
     let p = c.in-Some.place in
     let j = c.args.asker in
     let ts = c.args.targets.now in
-    let at = subst (λ (xs : List ℕ). (p < length xs) × (get_or xs p 0 ≡ j)) c.deref-2.ensures.value c.in-Some.ensures in
+    let at = c.in-Some.ensures in
     let up = c.self.invariant.2.ascending in
-    let bits = subst (λ (xs : List ℕ). (k : ℕ) → is_set c.row_of.result k ≡ is_at_in xs ts k) c.deref-in-Some.ensures.value c.row_of.ensures in
-    let list = subst (λ (xs : List ℕ). c.new.result ≡ filter (λ k. not (is_in xs k)) ts) c.deref.ensures.value (c.new.ensures ∙ c.in_ok-others.ensures) in
-    let owes = subst (λ (xs : List ℕ). (a b : ℕ) → bit_of c.owe_each.new.owed.items a b ≡ (((b == p) && is_at_in xs ts a) || bit_of w.owed.items a b)) c.deref-in-Some-2.ensures.value c.owe_each.ensures.bits in
+    let bits = c.row_of.ensures in
+    let list = c.new.ensures ∙ c.in_ok-others.ensures in
+    let owes = c.owe_each.ensures.bits in
     let active = ap (λ (v : Held). has_some v.waits j) c.self.view_is ∙ c.requires.active in
     same_held ms _ _ _ _ (waits_asked ms w.waits.items w.remote_waits.items up c.self.invariant.0 p j at.0 at.1 ts c.row_of.result c.new.result bits list active) (owed_asked ms w.owed.items w.remote_owed.items up c.self.invariant.1 p j at.0 at.1 ts c.owe_each.new.owed.items c.owe_each.ensures.len owes) ∙ ap (λ (v : Held). asked v j ts) c.self.view_is
 

@@ -1,4 +1,4 @@
-use Rattle.std.proofs.Common.{◌≡◌, ◌<◌, ℕ, List, [], length, get_or, ap, ◌∙◌, sym, subst, arith, refl}
+use Rattle.std.proofs.Common.{ℕ, List, [], ap, ◌∙◌, sym, subst, arith, refl}
 use Rattle.std.proofs.lemmas.List.{get_or_default}
 use Rattle.cmh_model.specs.Relation.{has_some}
 use Rattle.cmh_waits.specs.Held.{Held, is_member, got_reply}
@@ -11,10 +11,10 @@ use Rattle.cmh_waits.proofs.local_waits.LocalWaits.got_reply.Goals as goal
 pub invariant_of-self : goal.invariant_of-self
 invariant_of-self c =
     let w = c.self.inside in
-    let ms = w.members.items in
+    let ms = w.members in
     let lists = w.remote_waits.items in
     let p = c.in-Some.place in
-    let at = subst (λ (xs : List ℕ). (p < length xs) × (get_or xs p 0 ≡ c.args.asker)) c.deref.ensures.value c.in-Some.ensures in
+    let at = c.in-Some.ensures in
     let other = ap (λ (v : Held). is_member v c.args.holder) c.self.view_is ∙ c.requires.elsewhere in
     let are = c.self.invariant.0 in
     let up = c.self.invariant.2.ascending in
@@ -29,27 +29,26 @@ invariant_of-self c =
 pub has_first-requires-clause-rows : goal.has_first-requires-clause-rows
 has_first-requires-clause-rows c =
     let w = c.self.inside in
-    let ms = w.members.items in
+    let ms = w.members in
     let lists = w.remote_waits.items in
     let p = c.in-Some.place in
-    let at = subst (λ (xs : List ℕ). (p < length xs) × (get_or xs p 0 ≡ c.args.asker)) c.deref.ensures.value c.in-Some.ensures in
+    let at = c.in-Some.ensures in
     let other = ap (λ (v : Held). is_member v c.args.holder) c.self.view_is ∙ c.requires.elsewhere in
     let are = c.self.invariant.0 in
     let up = c.self.invariant.2.ascending in
     let old = c.index_mut.result.now in
     let was = c.index_mut.ensures.value ∙ get_or_default lists p old [] (omega (arith, at.0, are.lists_len)) in
     let new = rows_taken ms w.waits.items lists up are p c.args.asker c.args.holder at.0 at.1 other old was c.remove.new.self c.remove.ensures in
-    subst (λ (xs : List ℕ). AreRows xs c.deref-in-Some-2.result.now c.deref-in-Some-3.result.now) (sym c.deref-in-Some.ensures.value)
-    (subst (λ (xs : List ℕ). AreRows ms xs c.deref-in-Some-3.result.now) (sym c.deref-in-Some-2.ensures.value)
-    (subst (λ (ls : List (List ℕ)). AreRows ms w.waits.items ls) (sym c.deref-in-Some-3.ensures.value) new))
+    subst (λ (xs : List ℕ). AreRows ms xs c.deref-in-Some.result.now) (sym c.deref.ensures.value)
+    (subst (λ (ls : List (List ℕ)). AreRows ms w.waits.items ls) (sym c.deref-in-Some.ensures.value) new)
 
 pub returns-in-Some-clause-value : goal.returns-in-Some-clause-value
 returns-in-Some-clause-value c =
     let w = c.self.inside in
-    let ms = w.members.items in
+    let ms = w.members in
     let lists = w.remote_waits.items in
     let p = c.in-Some.place in
-    let at = subst (λ (xs : List ℕ). (p < length xs) × (get_or xs p 0 ≡ c.args.asker)) c.deref.ensures.value c.in-Some.ensures in
+    let at = c.in-Some.ensures in
     let other = ap (λ (v : Held). is_member v c.args.holder) c.self.view_is ∙ c.requires.elsewhere in
     let are = c.self.invariant.0 in
     let up = c.self.invariant.2.ascending in
@@ -62,7 +61,6 @@ pub returns-in-Some-clause-woke : goal.returns-in-Some-clause-woke
 returns-in-Some-clause-woke c =
     woken c.args.self.now.waits _ c.args.asker c.args.holder _ c.has_first.result c.requires.waits refl (
     c.has_first.ensures
-    ∙ ap (λ (xs : List ℕ). has_some (relation_of xs c.deref-in-Some-2.result.now c.deref-in-Some-3.result.now) c.args.asker) c.deref-in-Some.ensures.value
-    ∙ ap (λ (xs : List ℕ). has_some (relation_of c.self.inside.members.items xs c.deref-in-Some-3.result.now) c.args.asker) c.deref-in-Some-2.ensures.value
-    ∙ ap (λ (ls : List (List ℕ)). has_some (relation_of c.self.inside.members.items c.self.inside.waits.items ls) c.args.asker) c.deref-in-Some-3.ensures.value
+    ∙ ap (λ (xs : List ℕ). has_some (relation_of c.self.inside.members xs c.deref-in-Some.result.now) c.args.asker) c.deref.ensures.value
+    ∙ ap (λ (ls : List (List ℕ)). has_some (relation_of c.self.inside.members c.self.inside.waits.items ls) c.args.asker) c.deref-in-Some.ensures.value
     )

@@ -1,9 +1,9 @@
-use Rattle.std.proofs.Common.{◌≡◌, ◌<◌, ℕ, List, [], length, get_or, ap, ◌∙◌, sym, subst, arith, refl}
+use Rattle.std.proofs.Common.{ℕ, List, [], ap, ◌∙◌, sym, subst, arith, refl}
 use Rattle.std.proofs.Math.ListN.{set}
 use Rattle.std.proofs.lemmas.List.{get_or_default}
 use Rattle.cmh_model.specs.Relation.{has_some}
 use Rattle.cmh_waits.specs.Held.{Held, IsKept, is_member, replied}
-use Rattle.cmh_waits.specs.Rows.{AreRows, is_in, relation_of}
+use Rattle.cmh_waits.specs.Rows.{AreRows, relation_of}
 use Rattle.cmh_waits.proofs.Asks.{same_held}
 use Rattle.cmh_waits.proofs.Kept.{kept_as, kept_answered, kept_replied}
 use Rattle.cmh_waits.proofs.RowLemmas.{in_at}
@@ -13,11 +13,11 @@ use Rattle.cmh_waits.proofs.local_waits.LocalWaits.reply.Goals as goal
 pub invariant_of-self : goal.invariant_of-self
 invariant_of-self c =
     let w = c.self.inside in
-    let ms = w.members.items in
+    let ms = w.members in
     let p = c.in-Some.second in
     let q = c.in-Some-place_of.first in
-    let at = subst (λ (xs : List ℕ). (p < length xs) × (get_or xs p 0 ≡ c.args.holder)) c.deref.ensures.value c.in-Some.ensures in
-    let to = subst (λ (xs : List ℕ). (q < length xs) × (get_or xs q 0 ≡ c.args.asker)) c.deref-in-Some.ensures.value c.in-Some-place_of.ensures in
+    let at = c.in-Some.ensures in
+    let to = c.in-Some-place_of.ensures in
     let up = c.self.invariant.2.ascending in
     let owes = c.index.ensures ∙ get_or_default w.owed.items p c.index.result.now 0 (omega (arith, at.0, c.self.invariant.1.rows_len)) in
     let waits = c.index-in-Some-place_of.ensures ∙ get_or_default w.waits.items q c.index-in-Some-place_of.result.now 0 (omega (arith, to.0, c.self.invariant.0.rows_len)) in (
@@ -30,11 +30,11 @@ invariant_of-self c =
 pub returns-in-Some-place_of-clause-value : goal.returns-in-Some-place_of-clause-value
 returns-in-Some-place_of-clause-value c =
     let w = c.self.inside in
-    let ms = w.members.items in
+    let ms = w.members in
     let p = c.in-Some.second in
     let q = c.in-Some-place_of.first in
-    let at = subst (λ (xs : List ℕ). (p < length xs) × (get_or xs p 0 ≡ c.args.holder)) c.deref.ensures.value c.in-Some.ensures in
-    let to = subst (λ (xs : List ℕ). (q < length xs) × (get_or xs q 0 ≡ c.args.asker)) c.deref-in-Some.ensures.value c.in-Some-place_of.ensures in
+    let at = c.in-Some.ensures in
+    let to = c.in-Some-place_of.ensures in
     let up = c.self.invariant.2.ascending in
     let owes = c.index.ensures ∙ get_or_default w.owed.items p c.index.result.now 0 (omega (arith, at.0, c.self.invariant.1.rows_len)) in
     let waits = c.index-in-Some-place_of.ensures ∙ get_or_default w.waits.items q c.index-in-Some-place_of.result.now 0 (omega (arith, to.0, c.self.invariant.0.rows_len)) in
@@ -45,11 +45,11 @@ returns-in-Some-place_of-clause-value c =
 pub returns-in-Some-place_of-clause-woke : goal.returns-in-Some-place_of-clause-woke
 returns-in-Some-place_of-clause-woke c =
     let w = c.self.inside in
-    let ms = w.members.items in
+    let ms = w.members in
     let p = c.in-Some.second in
     let q = c.in-Some-place_of.first in
-    let at = subst (λ (xs : List ℕ). (p < length xs) × (get_or xs p 0 ≡ c.args.holder)) c.deref.ensures.value c.in-Some.ensures in
-    let to = subst (λ (xs : List ℕ). (q < length xs) × (get_or xs q 0 ≡ c.args.asker)) c.deref-in-Some.ensures.value c.in-Some-place_of.ensures in
+    let at = c.in-Some.ensures in
+    let to = c.in-Some-place_of.ensures in
     let up = c.self.invariant.2.ascending in
     let owes = c.index.ensures ∙ get_or_default w.owed.items p c.index.result.now 0 (omega (arith, at.0, c.self.invariant.1.rows_len)) in
     let waits = c.index-in-Some-place_of.ensures ∙ get_or_default w.waits.items q c.index-in-Some-place_of.result.now 0 (omega (arith, to.0, c.self.invariant.0.rows_len)) in
@@ -57,35 +57,33 @@ returns-in-Some-place_of-clause-woke c =
     let kept = subst IsKept c.self.view_is c.self.invariant.2 in
     woken c.args.self.now.waits _ c.args.asker c.args.holder _ c.has_first.result (kept.waiting c.args.asker c.args.holder here c.requires.member c.requires.owed) refl (
     c.has_first.ensures
-    ∙ ap (λ (xs : List ℕ). has_some (relation_of xs c.deref-in-Some-place_of-2.result.now c.deref-in-Some-place_of-3.result.now) c.args.asker) c.deref-in-Some-place_of.ensures.value
-    ∙ ap (λ (xs : List ℕ). has_some (relation_of ms xs c.deref-in-Some-place_of-3.result.now) c.args.asker) c.deref-in-Some-place_of-2.ensures.value
-    ∙ ap (λ (ls : List (List ℕ)). has_some (relation_of ms (set w.waits.items q c.without_bit-in-Some-place_of.result) ls) c.args.asker) c.deref-in-Some-place_of-3.ensures.value
+    ∙ ap (λ (xs : List ℕ). has_some (relation_of ms xs c.deref-in-Some-place_of.result.now) c.args.asker) c.deref.ensures.value
+    ∙ ap (λ (ls : List (List ℕ)). has_some (relation_of ms (set w.waits.items q c.without_bit-in-Some-place_of.result) ls) c.args.asker) c.deref-in-Some-place_of.ensures.value
     )
 
 pub has_first-requires-clause-rows : goal.has_first-requires-clause-rows
 has_first-requires-clause-rows c =
     let w = c.self.inside in
-    let ms = w.members.items in
+    let ms = w.members in
     let p = c.in-Some.second in
     let q = c.in-Some-place_of.first in
-    let at = subst (λ (xs : List ℕ). (p < length xs) × (get_or xs p 0 ≡ c.args.holder)) c.deref.ensures.value c.in-Some.ensures in
-    let to = subst (λ (xs : List ℕ). (q < length xs) × (get_or xs q 0 ≡ c.args.asker)) c.deref-in-Some.ensures.value c.in-Some-place_of.ensures in
+    let at = c.in-Some.ensures in
+    let to = c.in-Some-place_of.ensures in
     let up = c.self.invariant.2.ascending in
     let owes = c.index.ensures ∙ get_or_default w.owed.items p c.index.result.now 0 (omega (arith, at.0, c.self.invariant.1.rows_len)) in
     let waits = c.index-in-Some-place_of.ensures ∙ get_or_default w.waits.items q c.index-in-Some-place_of.result.now 0 (omega (arith, to.0, c.self.invariant.0.rows_len)) in
     let new = rows_bit_taken ms w.waits.items w.remote_waits.items up c.self.invariant.0 q p c.args.asker c.args.holder to.0 at.0 to.1 at.1 c.index-in-Some-place_of.result.now c.without_bit-in-Some-place_of.result waits c.without_bit-in-Some-place_of.ensures in
-    subst (λ (xs : List ℕ). AreRows xs c.deref-in-Some-place_of-2.result.now c.deref-in-Some-place_of-3.result.now) (sym c.deref-in-Some-place_of.ensures.value)
-    (subst (λ (xs : List ℕ). AreRows ms xs c.deref-in-Some-place_of-3.result.now) (sym c.deref-in-Some-place_of-2.ensures.value)
-    (subst (λ (ls : List (List ℕ)). AreRows ms (set w.waits.items q c.without_bit-in-Some-place_of.result) ls) (sym c.deref-in-Some-place_of-3.ensures.value) new))
+    subst (λ (xs : List ℕ). AreRows ms xs c.deref-in-Some-place_of.result.now) (sym c.deref.ensures.value)
+    (subst (λ (ls : List (List ℕ)). AreRows ms (set w.waits.items q c.without_bit-in-Some-place_of.result) ls) (sym c.deref-in-Some-place_of.ensures.value) new)
 
 pub invariant_of-self-in-Some : goal.invariant_of-self-in-Some
 invariant_of-self-in-Some c =
     let w = c.self.inside in
-    let ms = w.members.items in
+    let ms = w.members in
     let lists = w.remote_owed.items in
     let p = c.in-Some.second in
-    let at = subst (λ (xs : List ℕ). (p < length xs) × (get_or xs p 0 ≡ c.args.holder)) c.deref.ensures.value c.in-Some.ensures in
-    let other = ap (λ (xs : List ℕ). is_in xs c.args.asker) (sym c.deref-in-Some.ensures.value) ∙ c.in_default-place_of.ensures in
+    let at = c.in-Some.ensures in
+    let other = c.in_default-place_of.ensures in
     let are = c.self.invariant.1 in
     let up = c.self.invariant.2.ascending in
     let old = c.index_mut-in-Some.result.now in
@@ -98,11 +96,11 @@ invariant_of-self-in-Some c =
 pub returns-in_default-place_of-clause-value : goal.returns-in_default-place_of-clause-value
 returns-in_default-place_of-clause-value c =
     let w = c.self.inside in
-    let ms = w.members.items in
+    let ms = w.members in
     let lists = w.remote_owed.items in
     let p = c.in-Some.second in
-    let at = subst (λ (xs : List ℕ). (p < length xs) × (get_or xs p 0 ≡ c.args.holder)) c.deref.ensures.value c.in-Some.ensures in
-    let other = ap (λ (xs : List ℕ). is_in xs c.args.asker) (sym c.deref-in-Some.ensures.value) ∙ c.in_default-place_of.ensures in
+    let at = c.in-Some.ensures in
+    let other = c.in_default-place_of.ensures in
     let are = c.self.invariant.1 in
     let up = c.self.invariant.2.ascending in
     let old = c.index_mut-in-Some.result.now in

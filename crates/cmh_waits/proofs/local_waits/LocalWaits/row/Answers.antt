@@ -9,5 +9,5 @@ returns-in-Some c = λ k.
     let w = c.self.inside in
     let place = c.args.place in
     ap (λ n. is_set n k) (c.in-Some.ensures.lookup.3.1 0) ∙ ap (λ (xs : List ℕ). bit_of xs place k) c.deref.ensures.value
-    ∙ row_bits w.members.items w.waits.items w.remote_waits.items c.self.invariant.2.ascending c.self.invariant.0 place k
+    ∙ row_bits w.members w.waits.items w.remote_waits.items c.self.invariant.2.ascending c.self.invariant.0 place k
     ∙ ap (λ (v : Held). joins v.members v.waits place k) c.self.view_is

@@ -1,4 +1,4 @@
-use Rattle.std.proofs.Common.{◌≡◌, ◌<◌, ℕ, List, [], length, get_or, ap, ◌∙◌, subst, arith, refl}
+use Rattle.std.proofs.Common.{[], ap, ◌∙◌, arith, refl}
 use Rattle.std.proofs.lemmas.List.{get_or_default}
 use Rattle.cmh_waits.specs.Held.{Held, before_request, is_member}
 use Rattle.cmh_waits.proofs.Asks.{same_held}
@@ -9,10 +9,10 @@ use Rattle.cmh_waits.proofs.local_waits.LocalWaits.take_back_request.Goals as go
 pub invariant_of-self : goal.invariant_of-self
 invariant_of-self c =
     let w = c.self.inside in
-    let ms = w.members.items in
+    let ms = w.members in
     let lists = w.remote_owed.items in
     let p = c.in-Some.place in
-    let at = subst (λ (xs : List ℕ). (p < length xs) × (get_or xs p 0 ≡ c.args.holder)) c.deref.ensures.value c.in-Some.ensures in
+    let at = c.in-Some.ensures in
     let other = ap (λ (v : Held). is_member v c.args.asker) c.self.view_is ∙ c.requires.elsewhere in
     let are = c.self.invariant.1 in
     let up = c.self.invariant.2.ascending in
@@ -26,10 +26,10 @@ invariant_of-self c =
 pub returns-in-Some : goal.returns-in-Some
 returns-in-Some c =
     let w = c.self.inside in
-    let ms = w.members.items in
+    let ms = w.members in
     let lists = w.remote_owed.items in
     let p = c.in-Some.place in
-    let at = subst (λ (xs : List ℕ). (p < length xs) × (get_or xs p 0 ≡ c.args.holder)) c.deref.ensures.value c.in-Some.ensures in
+    let at = c.in-Some.ensures in
     let other = ap (λ (v : Held). is_member v c.args.asker) c.self.view_is ∙ c.requires.elsewhere in
     let are = c.self.invariant.1 in
     let up = c.self.invariant.2.ascending in

@@ -1,0 +1,78 @@
+-- Processes that are named twice, found from the last row and its last process to the first.
+use Rattle.std.proofs.Common.{◌≡◌, ℕ, suc, zero, ◌+◌, ◌-◌, ◌<◌, Bool, true, false, ◌||◌, ◌==◌, List, [], ◌∷◌, length, drop, get_or, replicate, sym, ap, ◌∙◌, inl, inr, arith}
+use Rattle.std.specs.List.{list_any}
+use Rattle.std.proofs.Math.ListN.{set}
+use Rattle.std.proofs.Math.Seq.{drop-cons}
+use Rattle.std.proofs.lemmas.Bool.{cases_eq, cases_lt, eq-eqb, ne_eqb, or_left, or_right}
+use Rattle.std.proofs.lemmas.List.{get_or-set_same, get_or-set_other, get_or-replicate, get_or_past, length-replicate}
+use Rattle.cmh_frames.specs.Rows.{Row, has_process, repeats_among, repeats_process}
+
+-- one item more of a list, from its last to its first
+pub drop_back : {X : Type 0} (xs : List X) (later : ℕ) (x : X) → later < length xs → x ≡ get_or xs (length xs - 1 - later) x → drop (length xs - (later + 1)) xs ≡ x ∷ drop (length xs - later) xs
+drop_back xs later x h is =
+    let i : ℕ = length xs - 1 - later in
+    let here : i < length xs = omega arith in
+    let before : length xs - (later + 1) ≡ i = omega arith in
+    let after : suc i ≡ length xs - later = omega arith in
+    ap (λ n. drop n xs) before ∙ drop-cons xs i x here ∙ ap (λ y. y ∷ drop (suc i) xs) (sym is) ∙ ap (λ n. x ∷ drop n xs) after
+
+-- what is repeated at the end is repeated
+more_among : (rows : List Row) (ps : List ℕ) (k : ℕ) → repeats_among rows (drop k ps) ≡ true → repeats_among rows ps ≡ true
+more_among rows [] zero h = h
+more_among rows [] (suc k) h = h
+more_among rows (p ∷ ps) zero h = h
+more_among rows (p ∷ ps) (suc k) h = or_right (list_any (λ q. q == p) ps || has_process rows p) (repeats_among rows ps) (more_among rows ps k h)
+
+more_process : (rows : List Row) (k : ℕ) → repeats_process (drop k rows) ≡ true → repeats_process rows ≡ true
+more_process [] zero h = h
+more_process [] (suc k) h = h
+more_process (row ∷ rows) zero h = h
+more_process (row ∷ rows) (suc k) h = or_right (repeats_among rows row.1) (repeats_process rows) (more_process rows k h)
+
+-- a process at a place of a row
+module _ (rows : List Row) (later : ℕ) (row : Row) (behind p : ℕ) (within : later < length rows) (row_is : row ≡ get_or rows (length rows - 1 - later) row)
+    (inside : behind < length row.1) (p_is : p ≡ get_or row.1 (length row.1 - 1 - behind) p) where
+  abbrev rest : List Row
+  rest = drop (length rows - later) rows
+
+  abbrev ps : List ℕ
+  ps = drop (length row.1 - behind) row.1
+
+  -- that is named behind it
+  pub named_twice : (list_any (λ q. q == p) ps || has_process rest p) ≡ true → repeats_process rows ≡ true
+  named_twice h =
+      let among : repeats_among rest (p ∷ ps) ≡ true = or_left (list_any (λ q. q == p) ps || has_process rest p) (repeats_among rest ps) h in
+      let all = more_among rest row.1 (length row.1 - (behind + 1)) (ap (repeats_among rest) (drop_back row.1 behind p inside p_is) ∙ among) in
+      more_process rows (length rows - (later + 1)) (ap repeats_process (drop_back rows later row within row_is) ∙ or_left (repeats_among rest row.1) (repeats_process rest) all)
+
+  -- that is not
+  pub named_once : (list_any (λ q. q == p) ps || has_process rest p) ≡ false → repeats_among rest ps ≡ false → repeats_among rest (drop (length row.1 - (behind + 1)) row.1) ≡ false
+  named_once new none = ap (repeats_among rest) (drop_back row.1 behind p inside p_is) ∙ ap (λ b. b || repeats_among rest ps) new ∙ none
+
+  pub one_named : (named : List Bool) → p < length named → ((q : ℕ) → get_or named q false ≡ (list_any (λ r. r == q) ps || has_process rest q))
+      → (q : ℕ) → get_or (set named p true) q false ≡ (list_any (λ r. r == q) (drop (length row.1 - (behind + 1)) row.1) || has_process rest q)
+  one_named named long marks q = elim (cases_eq p q) [
+    | inl e ↦
+        ap (λ n. get_or (set named p true) n false) (sym e) ∙ get_or-set_same named p true false long
+        ∙ sym (ap (λ xs. list_any (λ r. r == q) xs || has_process rest q) (drop_back row.1 behind p inside p_is)
+        ∙ or_left (list_any (λ r. r == q) (p ∷ ps)) (has_process rest q) (or_left (p == q) (list_any (λ r. r == q) ps) (eq-eqb p q e)))
+    | inr n ↦
+        get_or-set_other named p q true false (λ e. n (sym e)) ∙ marks q
+        ∙ sym (ap (λ xs. list_any (λ r. r == q) xs || has_process rest q) (drop_back row.1 behind p inside p_is)
+        ∙ ap (λ b. (b || list_any (λ r. r == q) ps) || has_process rest q) (ne_eqb p q n))
+  ]
+
+-- a row of which each process is named once
+module _ (rows : List Row) (later : ℕ) (row : Row) (within : later < length rows) (row_is : row ≡ get_or rows (length rows - 1 - later) row) where
+  pub row_once : repeats_among (drop (length rows - later) rows) row.1 ≡ false → repeats_process (drop (length rows - later) rows) ≡ false → repeats_process (drop (length rows - (later + 1)) rows) ≡ false
+  row_once among none = ap repeats_process (drop_back rows later row within row_is) ∙ ap (λ b. b || repeats_process (drop (length rows - later) rows)) among ∙ none
+
+  pub row_named : (p : ℕ) → has_process (drop (length rows - (later + 1)) rows) p ≡ (list_any (λ q. q == p) row.1 || has_process (drop (length rows - later) rows) p)
+  row_named p = ap (λ rs. has_process rs p) (drop_back rows later row within row_is)
+
+-- before the last row nothing is marked
+pub unmarked : (n p : ℕ) → get_or (replicate n false) p false ≡ false
+unmarked n p = elim (cases_lt p n) [
+  | inl inside ↦ get_or-replicate n p false false inside
+  | inr past ↦ get_or_past (replicate n false) p false (let long = length-replicate n false in omega (arith, past, long))
+]
