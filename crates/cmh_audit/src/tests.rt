@@ -16,10 +16,11 @@ type Files<'a> = &'a [(u8, &'a [u8])];
 fn topology_of(alloc: Global, rows: Rows<'_>) -> Result<Topology, Fail> {
     let mut all = Vec::new(alloc);
     for (site, processes) in rows {
-        all.push(SiteRow {
+        let row = SiteRow {
             site: *site,
             processes: processes.to_vec(alloc)?,
-        })?;
+        };
+        all.push(row)?;
     }
     Ok(Topology::new(alloc, Edition::One, &all)?)
 }

@@ -19,18 +19,15 @@ fn site(number: u16) -> Result<SiteId, Fail> {
     }
 }
 
+fn row(alloc: Global, site: u16, processes: &[u16]) -> Result<SiteRow, Fail> {
+    let processes = processes.to_vec(alloc)?;
+    Ok(SiteRow { site, processes })
+}
+
 /// A topology of two sites.
 fn topology(alloc: Global, edition: Edition, one: &[u16], two: &[u16]) -> Result<Topology, Fail> {
-    let rows = [
-        SiteRow {
-            site: 1,
-            processes: one.to_vec(alloc)?,
-        },
-        SiteRow {
-            site: 2,
-            processes: two.to_vec(alloc)?,
-        },
-    ];
+    let (one, two) = (row(alloc, 1, one)?, row(alloc, 2, two)?);
+    let rows = [one, two];
     match Topology::new(alloc, edition, &rows) {
         Ok(topology) => Ok(topology),
         Err(_) => Err(Fail::new("no topology")),
@@ -133,6 +130,33 @@ fn comes_to(
     Ok(())
 }
 
+/// An ask that must come to this.
+fn asks(
+    alloc: Global,
+    controller: &mut Controller,
+    asker: u16,
+    targets: &[u16],
+    want: &str,
+) -> Result<(), Fail> {
+    comes_to(alloc, controller, ask(alloc, asker, targets)?, want)
+}
+
+/// A start that must come to this.
+fn starts(alloc: Global, controller: &mut Controller, of: u16, want: &str) -> Result<(), Fail> {
+    comes_to(alloc, controller, start(of)?, want)
+}
+
+/// The receipt of a frame that must come to this.
+fn gets(
+    alloc: Global,
+    controller: &mut Controller,
+    from: u16,
+    frame: &Frame,
+    want: &str,
+) -> Result<(), Fail> {
+    comes_to(alloc, controller, got(from, *frame)?, want)
+}
+
 /// The controller of site 2, where process 1 is at site 1 and 2 at site 2.
 fn second(alloc: Global) -> Result<Controller, Fail> {
     let topology = topology(alloc, Edition::One, &[1], &[2])?;
@@ -142,22 +166,23 @@ fn second(alloc: Global) -> Result<Controller, Fail> {
 #[test]
 fn a_request_is_taken_once_and_from_its_own_site(rt: HostRuntime) -> Result<(), Fail> {
     let alloc = rt.alloc();
+    let request = request(1, 2)?;
     let mut two = second(alloc)?;
-    for (from, want) in [(2, "8"), (9, "8"), (1, "ok"), (1, "8")] {
-        comes_to(alloc, &mut two, got(from, request(1, 2)?)?, want)?;
-    }
-    Ok(())
+    gets(alloc, &mut two, 2, &request, "8")?;
+    gets(alloc, &mut two, 9, &request, "8")?;
+    gets(alloc, &mut two, 1, &request, "ok")?;
+    gets(alloc, &mut two, 1, &request, "8")
 }
 
 #[test]
 fn only_what_is_waited_for_is_taken(rt: HostRuntime) -> Result<(), Fail> {
     let alloc = rt.alloc();
+    let reply = reply(1, 2)?;
+    let (of_nobody, of_one) = (probe(9, 1, 2)?, probe(1, 1, 2)?);
     let mut two = second(alloc)?;
-    comes_to(alloc, &mut two, got(1, reply(1, 2)?)?, "8")?;
-    for (origin, want) in [(9, "8"), (1, "ok")] {
-        comes_to(alloc, &mut two, got(1, probe(origin, 1, 2)?)?, want)?;
-    }
-    Ok(())
+    gets(alloc, &mut two, 1, &reply, "8")?;
+    gets(alloc, &mut two, 1, &of_nobody, "8")?;
+    gets(alloc, &mut two, 1, &of_one, "ok")
 }
 
 #[test]
@@ -165,7 +190,7 @@ fn processes_of_other_sites_ask_there(rt: HostRuntime) -> Result<(), Fail> {
     let alloc = rt.alloc();
     let mut two = second(alloc)?;
     for (asker, want) in [(1, "2"), (9, "1")] {
-        comes_to(alloc, &mut two, ask(alloc, asker, &[2])?, want)?;
+        asks(alloc, &mut two, asker, &[2], want)?;
     }
     Ok(())
 }
@@ -174,9 +199,15 @@ fn processes_of_other_sites_ask_there(rt: HostRuntime) -> Result<(), Fail> {
 fn deadlocked(alloc: Global) -> Result<Controller, Fail> {
     let topology = topology(alloc, Edition::One, &[1, 2], &[])?;
     let mut one = controller(alloc, &topology, 1)?;
-    comes_to(alloc, &mut one, ask(alloc, 1, &[2])?, "ok")?;
-    comes_to(alloc, &mut one, ask(alloc, 2, &[1])?, "ok")?;
+    asks(alloc, &mut one, 1, &[2], "ok")?;
+    asks(alloc, &mut one, 2, &[1], "ok")?;
     Ok(one)
+}
+
+/// The declared processes of a copy as a text.
+fn declared_by_copy(alloc: Global, controller: &Controller) -> Result<String, Fail> {
+    let copy = controller.copy(alloc)?;
+    declared(alloc, &copy)
 }
 
 #[test]
@@ -184,29 +215,29 @@ fn two_that_wait_for_each_other_are_found(rt: HostRuntime) -> Result<(), Fail> {
     let alloc = rt.alloc();
     let mut one = deadlocked(alloc)?;
     for want in ["ok, declared 1", "7"] {
-        comes_to(alloc, &mut one, start(1)?, want)?;
+        starts(alloc, &mut one, 1, want)?;
     }
-    let copy = one.copy(alloc)?;
-    let text = declared(alloc, &copy)?;
+    let text = declared_by_copy(alloc, &one)?;
     assert_eq!(rt; text.as_str(), "1 ");
     Ok(())
 }
 
 /// A site of edition 2 at which a lying peer had process 3 declared, which is active.
 fn deceived(alloc: Global) -> Result<Controller, Fail> {
+    let (request, probe) = (request(2, 1)?, probe(3, 2, 1)?);
     let topology = topology(alloc, Edition::Two, &[1, 3], &[2])?;
     let mut one = controller(alloc, &topology, 1)?;
-    comes_to(alloc, &mut one, ask(alloc, 1, &[3])?, "ok")?;
-    comes_to(alloc, &mut one, got(2, request(2, 1)?)?, "ok")?;
-    comes_to(alloc, &mut one, got(2, probe(3, 2, 1)?)?, "ok, declared 3")?;
+    asks(alloc, &mut one, 1, &[3], "ok")?;
+    gets(alloc, &mut one, 2, &request, "ok")?;
+    gets(alloc, &mut one, 2, &probe, "ok, declared 3")?;
     Ok(one)
 }
 
 /// What an ask of the declared process comes to, and that no start of it is accepted afterwards.
 fn asks_of_declared(alloc: Global, targets: &[u16], want: &str) -> Result<(), Fail> {
     let mut one = deceived(alloc)?;
-    comes_to(alloc, &mut one, ask(alloc, 3, targets)?, want)?;
-    comes_to(alloc, &mut one, start(3)?, "7")
+    asks(alloc, &mut one, 3, targets, want)?;
+    starts(alloc, &mut one, 3, "7")
 }
 
 #[test]
