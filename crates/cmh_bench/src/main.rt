@@ -24,9 +24,6 @@ use std::thread::Threads;
 use std::time::Clock;
 use std::{env, io};
 
-#[cfg(test)]
-mod tests;
-
 /// How many bytes are read at once.
 const PIECE_LEN: usize = 65536;
 
