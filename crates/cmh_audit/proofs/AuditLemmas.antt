@@ -1,13 +1,11 @@
 -- What the auditor's parts ask of one another.
-use Rattle.std.proofs.Common.{◌≡◌, ℕ, ◌+◌, ◌*◌, ◌<◌, ◌≤◌, ◌^◌, List, [], ◌++◌, length, sym, ap, ◌∙◌, arith, mul-le-mul_left}
+use Rattle.std.proofs.Common.{◌≡◌, ℕ, ◌+◌, ◌*◌, ◌<◌, ◌≤◌, ◌^◌, List, [], length, sym, ap, ◌∙◌, arith, mul-le-mul_left}
 use Rattle.std.specs.Prelude.{Contains}
 use Rattle.std.proofs.lemmas.List.Elements.{recursion_from_All}
 use Rattle.cmh_frames.specs.Topology.{Topology, sites_of}
-use Rattle.cmh_model.specs.Journals.{sendings_of, receipts_of}
 use Rattle.cmh_journal.specs.Journal.{Journal}
 use Rattle.cmh_audit.specs.Journals.{journal_of}
-use Rattle.cmh_world.specs.Links.{Links, waiting}
-use Rattle.cmh_audit.specs.Inner.Merging.{taken_of, IsStuck, AreLeft, AreAllLeft}
+use Rattle.cmh_audit.specs.Inner.Merging.{taken_of, IsStuck}
 use Rattle.cmh_audit.specs.Set.{IsSet}
 use Rattle.cmh_audit.specs.Stops.{before_stop}
 use Rattle.cmh_audit.specs.Inner.FoundStops.{stops_at}
@@ -28,8 +26,3 @@ tries_fit entries n limited few = let m = mul-le-mul_left (entries + 1) few in o
 -- without a stop all entries were taken
 pub all_taken : (t : Topology) (js : List Journal) (counts : List ℕ) → IsSet t js → IsStuck t js counts → stops_at (sites_of t) js counts ≡ [] → (s : ℕ) → journal_of js s ≡ taken_of js counts s
 all_taken t js counts set stuck none s = ap (λ rows. before_stop rows s (journal_of js s)) (sym none) ∙ before_is t js counts set stuck s
-
-pub all_left : (t : Topology) (js : List Journal) (counts : List ℕ) (links : Links) → IsSet t js → IsStuck t js counts → stops_at (sites_of t) js counts ≡ [] → AreLeft js counts links → AreAllLeft js links
-all_left t js counts links set stuck none left a b =
-    let all = all_taken t js counts set stuck none in
-    ap (λ es. receipts_of a es ++ waiting links a b) (all b) ∙ left a b ∙ ap (sendings_of b) (sym (all a))

@@ -2,6 +2,7 @@
 use Rattle.std.proofs.Common.{◌≡◌, ◌≢◌, ℕ, zero, suc, ◌+◌, ◌*◌, ◌<◌, ◌≤◌, ◌^◌, ◌==◌, Bool, true, false, List, [], ◌∷◌, ◌++◌, length, take, get_or, Some, ⊎_elim, sym, ap, subst, refl, ◌∙◌, if◌then◌else◌, arith, length-append, lt_of_lt_of_le}
 use Rattle.std.proofs.lemmas.Bool.{cases_eq, eq-eqb, ne_eqb}
 use Rattle.std.proofs.lemmas.List.{take_more}
+use Rattle.std.proofs.lemmas.List.Elements.{All-push}
 use Rattle.std.proofs.lemmas.List.Kept.{AllPairs-from_increasing}
 use Rattle.std.specs.Prelude.{Contains}
 use Rattle.std.specs.List.{AllPairs, AllByRecursion}
@@ -13,14 +14,13 @@ use Rattle.cmh_frames.specs.declared.edition.Edition.TheVariants.{One, Two}
 use Rattle.cmh_frames.specs.Wire.{spelling}
 use Rattle.cmh_model.specs.declared.journal.Entry.{Entry}
 use Rattle.cmh_model.specs.Journals.{frames_to, sendings_of}
-use Rattle.cmh_journal.specs.Journal.{Journal}
+use Rattle.cmh_journal.specs.Journal.{Journal, entry_limit}
 use Rattle.cmh_journal.specs.Entries.{event_spelling, sendings_spelling, declaration_spelling, length_bytes, IsWhole}
 use Rattle.cmh_audit.specs.Journals.{journal_of, entry_count, NoneAt, OneEach}
-use Rattle.cmh_audit.specs.Sums.{in_entries}
-use Rattle.cmh_audit.specs.Inner.AllSums.{in_journals}
+use Rattle.cmh_audit.specs.Sums.{in_entries, in_journals}
+use Rattle.cmh_audit.specs.Totals.{AreWithinLimit}
 use Rattle.cmh_audit.specs.Transit.{sum_over, sent_count}
 use Rattle.cmh_audit.proofs.Members.{contains_rest}
-use Rattle.cmh_audit.proofs.Sums.{journals_more}
 
 -- ---- entries
 
@@ -62,7 +62,7 @@ sent_few edition e whole =
     let f : length (event_spelling e.event ++ (sendings_spelling e.sent ++ declaration_spelling e.declared)) < 2 ^ 32 = lt_of_lt_of_le whole.fits (few_bytes edition) in
     omega (arith, h, a, b, f)
 
-entries_sent : (edition : Edition) (es : List Entry) → AllByRecursion (IsWhole edition) es → in_entries sent_count es ≤ length es * 2 ^ 32
+pub entries_sent : (edition : Edition) (es : List Entry) → AllByRecursion (IsWhole edition) es → in_entries sent_count es ≤ length es * 2 ^ 32
 entries_sent edition [] whole = omega arith
 entries_sent edition (e ∷ es) whole =
     let one = sent_few edition e whole.0 in let more = entries_sent edition es whole.1 in omega (arith, one, more)
@@ -71,24 +71,21 @@ entries_sent edition (e ∷ es) whole =
 pub record Counting (js : List Journal) (i count : ℕ) : Type 0 where
   pub entries : count ≡ entry_count js
   pub most : count ≤ i * 1000000
-  pub sent : in_journals sent_count js ≤ i * (1000000 * 2 ^ 32)
+  pub within : AreWithinLimit js
 
 pub counting_start : Counting [] 0 0
-counting_start = record { entries = refl; most = omega arith; sent = omega arith }
+counting_start = record { entries = refl; most = omega arith; within = λ k d l. absurd (omega (arith, l)) }
 
-pub counting_more : (js : List Journal) (i count : ℕ) (j : Journal) (es : List Entry) → i < length js → j ≡ get_or js i j → Counting (take i js) i count →
-    es ≡ j.entries → length es ≤ 1000000 → AllByRecursion (IsWhole j.edition) es → Counting (take (i + 1) js) (i + 1) (count + length es)
-counting_more js i count j es l here so_far is few whole =
-    let e = ap length is in
+pub counting_more : (js : List Journal) (i count : ℕ) (j : Journal) (n : ℕ) → i < length js → j ≡ get_or js i j → Counting (take i js) i count →
+    n ≡ length j.entries → n ≤ entry_limit → Counting (take (i + 1) js) (i + 1) (count + n)
+counting_more js i count j n l here so_far is few =
     let more = count_more js i j l here in
-    let now = so_far.entries in let most = so_far.most in let sent = so_far.sent in
-    let one = entries_sent j.edition es whole in
-    let same = ap (in_entries sent_count) is in
-    let all = journals_more sent_count js i j l here in
+    let now = so_far.entries in let most = so_far.most in
+    let next = take_more js i j l ∙ ap (λ y. take i js ++ y ∷ []) (sym here) in
     record {
-      entries = omega (arith, e, more, now);
+      entries = omega (arith, is, more, now);
       most = omega (arith, most, few);
-      sent = omega (arith, sent, one, same, all, few);
+      within = subst AreWithinLimit (sym next) (All-push (λ (j : Journal). length j.entries ≤ entry_limit) (take i js) j so_far.within (omega (arith, is, few)));
     }
 
 -- ---- sums over sites
@@ -117,7 +114,7 @@ pub sum_same : (f g : ℕ → ℕ) (sites : List ℕ) → ((s : ℕ) → f s ≡
 sum_same f g [] h = refl
 sum_same f g (x ∷ sites) h = let a = h x in let b = sum_same f g sites h in omega (arith, a, b)
 
-sum_zero : (sites : List ℕ) → sum_over (λ s. 0) sites ≡ 0
+pub sum_zero : (sites : List ℕ) → sum_over (λ s. 0) sites ≡ 0
 sum_zero [] = refl
 sum_zero (x ∷ sites) = let h = sum_zero sites in omega (arith, h)
 
@@ -179,18 +176,18 @@ to_one x xs b = go (x.0 == b)
     go true = omega arith
     go false = omega arith
 
-frames_sum : (sites : List ℕ) (xs : List (ℕ × Frame)) → Apart sites → sum_over (λ b. length (frames_to b xs)) sites ≤ length xs
+pub frames_sum : (sites : List ℕ) (xs : List (ℕ × Frame)) → Apart sites → sum_over (λ b. length (frames_to b xs)) sites ≤ length xs
 frames_sum sites [] apart = let z = sum_zero sites in omega (arith, z)
 frames_sum sites (x ∷ xs) apart =
     let h = frames_sum sites xs apart in
     let s = sum_if x.0 1 (λ b. length (frames_to b (x ∷ xs))) (λ b. length (frames_to b xs)) sites apart (to_one x xs) in
     omega (arith, h, s)
 
-sum_over-plus : (f g : ℕ → ℕ) (sites : List ℕ) → sum_over (λ s. f s + g s) sites ≡ sum_over f sites + sum_over g sites
+pub sum_over-plus : (f g : ℕ → ℕ) (sites : List ℕ) → sum_over (λ s. f s + g s) sites ≡ sum_over f sites + sum_over g sites
 sum_over-plus f g [] = omega arith
 sum_over-plus f g (x ∷ sites) = let h = sum_over-plus f g sites in omega (arith, h)
 
-sendings_sum : (sites : List ℕ) (es : List Entry) → Apart sites → sum_over (λ b. length (sendings_of b es)) sites ≤ in_entries sent_count es
+pub sendings_sum : (sites : List ℕ) (es : List Entry) → Apart sites → sum_over (λ b. length (sendings_of b es)) sites ≤ in_entries sent_count es
 sendings_sum sites [] apart = let z = sum_zero sites in omega (arith, z)
 sendings_sum sites (e ∷ es) apart =
     let h = sendings_sum sites es apart in
@@ -199,7 +196,7 @@ sendings_sum sites (e ∷ es) apart =
     let plus = sum_over-plus (λ b. length (frames_to b e.sent)) (λ b. length (sendings_of b es)) sites in
     omega (arith, h, f, same, plus)
 
-journals_sum : (f : Entry → ℕ) (sites : List ℕ) (js : List Journal) → Apart sites → sum_over (λ a. in_entries f (journal_of js a)) sites ≤ in_journals f js
+pub journals_sum : (f : Entry → ℕ) (sites : List ℕ) (js : List Journal) → Apart sites → sum_over (λ a. in_entries f (journal_of js a)) sites ≤ in_journals f js
 journals_sum f sites [] apart = let z = sum_zero sites in omega (arith, z)
 journals_sum f sites (j ∷ js) apart =
     let h = journals_sum f sites js apart in

@@ -1,5 +1,5 @@
 -- What the journals declare is what a run from which they come declares.
-use Rattle.std.proofs.Common.{◌≡◌, ℕ, zero, suc, ◌+◌, ◌<◌, ◌==◌, ◌||◌, ◌↔◌, inl, inr, ⊎_elim, Bool, true, false, true≢false, cond, List, [], ◌∷◌, Option, Some, None, sym, ap, refl, ◌∙◌, arith, lt_irrefl}
+use Rattle.std.proofs.Common.{◌≡◌, ℕ, zero, suc, ◌+◌, ◌<◌, ◌==◌, ◌||◌, ◌↔◌, ◌⊎◌, inl, inr, ⊎_elim, Bool, true, false, true≢false, cond, List, [], ◌∷◌, Option, Some, None, sym, ap, refl, ◌∙◌, arith, lt_irrefl}
 use Rattle.std.specs.Prelude.{Contains}
 use Rattle.std.specs.List.{list_any}
 use Rattle.std.specs.Ordering.{nat_cmp}
@@ -10,6 +10,7 @@ use Rattle.std.proofs.lemmas.Cmp.{nat_cmp_total}
 use Rattle.std.proofs.lemmas.Map.Lookups.{exact_unsigned}
 use Rattle.std.proofs.lemmas.Map.Views.{btree_set_contains_iff}
 use Rattle.cmh_frames.specs.Topology.{is_some_of}
+use Rattle.cmh_model.specs.declared.event.Event.TheVariants.{Start}
 use Rattle.cmh_model.specs.declared.journal.Entry.{Entry}
 use Rattle.cmh_model.specs.declared.journal.WorldEvent.{WorldEvent}
 use Rattle.cmh_model.specs.Laws.{bit}
@@ -17,8 +18,10 @@ use Rattle.cmh_model.specs.Runs.{ComesFrom}
 use Rattle.cmh_model.specs.Waits.{IsDeclared}
 use Rattle.cmh_journal.specs.Journal.{Journal}
 use Rattle.cmh_audit.specs.Journals.{journal_of, OneEach}
-use Rattle.cmh_audit.specs.Inner.AllSums.{in_journals, in_run}
-use Rattle.cmh_audit.specs.Inner.Declarations.{declares, is_positive, Adds}
+use Rattle.cmh_audit.specs.Sums.{in_journals}
+use Rattle.cmh_audit.specs.Inner.AllSums.{in_run}
+use Rattle.cmh_audit.specs.Declarations.{declares, HasMore}
+use Rattle.cmh_audit.specs.Inner.Declarations.{is_positive, Adds}
 use Rattle.cmh_audit.proofs.PairLemmas.{is_eq-nat_cmp}
 use Rattle.cmh_audit.proofs.Sums.{in_run-in_journals}
 
@@ -90,7 +93,7 @@ member_iff set i = let both = btree_set_contains_iff nat_cmp_total exact_unsigne
 pub no_members : (set : BTreeSet ℕ) → set.keys ≡ [] → (i : ℕ) → contains nat_cmp set i ≡ false
 no_members set h i = ap (λ ks. list_any (is_at (nat_cmp i)) ks) h
 
-positive_iff : (n : ℕ) → (is_positive n ≡ true) ↔ (0 < n)
+pub positive_iff : (n : ℕ) → (is_positive n ≡ true) ↔ (0 < n)
 positive_iff zero = (λ h. absurd (true≢false (sym h)), λ l. absurd (lt_irrefl 0 l))
 positive_iff (suc n) = (λ h. omega arith, λ l. refl)
 
@@ -99,3 +102,30 @@ pub added_iff : (first last : BTreeSet ℕ) (f : ℕ → ℕ) → first.keys ≡
 added_iff first last f empty adds i =
     let is : contains nat_cmp last i ≡ is_positive (f i) = adds i ∙ ap (λ b. b || is_positive (f i)) (no_members first empty i) in
     (λ c. (positive_iff (f i)).0 (sym is ∙ (member_iff last i).0 c), λ h. (member_iff last i).1 (is ∙ (positive_iff (f i)).1 h))
+
+-- the list of the members has what was added
+pub members_more : (old new : BTreeSet ℕ) (f : ℕ → ℕ) → Adds old new f → HasMore old.keys new.keys f
+members_more old new f adds i = (
+  λ c. ⊎_elim (λ h. inl ((member_iff old i).1 h)) (λ h. inr ((positive_iff (f i)).0 h)) (or_cases (contains nat_cmp old i) (is_positive (f i)) (sym (adds i) ∙ (member_iff new i).0 c)),
+  λ h. (member_iff new i).1 (adds i ∙ ⊎_elim
+      (λ c. ap (λ b. b || is_positive (f i)) ((member_iff old i).0 c))
+      (λ l. ap (λ b. contains nat_cmp old i || b) ((positive_iff (f i)).1 l) ∙ or_true (contains nat_cmp old i))
+      h),
+)
+  where
+    or_cases : (a b : Bool) → (a || b) ≡ true → (a ≡ true) ⊎ (b ≡ true)
+    or_cases true b h = inl refl
+    or_cases false b h = inr h
+
+    or_true : (a : Bool) → (a || true) ≡ true
+    or_true true = refl
+    or_true false = refl
+
+pub more_one : (old new : BTreeSet ℕ) (o : Option ℕ) (p : ℕ) → o ≡ Some p → ((q : ℕ) → contains nat_cmp new q ≡ cond (is_at (nat_cmp p) q) true (contains nat_cmp old q)) → HasMore old.keys new.keys (λ i. bit (is_some_of o i))
+more_one old new o p is sets = members_more old new (λ i. bit (is_some_of o i)) (adds_one old new (record { event = Start 0; sent = []; declared = o }) p is sets)
+
+pub more_none : (keys : List ℕ) (o : Option ℕ) → o ≡ None → HasMore keys keys (λ i. bit (is_some_of o i))
+more_none keys o is i = (
+  λ c. inl c,
+  λ h. ⊎_elim (λ c. c) (λ l. absurd (let z = ap (λ o. bit (is_some_of o i)) is in omega (arith, l, z))) h,
+)

@@ -2,6 +2,8 @@ pub mod RunLemmas
 pub mod FrameLemmas
 pub mod PairLemmas
 pub mod MoveLemmas
+pub mod SendLemmas
+pub mod WalkLemmas
 pub mod BitLemmas
 pub mod RowLemmas
 pub mod CountLemmas
@@ -24,3 +26,6 @@ pub mod TryLemmas
 pub mod SetLemmas
 pub mod TransitLemmas
 pub mod OrderLemmas
+pub mod TotalLemmas
+pub mod LookLemmas
+pub mod SurveyLemmas

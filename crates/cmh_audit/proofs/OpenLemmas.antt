@@ -1,17 +1,16 @@
 -- The open waits, by their askers' numbers.
-use Rattle.std.proofs.Common.{◌≡◌, ◌↔◌, ℕ, ◌+◌, ◌<◌, ◌≤◌, ◌==◌, ◌&&◌, not, true, false, List, [], ◌++◌, length, map, filter, get_or, sym, ap, subst, ◌∙◌, inl, inr, arith, true≢false}
+use Rattle.std.proofs.Common.{◌≡◌, ◌↔◌, ℕ, ◌+◌, ◌<◌, ◌≤◌, true, false, List, [], ◌++◌, length, map, get_or, sym, ap, subst, ◌∙◌, inl, inr, arith, true≢false}
 use Rattle.std.specs.Prelude.{Contains}
 use Rattle.std.specs.List.Sorted.{IsStrictlySortedBy, IsStrictlyIncreasing}
-use Rattle.std.proofs.lemmas.Bool.{cases_eq, cases_lt, eq-eqb, ne_eqb}
+use Rattle.std.proofs.lemmas.Bool.{cases_eq, cases_lt}
 use Rattle.std.proofs.lemmas.List.{get_or_past}
 use Rattle.std.proofs.lemmas.List.Elements.{Contains-append_left, Contains-append_right, Contains-append_cases}
 use Rattle.cmh_frames.specs.Number.{IsNumber}
-use Rattle.cmh_model.specs.Laws.{bit}
 use Rattle.cmh_model.proofs.Members.{found_at, found_from, no_member}
 use Rattle.cmh_waits.specs.Rows.{is_in}
-use Rattle.cmh_waits.proofs.ListLemmas.{in_less}
 use Rattle.cmh_rules.proofs.Leaving.{sorted_append, pairs_ascend, all_above, in_pairs, from_pairs}
-use Rattle.cmh_audit.specs.Inner.Turns.{turned, is_open, AreByAsker, ArePairsOf}
+use Rattle.cmh_audit.specs.Turns.{is_open}
+use Rattle.cmh_audit.specs.Inner.Turns.{AreByAsker, ArePairsOf}
 
 -- ---- where the lists end
 
@@ -23,21 +22,6 @@ within rows j k h = elim (cases_lt j (length rows)) [
   | inl l ↦ l
   | inr past ↦ absurd (true≢false (sym h ∙ none_past rows j k past))
 ]
-
--- ---- one list is turned
-
--- the holder is taken out
-pub turned_out : (row : List ℕ) (holder : ℕ) → is_in row holder ≡ true → (k : ℕ) → is_in (filter (λ q. not (q == holder)) row) k ≡ turned (bit (holder == k)) (is_in row k)
-turned_out row holder there k =
-    in_less row holder k
-    ∙ elim (cases_eq k holder) [
-      | inl e ↦
-          ap (λ b. not b && is_in row k) (eq-eqb k holder e)
-          ∙ sym (ap (λ b. turned (bit b) (is_in row k)) (eq-eqb holder k (sym e)) ∙ ap not (ap (is_in row) e ∙ there))
-      | inr n ↦
-          ap (λ b. not b && is_in row k) (ne_eqb k holder n)
-          ∙ sym (ap (λ b. turned (bit b) (is_in row k)) (ne_eqb holder k (λ e. n (sym e))))
-    ]
 
 -- ---- the pairs, list by list
 

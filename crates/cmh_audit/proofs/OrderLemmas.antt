@@ -2,7 +2,7 @@
 use Rattle.std.proofs.Common.{◌≡◌, ℕ, zero, suc, ◌+◌, ◌<◌, ◌==◌, Bool, true, false, if◌then◌else◌, List, Option, [], ◌∷◌, ◌++◌, length, map, set, replicate, get_or, slice_get, option_map, option_and_then, Some, ⊎_elim, sym, ap, subst, subst₂, refl, ◌∙◌, arith}
 use Rattle.std.specs.Prelude.{MatchBool}
 use Rattle.std.proofs.lemmas.Bool.{cases_eq, eq-eqb, ne_eqb}
-use Rattle.std.proofs.lemmas.List.{get_or-set_same, get_or-set_other, get_or_read, map-append}
+use Rattle.std.proofs.lemmas.List.{get_or-set_same, get_or-set_other, map-append}
 use Rattle.std.proofs.lemmas.Option.{slice_get_read}
 use Rattle.cmh_frames.specs.Topology.{Topology}
 use Rattle.cmh_model.specs.declared.journal.Entry.{Entry}
@@ -20,7 +20,6 @@ use Rattle.cmh_audit.specs.Inner.Orders.{IsOrder}
 use Rattle.cmh_audit.specs.Runs.{event_at, steps_of, AreInTurn, IsRunOf}
 use Rattle.cmh_audit.proofs.CountLemmas.{taken_none, limit_here}
 use Rattle.cmh_audit.proofs.MergeLemmas.{Merging, run_more, entries_more}
-use Rattle.cmh_audit.proofs.ReadyLemmas.{Listed, place_in, read_limit}
 
 -- ---- counting steps
 
@@ -117,22 +116,6 @@ module _ (t : Topology) (js : List Journal) (limits counts : List ℕ) (old new 
         come = entries_more t js limits counts old new one are ordered k j l here e room is next moves;
         counted = counted_more;
       }
-
--- the same, as the merge's loop has it: what it read is given by equations
-pub order_took : (t : Topology) (js : List Journal) (limits counts : List ℕ) (old new : Links) (lacks : List (Option ℕ)) (first ready : List ℕ) (tries i at limit site : ℕ) (j : Journal) (es : List Entry) (e : Entry) (steps : List Step) → OneEach js → AreLawfulLengths t js limits →
-    Listed t js limits counts old lacks first tries → IsOrder t js counts steps → first ≡ ready ++ i ∷ [] → at ≡ get_or counts i at → limit ≡ get_or limits i limit → j ≡ get_or js i j → site ≡ j.site → es ≡ j.entries →
-    at < limit → e ≡ get_or es at e → IsNextFrame old site e.event → MovesFrames old new site e →
-    IsOrder t js (set counts i (at + 1)) (steps ++ record { journal = i; entry = at } ∷ [])
-order_took t js limits counts old new lacks first ready tries i at limit site j es e steps one are s o p read limit_read here site_is entries room is next moves =
-    let inside = place_in t js limits counts old lacks first ready tries i s p in
-    let same : at ≡ get_or counts i 0 = get_or_read counts i at (subst (λ n. i < n) (sym s.merging.each) inside) read 0 in
-    let limited = read_limit t js limits i limit are inside limit_read in
-    let fits : get_or counts i 0 < get_or limits i 0 = omega (arith, same, limited, room) in
-    let P : ℕ → List Entry → Type 0 = λ n l. e ≡ get_or l n e in
-    let Q : ℕ → Type 0 = λ n. IsOrder t js (set counts i (n + 1)) (steps ++ record { journal = i; entry = n } ∷ []) in
-    subst Q (sym same)
-    (order_more t js limits counts old new one are s.merging i j inside here e fits (subst₂ P same entries is)
-    (subst (λ q. IsNextFrame old q e.event) site_is next) (subst (λ q. MovesFrames old new q e) site_is moves) steps o)
 
 -- ---- where the order is to be kept
 

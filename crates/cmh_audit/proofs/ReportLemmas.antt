@@ -15,15 +15,15 @@ use Rattle.cmh_model.proofs.Members.{increasing_tail}
 use Rattle.cmh_model.proofs.PathLemmas.{path_map}
 use Rattle.cmh_model.specs.Laws.{DarkPath, AsksAndReplies}
 use Rattle.cmh_journal.specs.Journal.{Journal}
-use Rattle.cmh_audit.specs.Inner.Declarations.{declares}
+use Rattle.cmh_audit.specs.Declarations.{declares}
 use Rattle.cmh_audit.specs.Journals.{journal_of, OneEach}
 use Rattle.cmh_world.specs.Links.{Links, waiting}
-use Rattle.cmh_audit.specs.Inner.AllSums.{in_journals}
+use Rattle.cmh_audit.specs.Sums.{in_journals}
 use Rattle.cmh_audit.specs.Transit.{sum_over, in_transit}
-use Rattle.cmh_audit.specs.Inner.Turns.{turned, turns}
+use Rattle.cmh_audit.specs.Turns.{turned, turns}
 use Rattle.cmh_audit.specs.Inner.FoundCycles.{WaitsIn, IsCycleIn}
 use Rattle.cmh_audit.specs.Reports.{beside, IsFirstCycle}
-use Rattle.cmh_audit.specs.Inner.FoundCycles.{AreFirstCycles, AreOnCycles}
+use Rattle.cmh_audit.specs.Inner.FoundCycles.{AreFirstCycles, AreFoundCycles, AreOnCycles, IsFoundCycle}
 use Rattle.cmh_audit.proofs.Members.{contains_rest}
 use Rattle.cmh_audit.proofs.CountingLemmas.{sum_same}
 use Rattle.cmh_audit.proofs.DeclarationLemmas.{declared_at_end}
@@ -48,21 +48,30 @@ beside_here (x ∷ ds) (y ∷ cs) i (suc k) c up long l is there =
 
 -- ---- the cycles
 
-firsts_push : (waits : List (ℕ × ℕ)) (is : List ℕ) (cs : List (List ℕ)) (i : ℕ) (c : List ℕ) → AreFirstCycles waits is cs → IsFirstCycleOf (λ j k. WaitsIn waits j k) i c → AreFirstCycles waits (is ++ i ∷ []) (cs ++ c ∷ [])
-firsts_push waits [] [] i c are first = (first, tt)
-firsts_push waits [] (d ∷ cs) i c are first = absurd are
-firsts_push waits (j ∷ is) [] i c are first = absurd are
-firsts_push waits (j ∷ is) (d ∷ cs) i c are first = (are.0, firsts_push waits is cs i c are.1 first)
+found_push : (waits : List (ℕ × ℕ)) (is : List ℕ) (cs : List (List ℕ)) (i : ℕ) (c : List ℕ) → AreFoundCycles waits is cs → IsFoundCycle waits i c → AreFoundCycles waits (is ++ i ∷ []) (cs ++ c ∷ [])
+found_push waits [] [] i c are found = (found, tt)
+found_push waits [] (d ∷ cs) i c are found = absurd are
+found_push waits (j ∷ is) [] i c are found = absurd are
+found_push waits (j ∷ is) (d ∷ cs) i c are found = (are.0, found_push waits is cs i c are.1 found)
 
-pub firsts_more : (waits : List (ℕ × ℕ)) (is : List ℕ) (cs : List (List ℕ)) (k i : ℕ) (c : List ℕ) → k < length is → i ≡ get_or is k i → AreFirstCycles waits (take k is) cs → IsFirstCycleOf (λ j k. WaitsIn waits j k) i c → AreFirstCycles waits (take (k + 1) is) (cs ++ c ∷ [])
-firsts_more waits is cs k i c l here are first =
-    subst (λ js. AreFirstCycles waits js (cs ++ c ∷ [])) (sym (take_more is k i l ∙ ap (λ z. take k is ++ z ∷ []) (sym here))) (firsts_push waits (take k is) cs i c are first)
+pub found_more : (waits : List (ℕ × ℕ)) (is : List ℕ) (cs : List (List ℕ)) (k i : ℕ) (c : List ℕ) → k < length is → i ≡ get_or is k i → AreFoundCycles waits (take k is) cs → IsFoundCycle waits i c → AreFoundCycles waits (take (k + 1) is) (cs ++ c ∷ [])
+found_more waits is cs k i c l here are found =
+    subst (λ js. AreFoundCycles waits js (cs ++ c ∷ [])) (sym (take_more is k i l ∙ ap (λ z. take k is ++ z ∷ []) (sym here))) (found_push waits (take k is) cs i c are found)
 
-pub firsts-length : (waits : List (ℕ × ℕ)) (is : List ℕ) (cs : List (List ℕ)) → AreFirstCycles waits is cs → length cs ≡ length is
-firsts-length waits [] [] are = refl
-firsts-length waits [] (c ∷ cs) are = absurd are
-firsts-length waits (i ∷ is) [] are = absurd are
-firsts-length waits (i ∷ is) (c ∷ cs) are = ap suc (firsts-length waits is cs are.1)
+pub found-length : (waits : List (ℕ × ℕ)) (is : List ℕ) (cs : List (List ℕ)) → AreFoundCycles waits is cs → length cs ≡ length is
+found-length waits [] [] are = refl
+found-length waits [] (c ∷ cs) are = absurd are
+found-length waits (i ∷ is) [] are = absurd are
+found-length waits (i ∷ is) (c ∷ cs) are = ap suc (found-length waits is cs are.1)
+
+-- where each process is on a cycle, what was found are cycles
+pub firsts_found : (waits : List (ℕ × ℕ)) (is : List ℕ) (cs : List (List ℕ)) → AreFoundCycles waits is cs → AreOnCycles waits is → AreFirstCycles waits is cs
+firsts_found waits [] [] are on = tt
+firsts_found waits [] (c ∷ cs) are on = absurd are
+firsts_found waits (i ∷ is) [] are on = absurd are
+firsts_found waits (i ∷ is) (c ∷ cs) are on =
+    let here = on i (0, omega arith, refl) in
+    (are.0 here.0 here.1, firsts_found waits is cs are.1 (λ j h. on j (later j i is h)))
 
 -- what is beside a process is its first cycle, and a process without one isn't in the list
 pub beside_is : (waits : List (ℕ × ℕ)) (is : List ℕ) (cs : List (List ℕ)) (i : ℕ) → AreFirstCycles waits is cs → MatchOption (beside is cs i) (Contains is i → ⊥) (λ c. Contains is i × IsFirstCycleOf (λ j k. WaitsIn waits j k) i c)

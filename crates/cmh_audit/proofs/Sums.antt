@@ -8,10 +8,10 @@ use Rattle.cmh_model.specs.Runs.{entries_of, ComesFrom}
 use Rattle.cmh_model.proofs.Journals.{entries_here, entries_elsewhere}
 use Rattle.cmh_journal.specs.Journal.{Journal}
 use Rattle.cmh_audit.specs.Journals.{journal_of, NoneAt, OneEach}
-use Rattle.cmh_audit.specs.Sums.{in_entries}
-use Rattle.cmh_audit.specs.Inner.AllSums.{in_journals, in_run}
+use Rattle.cmh_audit.specs.Sums.{in_entries, in_journals}
+use Rattle.cmh_audit.specs.Inner.AllSums.{in_run}
 
-in_entries-append : (f : Entry → ℕ) (xs ys : List Entry) → in_entries f (xs ++ ys) ≡ in_entries f xs + in_entries f ys
+pub in_entries-append : (f : Entry → ℕ) (xs ys : List Entry) → in_entries f (xs ++ ys) ≡ in_entries f xs + in_entries f ys
 in_entries-append f [] ys = omega arith
 in_entries-append f (x ∷ xs) ys = let h = in_entries-append f xs ys in omega (arith, h)
 

@@ -66,7 +66,7 @@ module _ (t : Topology) where
         (not_there (site_of t x.1) (subst (Contains (sites_of t)) (sym (site_of-at t x.1 at.0 at.1)) (at_site t x.1 at.0 at.1)))
         ∙ no_probes origin xs (λ k l d. known (suc k) (omega arith) d)
 
-    none_sent : (s : ℕ) (v : State) (e : Entry) → Accepts t s v e.event → Sends t s v e.event e.sent e.declared → frames_to b e.sent ≡ []
+    pub none_sent : (s : ℕ) (v : State) (e : Entry) → Accepts t s v e.event → Sends t s v e.event e.sent e.declared → frames_to b e.sent ≡ []
     none_sent s v e accepted sends =
         let sh = shape t s v e.event e.sent e.declared sends in
         ap (frames_to b) sh.is ∙ to-append b (answers_of t s e.event) sh.probes ∙ ap (λ fs. fs ++ frames_to b sh.probes) (no_answers s v e.event accepted)
@@ -99,7 +99,7 @@ module _ (t : Topology) where
   all_zero f [] h = refl
   all_zero f (x ∷ sites) h = let a = h x in let m = all_zero f sites h in omega (arith, a, m)
 
-  site_or_not : (s : ℕ) → Contains (sites_of t) s ⊎ (Contains (sites_of t) s → ⊥)
+  pub site_or_not : (s : ℕ) → Contains (sites_of t) s ⊎ (Contains (sites_of t) s → ⊥)
   site_or_not s = ⊎_elim
       (λ yes'. inl (found_at (sites_of t) s yes'))
       (λ no'. inr (λ c. true≢false (sym (found_from (sites_of t) s c) ∙ no')))

@@ -17,14 +17,15 @@ use Rattle.cmh_model.specs.Waits.{asks_for, grants, wait_after}
 use Rattle.cmh_model.specs.Laws.{bit, count_of, AsksAndReplies}
 use Rattle.cmh_journal.specs.Journal.{Journal}
 use Rattle.cmh_audit.specs.Journals.{journal_of, OneEach}
-use Rattle.cmh_audit.specs.Sums.{in_entries}
-use Rattle.cmh_audit.specs.Inner.AllSums.{in_journals, in_run}
-use Rattle.cmh_audit.specs.Inner.Turns.{turned, turns_of, turns, is_open, Turns, one_at}
+use Rattle.cmh_audit.specs.Sums.{in_entries, in_journals}
+use Rattle.cmh_audit.specs.Inner.AllSums.{in_run}
+use Rattle.cmh_audit.specs.Turns.{turned, turns_of, turns, is_open, Turns}
+use Rattle.cmh_audit.specs.Inner.Turns.{one_at}
 use Rattle.cmh_audit.proofs.Sums.{in_run-in_journals}
 
 -- ---- turns
 
-turned-plus : (m n : ℕ) (b : Bool) → turned (m + n) b ≡ turned n (turned m b)
+pub turned-plus : (m n : ℕ) (b : Bool) → turned (m + n) b ≡ turned n (turned m b)
 turned-plus m zero b = ap (λ k. turned k b) (zero_right m)
   where
     zero_right : (m : ℕ) → m + zero ≡ m

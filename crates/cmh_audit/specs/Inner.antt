@@ -10,5 +10,7 @@ pub mod Levels
 pub mod Rows
 pub mod FoundCycles
 pub mod FoundStops
+pub mod Reporting
 pub mod AllSums
 pub mod Orders
+pub mod Walks

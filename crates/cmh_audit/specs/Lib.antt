@@ -2,9 +2,12 @@ pub mod Journals
 pub mod Set
 pub mod Stops
 pub mod Sums
+pub mod Turns
+pub mod Declarations
 pub mod Cycles
 pub mod Transit
 pub mod Reports
 pub mod Verdicts
+pub mod Totals
 pub mod Runs
 pub mod Inner

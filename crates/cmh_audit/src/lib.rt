@@ -5,7 +5,6 @@ mod count;
 mod cycle;
 mod declared;
 mod graph;
-mod lawful;
 mod merge;
 mod open_waits;
 mod places;
@@ -15,14 +14,16 @@ mod runs;
 mod set;
 mod step;
 mod stops;
-#[cfg(test)]
-mod tests;
+mod survey;
+mod totals;
 mod verdict;
 mod waits;
+mod walk;
 
 pub use crate::report::Report;
 pub use crate::runs::run_of;
 pub use crate::set::{SetFault, check_set, place_of};
 pub use crate::step::Step;
 pub use crate::stops::Stops;
-pub use crate::verdict::{AuditMemory, Verdict, audit, audit_lawful};
+pub use crate::totals::Totals;
+pub use crate::verdict::{AuditMemory, Verdict, audit};

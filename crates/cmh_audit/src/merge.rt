@@ -1,29 +1,25 @@
 //! The merge of journals: entries are taken, one at a time, while any can be.
 
-ghost use Rattle.std.specs.Prelude.{◌≡◌, ◌↔◌, ◌+◌, ◌*◌, ◌≤◌, ◌<◌, ◌^◌, length, OnOk, IfOk, IsTrue, MatchBool, [], ◌∷◌, ◌++◌, if◌then◌else◌};
+ghost use Rattle.std.specs.Prelude.{◌≡◌, ◌+◌, ◌*◌, ◌≤◌, ◌<◌, ◌^◌, length, OnOk, IfOk, IfNone, MatchBool, MatchOption, [], ◌∷◌, ◌++◌, if◌then◌else◌};
 ghost use Rattle.cmh_audit.specs.Journals.{OneEach, entry_count};
-ghost use Rattle.cmh_audit.specs.Inner.Merging.{AreLawfulLengths, IsNextFrame, SendsFrames, MovesFrames, IsStuck, AreLeft, AreTried};
+ghost use Rattle.cmh_audit.specs.Inner.Merging.{AreLawfulLengths, entries_each, ReceivesFrame, LacksFrame, SendsFrames, IsStuck, AreTried};
 ghost use Rattle.cmh_audit.specs.Inner.Orders.{IsOrder};
-ghost use Rattle.cmh_audit.specs.Inner.Ready.{Wakes, ArePlaces};
+ghost use Rattle.cmh_audit.specs.Inner.Ready.{Wakes, ArePlaces, with_turn};
 
 use crate::places::Places;
 use crate::step::Step;
-use cmh_frames::{Frame, SiteId, Topology};
-use cmh_journal::Journal;
-use cmh_model::{Entry, Event};
+use cmh_frames::{SiteId, Topology};
+use cmh_stored::{Entries, StoredEntry, StoredJournal};
 use cmh_world::Links;
 use std::alloc::{AllocError, Global};
 
-/// How far the journals were taken, and what is under way then.
+/// How far the journals were taken.
 #[derive(Drop)]
 pub struct Merged {
     /// How many entries of each journal were taken.
     pub taken: Vec<usize>,
     /// The entries that were taken, in their order, where it was to be kept; else none.
     pub steps: Vec<Step>,
-
-    /// The frames that were sent and not yet got.
-    pub links: Links,
 
     /// How often it was looked whether a site's next entry can be taken.
     pub tries: u64,
@@ -34,7 +30,7 @@ pub struct Merged {
 pub fn merge(
     alloc: Global,
     topology: &Topology,
-    journals: &[Journal],
+    journals: &[StoredJournal<'_>],
     limits: &[usize],
     keeps_order: bool,
 ) -> Result<Merged, AllocError>
@@ -45,114 +41,130 @@ pub fn merge(
     ensures stuck { IfOk result (λ m. IsStuck topology.now journals.now m.taken.items) }
     ensures order { IfOk result (λ m. MatchBool keeps_order
         (IsOrder topology.now journals.now m.taken.items m.steps.items) (m.steps.items ≡ [])) }
-    ensures left { IfOk result (λ m. AreLeft journals.now m.taken.items m.links) }
     ensures tries { IfOk result (λ m. m.tries ≤ (entry_count journals.now + 1) * length journals.now) }
     ensures looked { IfOk result (λ m. AreTried journals.now m.taken.items [] m.tries) }
 {
     let places = Places::new(alloc, journals)?;
     let mut links = Links::new(alloc);
+    let mut walks = walks_of(alloc, journals)?;
     let mut taken = vec![in alloc; 0; journals.len()]?;
     let mut steps = Vec::new(alloc);
     let mut lacks: Vec<Option<SiteId>> = vec![in alloc; None; journals.len()]?;
     let mut ready = all_below(alloc, journals.len())?;
     let mut tries: u64 = 0;
-    while let Some(i) = ready.pop() {
-        let journal = &journals[i];
-        let site = journal.site();
-        let entries = journal.entries();
+    let mut turn = last_of(&mut ready);
+    while let Some(i) = turn {
+        let site = journals[i].site();
         let at = taken[i];
-        if at < entries.len() {
-            tries += 1;
-            let limit = limits[i];
-            if at < limit {
-                let entry = &entries[at];
-                if is_next(&links, site, &entry.event) {
-                    move_frames(&mut links, site, entry)?;
-                    let step = Step {
-                        journal: i,
-                        entry: at,
-                    };
-                    keep(&mut steps, keeps_order, step)?;
-                    taken[i] = at + 1;
-                    let sent = entry.sent.as_slice();
-                    wake(&mut ready, &mut lacks, &places, site, sent)?;
-                    ready.push(i)?;
-                } else if let Event::Got { from, .. } = &entry.event {
-                    lacks[i] = Some(*from);
-                }
-            }
+        let mut ahead = walks[i].copy();
+        let Some(entry) = ahead.next_entry() else {
+            turn = last_of(&mut ready);
+            continue;
+        };
+        tries += 1;
+        if at >= limits[i] {
+            turn = last_of(&mut ready);
+            continue;
         }
+        if let Some(from) = receive(&mut links, site, &entry) {
+            lacks[i] = Some(from);
+            turn = last_of(&mut ready);
+            continue;
+        }
+        send_all(&mut links, &mut ready, &mut lacks, &places, site, &entry)?;
+        let step = Step {
+            journal: i,
+            entry: at,
+        };
+        keep(&mut steps, keeps_order, step)?;
+        taken[i] = at + 1;
+        walks[i] = ahead;
     }
     Ok(Merged {
         taken,
         steps,
-        links,
         tries,
     })
 }
 
-/// Whether the frame that the event got, if it got one, is the next of its link.
-fn is_next(links: &Links, site: SiteId, event: &Event) -> bool
-    ensures { IsTrue result ↔ IsNextFrame links.now site event.now }
+/// Takes the last place of the list: that of the site whose turn it is.
+#[inline(always)]
+fn last_of(ready: &mut Vec<usize>) -> Option<usize>
+    ensures list { with_turn result ready.new.items ≡ ready.old.items }
+    ensures none { IfNone result (ready.new.items ≡ []) }
 {
-    match event {
-        Event::Got { from, frame } => links.front(*from, site) == Some(*frame),
-        _ => true,
+    ready.pop()
+}
+
+/// The entries of each journal.
+fn walks_of<'a>(
+    alloc: Global,
+    journals: &[StoredJournal<'a>],
+) -> Result<Vec<Entries<'a>>, AllocError>
+    ensures { IfOk result (λ walks. walks.items ≡ entries_each journals.now) }
+{
+    let mut walks = Vec::new(alloc);
+    for journal in journals {
+        walks.push(journal.entries())?;
+    }
+    Ok(walks)
+}
+
+/// Takes the frame that the entry got, if it got one, from its link. Where that frame isn't the next of its link, all
+/// stays, and the answer is the site whose frame is lacking.
+#[inline(always)]
+fn receive(links: &mut Links, site: SiteId, entry: &StoredEntry<'_>) -> Option<SiteId>
+    ensures { MatchOption result (ReceivesFrame links.old links.new site entry.now.event)
+        (λ from. (links.new ≡ links.old) × LacksFrame links.old site entry.now.event from) }
+{
+    let Some((from, frame)) = entry.received() else {
+        return None;
+    };
+    if links.receive_this(from, site, &frame) {
+        None
+    } else {
+        Some(from)
     }
 }
 
-/// Puts the sent frames on their links.
-fn send_all(links: &mut Links, site: SiteId, sent: &[(SiteId, Frame)]) -> Result<(), AllocError>
-    ensures { OnOk result (SendsFrames links.old links.new site sent.now) }
+/// Puts the frames that the entry sent on their links, and on the list each site to which one goes and that lacks a
+/// frame of `from`.
+#[inline(always)]
+fn send_all(
+    links: &mut Links,
+    ready: &mut Vec<usize>,
+    lacks: &mut Vec<Option<SiteId>>,
+    places: &Places<'_, '_>,
+    from: SiteId,
+    entry: &StoredEntry<'_>,
+) -> Result<(), AllocError>
+    requires once { OneEach places.now }
+    requires long { length lacks.old.items ≡ length places.now }
+    ensures sends { OnOk result (SendsFrames links.old links.new from entry.now.sent) }
+    ensures wakes { OnOk result (Wakes places.now entry.now.sent ready.old.items ready.new.items lacks.old.items
+        lacks.new.items from) }
 {
-    for (to, frame) in sent {
-        links.send(site, *to, *frame)?;
+    let mut left = entry.outcome();
+    while let Some((to, frame)) = left.next_sent() {
+        links.send(from, to, frame)?;
+        if let Some(k) = places.find(to) {
+            if lacks[k] == Some(from) {
+                lacks[k] = None;
+                ready.push(k)?;
+            }
+        }
     }
     Ok(())
 }
 
-/// Takes what the entry got from its link, and puts what it sent on theirs.
-fn move_frames(links: &mut Links, site: SiteId, entry: &Entry) -> Result<(), AllocError>
-    requires { IsNextFrame links.old site entry.now.event }
-    ensures { OnOk result (MovesFrames links.old links.new site entry.now) }
-{
-    if let Event::Got { from, .. } = &entry.event {
-        let _ = links.receive(*from, site);
-    }
-    send_all(links, site, entry.sent.as_slice())
-}
-
 /// Adds a step, where the order is to be kept.
+#[inline(always)]
 fn keep(steps: &mut Vec<Step>, keeps_order: bool, step: Step) -> Result<(), AllocError>
     ensures { OnOk result (steps.new.items
         ≡ (if keeps_order then steps.old.items ++ step ∷ [] else steps.old.items)) }
 {
     if keeps_order {
         steps.push(step)?;
-    }
-    Ok(())
-}
-
-/// Puts on the list each site that lacks a frame of `from` and to which one of these frames was sent.
-fn wake(
-    ready: &mut Vec<usize>,
-    lacks: &mut [Option<SiteId>],
-    places: &Places<'_>,
-    from: SiteId,
-    sent: &[(SiteId, Frame)],
-) -> Result<(), AllocError>
-    requires once { OneEach places.now }
-    requires long { length lacks.old ≡ length places.now }
-    ensures { OnOk result (Wakes places.now sent.now ready.old.items ready.new.items lacks.old lacks.new from
-        (length sent.now)) }
-{
-    for (to, _) in sent {
-        if let Some(k) = places.find(*to) {
-            if lacks[k] == Some(from) {
-                lacks[k] = None;
-                ready.push(k)?;
-            }
-        }
     }
     Ok(())
 }

@@ -1,14 +1,13 @@
 //! The waits that are open so far, found by their askers' numbers.
 
-ghost use Rattle.std.specs.Prelude.{◌≡◌, ◌↔◌, ◌++◌, ◌==◌, ◌<◌, ℕ, false, true, map, length, Contains, OnOk, OnErr, IfOk};
+ghost use Rattle.std.specs.Prelude.{◌≡◌, ◌↔◌, ◌++◌, ◌<◌, ℕ, false, true, map, length, Contains, OnOk, OnErr, IfOk};
 ghost use Rattle.std.specs.List.Sorted.{IsStrictlySortedBy};
-ghost use Rattle.cmh_model.specs.Laws.{bit};
 ghost use Rattle.cmh_model.specs.Relation.{pair_cmp};
-ghost use Rattle.cmh_waits.specs.Rows.{is_in};
-ghost use Rattle.cmh_audit.specs.Inner.Turns.{is_open, one_at, turned, SameOpen, Turns};
+ghost use Rattle.cmh_audit.specs.Turns.{is_open, Turns};
+ghost use Rattle.cmh_audit.specs.Inner.Turns.{one_at, SameOpen};
 
 use cmh_frames::ProcId;
-use cmh_waits::ProcList;
+use cmh_waits::ProcBits;
 use std::alloc::{AllocError, Global};
 use std::marker::Model;
 
@@ -20,7 +19,7 @@ pub struct OpenWaits {
     alloc: Global,
 
     /// The holders for whom each asker waits, at the asker's number.
-    rows: Vec<ProcList>,
+    rows: Vec<ProcBits>,
 }
 
 impl Model for OpenWaits {
@@ -51,7 +50,7 @@ impl OpenWaits {
         ensures err { OnErr result (SameOpen self.old self.new) }
     {
         self.lengthen(asker)?;
-        turn_in(&mut self.rows[asker.get() as usize], holder)
+        self.rows[asker.get() as usize].turn(holder)
     }
 
     /// The open waits, ascending.
@@ -63,7 +62,8 @@ impl OpenWaits {
         let mut pairs = Vec::new(alloc);
         for index in 0..self.rows.len() {
             if let Some(asker) = ProcId::new(index as u16) {
-                push_row(&mut pairs, asker, self.rows[index].as_slice())?;
+                let holders = self.rows[index].to_vec(alloc)?;
+                push_row(&mut pairs, asker, &holders)?;
             }
         }
         Ok(pairs)
@@ -75,22 +75,9 @@ impl OpenWaits {
         ensures same { SameOpen self.old self.new }
     {
         for _ in self.rows.len()..asker.get() as usize + 1 {
-            self.rows.push(ProcList::empty(self.alloc))?;
+            self.rows.push(ProcBits::empty(self.alloc))?;
         }
         Ok(())
-    }
-}
-
-/// Adds the holder, or takes it out where it is there.
-fn turn_in(row: &mut ProcList, holder: ProcId) -> Result<(), AllocError>
-    ensures ok { OnOk result ((k : ℕ) → is_in row.new k ≡ turned (bit (holder == k)) (is_in row.old k)) }
-    ensures err { OnErr result (row.new ≡ row.old) }
-{
-    if row.contains(holder) {
-        row.remove(holder);
-        Ok(())
-    } else {
-        row.insert(holder)
     }
 }
 

@@ -6,20 +6,20 @@ ghost use Rattle.cmh_journal.specs.Journal as journal;
 ghost use Rattle.cmh_audit.specs.Journals.{NoneAt};
 
 use cmh_frames::SiteId;
-use cmh_journal::Journal;
+use cmh_stored::StoredJournal;
 use std::alloc::{AllocError, Global};
 use std::marker::Model;
 
 /// Journals with the place of each, so that finding one of a site takes no search.
 #[derive(Drop)]
-pub struct Places<'a> {
-    journals: &'a [Journal],
+pub struct Places<'a, 'b> {
+    journals: &'a [StoredJournal<'b>],
 
     /// At a site's number, the place of its journal.
     by_site: Vec<Option<usize>>,
 }
 
-impl<'a> Model for Places<'a> {
+impl<'a, 'b> Model for Places<'a, 'b> {
     ghost use Rattle.std.specs.Prelude.{List};
     ghost use Rattle.cmh_journal.specs.Journal as journal;
     ghost use Rattle.cmh_audit.specs.Inner.Places.{ArePlacesOf};
@@ -31,8 +31,11 @@ impl<'a> Model for Places<'a> {
     ghost invariant = { λ p. ArePlacesOf p.journals.now p.by_site.items };
 }
 
-impl<'a> Places<'a> {
-    pub fn new(alloc: Global, journals: &'a [Journal]) -> Result<Places<'a>, AllocError>
+impl<'a, 'b> Places<'a, 'b> {
+    pub fn new(
+        alloc: Global,
+        journals: &'a [StoredJournal<'b>],
+    ) -> Result<Places<'a, 'b>, AllocError>
         ensures { IfOk result (λ places. places ≡ journals.now) }
     {
         let mut by_site: Vec<Option<usize>> = vec![in alloc; None; room_for(journals)]?;
@@ -44,6 +47,7 @@ impl<'a> Places<'a> {
     }
 
     /// The place of a site's journal, if it has one.
+    #[inline(always)]
     pub fn find(&self, site: SiteId) -> Option<usize>
         ensures { MatchOption result (NoneAt site self.now)
             (λ i. (i < length self.now) × HoldsAt (λ (j : journal.Journal). j.site ≡ site) self.now i) }
@@ -56,7 +60,7 @@ impl<'a> Places<'a> {
 }
 
 /// A number above those of the journals' sites.
-fn room_for(journals: &[Journal]) -> usize
+fn room_for(journals: &[StoredJournal<'_>]) -> usize
     ensures { All (λ (j : journal.Journal). j.site < result) journals.now }
 {
     let mut room = 0;

@@ -2,26 +2,18 @@
 
 ghost use Rattle.std.specs.Prelude.{◌≡◌, ℕ, ◌<◌, ◌^◌, List, length, IfOk, IfSome, IfNone, Some, None, Contains};
 ghost use Rattle.std.specs.List.Sorted.{IsStrictlyIncreasing, IsStrictlySortedBy};
-ghost use Rattle.cmh_model.specs.declared.journal.WorldEvent.{WorldEvent};
-ghost use Rattle.cmh_model.specs.Runs.{ComeFromRun, ComesFrom, IsRun};
 ghost use Rattle.cmh_audit.specs.Inner.Graphs.{IsGraph};
-ghost use Rattle.cmh_audit.specs.Journals.{journal_of, OneEach};
-ghost use Rattle.cmh_audit.specs.Inner.Merging.{AreAllLeft};
-ghost use Rattle.cmh_audit.specs.Inner.AllSums.{in_journals};
-ghost use Rattle.cmh_audit.specs.Transit.{sent_count};
-ghost use Rattle.cmh_audit.specs.Reports.{beside, cycle_of, IsInOrder, Reports};
-ghost use Rattle.cmh_audit.specs.Inner.FoundCycles.{AreFirstCycles, AreOnCycles};
+ghost use Rattle.cmh_audit.specs.Reports.{beside, cycle_of};
+ghost use Rattle.cmh_audit.specs.Inner.FoundCycles.{AreFoundCycles, IsFoundCycle};
+ghost use Rattle.cmh_audit.specs.Inner.Reporting.{IsReportWith};
 
-use crate::count::count_frames;
 use crate::cycle::shortest_cycle;
-use crate::declared::declared_of;
+use crate::declared::processes_of;
 use crate::graph::{Graph, place_of};
-use crate::merge::Merged;
-use crate::waits::waits_of;
-use cmh_frames::{ProcId, Topology};
-use cmh_journal::Journal;
-use cmh_world::{count_law_of_every_run, dark_path_of_every_run};
+use crate::open_waits::OpenWaits;
+use cmh_frames::ProcId;
 use std::alloc::{AllocError, Global};
+use std::collections::BTreeSet;
 use std::marker::Model;
 
 /// A cycle of waits: it begins and ends with the same process, and each member waits for the next.
@@ -131,38 +123,27 @@ impl Report {
     }
 }
 
-/// The report of journals that come from a run and were all taken.
-pub fn report_of(
+/// The report of these open waits and these declared processes, with these counts.
+pub fn report_with(
     alloc: Global,
-    topology: &Topology,
-    journals: &[Journal],
+    waits: &OpenWaits,
+    declared: &BTreeSet<ProcId>,
     events: u64,
-    merged: &Merged,
+    in_transit: u64,
+    tries: u64,
 ) -> Result<Report, AllocError>
-    requires once { OneEach journals.now }
-    requires comes { ComeFromRun topology.now (journal_of journals.now) }
-    requires left { AreAllLeft journals.now merged.now.links }
-    requires small { in_journals sent_count journals.now < 2 ^ 64 }
-    ensures reports { IfOk result (λ report. (events : List WorldEvent) → IsRun topology.now events
-        → ComesFrom (journal_of journals.now) events → Reports topology.now events report) }
-    ensures order { IfOk result IsInOrder }
-    ensures events { IfOk result (λ report. report.events ≡ events) }
-    ensures tries { IfOk result (λ report. report.tries ≡ merged.now.tries) }
+    ensures { IfOk result (IsReportWith waits.now declared.now.keys events in_transit tries) }
 {
-    // The laws that the report rests on: asks and replies take turns, and each declared process lies on a cycle.
-    count_law_of_every_run(topology);
-    dark_path_of_every_run(topology);
-    let graph = Graph::new(alloc, waits_of(alloc, journals)?)?;
-    let declared = declared_of(alloc, journals)?;
+    let graph = Graph::new(alloc, waits.pairs(alloc)?)?;
+    let declared = processes_of(alloc, declared)?;
     let cycles = cycles_of(alloc, &graph, &declared)?;
-    let in_transit = count_frames(&merged.links, topology.sites());
     Ok(Report {
         events,
         waits: graph.waits,
         declared,
         cycles,
         in_transit,
-        tries: merged.tries,
+        tries,
     })
 }
 
@@ -184,16 +165,23 @@ fn cycle_beside<'a>(
 
 /// The first of the shortest cycles through each of these processes.
 fn cycles_of(alloc: Global, graph: &Graph, processes: &[ProcId]) -> Result<Vec<Cycle>, AllocError>
-    requires graph { IsGraph graph.now graph.now.waits.items }
-    requires on_cycles { AreOnCycles graph.now.waits.items processes.now }
-    ensures { IfOk result (λ cycles. AreFirstCycles graph.now.waits.items processes.now cycles.items) }
+    requires { IsGraph graph.now graph.now.waits.items }
+    ensures { IfOk result (λ cycles. AreFoundCycles graph.now.waits.items processes.now cycles.items) }
 {
     let mut cycles = Vec::new(alloc);
     for process in processes {
-        match shortest_cycle(alloc, graph, *process)? {
-            Some(members) => cycles.push(Cycle::new(members))?,
-            None => unreachable!(),
-        }
+        cycles.push(cycle_or_empty(alloc, graph, *process)?)?;
     }
     Ok(cycles)
+}
+
+/// The first of the shortest cycles through a process; where there is none, an empty one.
+fn cycle_or_empty(alloc: Global, graph: &Graph, process: ProcId) -> Result<Cycle, AllocError>
+    requires { IsGraph graph.now graph.now.waits.items }
+    ensures { IfOk result (λ members. IsFoundCycle graph.now.waits.items process members) }
+{
+    match shortest_cycle(alloc, graph, process)? {
+        Some(members) => Ok(Cycle::new(members)),
+        None => Ok(Cycle::new(Vec::new(alloc))),
+    }
 }

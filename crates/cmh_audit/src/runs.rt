@@ -7,13 +7,13 @@ ghost use Rattle.cmh_audit.specs.Runs.{IsRunOf};
 ghost use Rattle.cmh_audit.specs.Set.{IsSet};
 
 use crate::count::count_entries;
-use crate::lawful::lawful_lengths;
 use crate::merge::merge;
 use crate::step::Step;
 use crate::stops::stops_of;
+use crate::survey::survey_of;
 use crate::verdict::AuditMemory;
 use cmh_frames::Topology;
-use cmh_journal::Journal;
+use cmh_stored::StoredJournal;
 use std::alloc::Global;
 
 /// One run from which the journals of all sites come, as the places of its entries: a certificate of an accepted audit,
@@ -24,7 +24,7 @@ use std::alloc::Global;
 pub fn run_of(
     alloc: Global,
     topology: &Topology,
-    journals: &[Journal],
+    journals: &[StoredJournal<'_>],
 ) -> Result<Option<Vec<Step>>, AuditMemory>
     requires { IsSet topology.now journals.now }
     ensures { IfOk result (λ found. MatchOption found (ComeFromRun topology.now (journal_of journals.now) → ⊥)
@@ -33,8 +33,8 @@ pub fn run_of(
     let sites = topology.sites();
     // By its contract the entries are so few that a merge can count its tries.
     let _ = count_entries(journals);
-    let limits = lawful_lengths(alloc, topology, journals)?;
-    let merged = merge(alloc, topology, journals, &limits, true)?;
+    let survey = survey_of(alloc, topology, journals)?;
+    let merged = merge(alloc, topology, journals, &survey.limits, true)?;
     let rows = stops_of(alloc, sites, journals, &merged.taken)?;
     if rows.is_empty() {
         Ok(Some(merged.steps))

@@ -6,7 +6,7 @@ ghost use Rattle.cmh_audit.specs.Inner.FoundStops.{stops_at};
 
 use crate::set::place_of;
 use cmh_frames::SiteId;
-use cmh_journal::Journal;
+use cmh_stored::StoredJournal;
 use std::alloc::{AllocError, Global};
 use std::marker::Model;
 
@@ -52,7 +52,7 @@ impl Stops {
 pub fn stops_of(
     alloc: Global,
     sites: &[SiteId],
-    journals: &[Journal],
+    journals: &[StoredJournal<'_>],
     taken: &[usize],
 ) -> Result<Vec<(SiteId, usize)>, AllocError>
     requires once { OneEach journals.now }
@@ -62,9 +62,8 @@ pub fn stops_of(
     let mut rows = Vec::new(alloc);
     for site in sites {
         if let Some(i) = place_of(journals, *site) {
-            let entries = journals[i].entries();
             let done = taken[i];
-            if done < entries.len() {
+            if done < journals[i].len() {
                 rows.push((*site, done + 1))?;
             }
         }

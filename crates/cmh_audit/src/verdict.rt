@@ -4,19 +4,21 @@ ghost use Rattle.std.specs.Prelude.{◌≡◌, ◌↔◌, ◌+◌, ◌*◌, ◌�
 ghost use Rattle.cmh_model.specs.declared.journal.WorldEvent.{WorldEvent};
 ghost use Rattle.cmh_model.specs.Runs.{ComeFromRun, ComesFrom, IsRun};
 ghost use Rattle.cmh_audit.specs.Inner.Merging.{AreLawfulLengths};
-ghost use Rattle.cmh_audit.specs.Journals.{AreAllLawful, journal_of, entry_count};
+ghost use Rattle.cmh_audit.specs.Inner.Walks.{cut_all_to};
+ghost use Rattle.cmh_audit.specs.Journals.{journal_of, entry_count};
 ghost use Rattle.cmh_audit.specs.Reports.{Reports, IsInOrder};
 ghost use Rattle.cmh_audit.specs.Set.{IsSet};
 ghost use Rattle.cmh_audit.specs.Stops.{AreStops};
+ghost use Rattle.cmh_audit.specs.Totals.{AreTotalsOf};
 ghost use Rattle.cmh_audit.specs.Verdicts.{IsAccepted, IfAccepted, IfRefused, IsVerdictOn, tries_of, looks_due, looks_caused};
 
-use crate::count::{count_entries, lengths_of};
-use crate::lawful::lawful_lengths;
+use crate::count::count_entries;
 use crate::merge::merge;
-use crate::report::{Report, report_of};
+use crate::report::Report;
 use crate::stops::{Stops, stops_of};
+use crate::survey::{Survey, survey_of};
 use cmh_frames::Topology;
-use cmh_journal::Journal;
+use cmh_stored::StoredJournal;
 use std::alloc::{AllocError, Global};
 use thiserror::Error;
 
@@ -47,7 +49,7 @@ pub enum Verdict {
 pub fn audit(
     alloc: Global,
     topology: &Topology,
-    journals: &[Journal],
+    journals: &[StoredJournal<'_>],
 ) -> Result<Verdict, AuditMemory>
     requires { IsSet topology.now journals.now }
 
@@ -70,45 +72,31 @@ pub fn audit(
     // And a site is looked at again only for a frame that an entry sent that was taken.
     ensures caused { IfOk result (λ v. tries_of v ≤ looks_caused journals.now v) }
 {
-    let limits = lawful_lengths(alloc, topology, journals)?;
-    audit_within(alloc, topology, journals, &limits)
+    let survey = survey_of(alloc, topology, journals)?;
+    audit_surveyed(alloc, topology, journals, &survey)
 }
 
-/// The same of journals of which each is known to be lawful: none is replayed.
-pub fn audit_lawful(
+/// The same of journals that were surveyed.
+fn audit_surveyed(
     alloc: Global,
     topology: &Topology,
-    journals: &[Journal],
+    journals: &[StoredJournal<'_>],
+    survey: &Survey,
 ) -> Result<Verdict, AuditMemory>
     requires set { IsSet topology.now journals.now }
-    requires lawful { AreAllLawful topology.now journals.now }
-    ensures verdict { IfOk result (IsVerdictOn topology.now journals.now) }
-    ensures looked { IfOk result (λ v. looks_due journals.now v ≤ tries_of v) }
-    ensures caused { IfOk result (λ v. tries_of v ≤ looks_caused journals.now v) }
-{
-    let lengths = lengths_of(alloc, journals)?;
-    audit_within(alloc, topology, journals, &lengths)
-}
-
-/// The same of journals of which it is known how many entries of each are lawful.
-fn audit_within(
-    alloc: Global,
-    topology: &Topology,
-    journals: &[Journal],
-    limits: &[usize],
-) -> Result<Verdict, AuditMemory>
-    requires set { IsSet topology.now journals.now }
-    requires lawful { AreLawfulLengths topology.now journals.now limits.now }
+    requires lawful { AreLawfulLengths topology.now journals.now survey.now.limits.items }
+    requires totals { AreTotalsOf (cut_all_to journals.now survey.now.limits.items) survey.now.totals }
     ensures verdict { IfOk result (IsVerdictOn topology.now journals.now) }
     ensures looked { IfOk result (λ v. looks_due journals.now v ≤ tries_of v) }
     ensures caused { IfOk result (λ v. tries_of v ≤ looks_caused journals.now v) }
 {
     let sites = topology.sites();
-    let events = count_entries(journals);
-    let merged = merge(alloc, topology, journals, limits, false)?;
+    // By its contract the entries are so few that a merge can count its tries.
+    let _ = count_entries(journals);
+    let merged = merge(alloc, topology, journals, &survey.limits, false)?;
     let rows = stops_of(alloc, sites, journals, &merged.taken)?;
     if rows.is_empty() {
-        let report = report_of(alloc, topology, journals, events, &merged)?;
+        let report = survey.totals.report(alloc, topology, merged.tries)?;
         Ok(Verdict::Accepted(report))
     } else {
         Ok(Verdict::Refused(Stops::new(rows, merged.tries)))

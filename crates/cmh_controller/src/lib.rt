@@ -16,6 +16,3 @@ pub use crate::prepared::Prepared;
 pub use crate::refusal::Refusal;
 pub use crate::replayed::{Replayed, replay};
 pub use cmh_model::{Entry, Event, Outcome, Sendings, Targets};
-
-#[cfg(test)]
-mod tests;

@@ -38,7 +38,9 @@ impl ProcSet {
     pub fn contains(&self, process: ProcId) -> bool
         ensures { result ≡ set.contains self.now process }
     {
-        self.processes.contains(&process)
+        let processes = self.processes.as_slice();
+        // Most often nobody is in it.
+        !processes.is_empty() && processes.contains(&process)
     }
 
     pub fn insert(&mut self, process: ProcId) -> Result<(), AllocError>

@@ -31,6 +31,7 @@ fn receiver(frame: &Frame) -> ProcId
 }
 
 /// Adds frames to those that go out, each with the site of the process that it is for.
+#[inline(always)]
 pub fn send_each(
     topology: &Topology,
     frames: &[Frame],

@@ -1,11 +1,11 @@
 -- For whom those that were found wait, and a cycle through the member at which the search began.
-use Rattle.std.proofs.Common.{inl, inr, ◌≡◌, ◌↔◌, ℕ, ◌<◌, Bool, true, false, not, ◌&&◌, ◌||◌, ◌==◌, length, get_or, nat_lt, refl, sym, ap, ◌∙◌, subst, true≢false}
+use Rattle.std.proofs.Common.{inl, inr, ◌≡◌, ◌≢◌, ◌↔◌, ℕ, ◌<◌, Bool, true, false, not, ◌&&◌, ◌||◌, ◌==◌, length, get_or, nat_lt, refl, sym, ap, ◌∙◌, subst, true≢false}
 use Rattle.std.proofs.lemmas.Bool.{eq-eqb, ne_eqb, and_parts, and_from, or_cases, or_left, or_right, or_parts, cases_eq, lt-ltb, ltb-true}
 use Rattle.cmh_model.specs.Paths.{DependsOnItselfAmong}
 use Rattle.cmh_model.specs.Relation.{has}
 use Rattle.cmh_waits.specs.Held.{Held, IsMember}
 use Rattle.cmh_waits.specs.Rows.{is_set, joins}
-use Rattle.cmh_dependents.specs.Marks.{AreReached}
+use Rattle.cmh_dependents.specs.Marks.{AreLeaving, AreReached, StaysHere}
 use Rattle.cmh_dependents.specs.Inner.Bits.{AreAwaited}
 use Rattle.cmh_dependents.proofs.Cycles.{depends_from, last_wait}
 
@@ -65,6 +65,54 @@ module _ (v : Held) (reached work awaited place row fresh less : ℕ)
           ]
         ]),
   )
+
+-- ---- those of them that wait for processes of other sites
+
+-- what was looked at has a 1 where it waits for a process of another site
+pub record AreLeavingSoFar (v : Held) (reached work leaving : ℕ) : Type 0 where
+  pub within : (k : ℕ) → is_set leaving k ≡ true → is_set reached k ≡ true
+  pub stay : (k : ℕ) → k < length v.members → IsLookedAt reached work k → is_set leaving k ≡ false → StaysHere v (get_or v.members k 0)
+
+pub none_leave : (v : Held) (row : ℕ) → ((k : ℕ) → is_set 0 k ≡ false) → AreLeavingSoFar v row row 0
+none_leave v row none = record {
+  within = λ k h. absurd (true≢false (sym h ∙ none k));
+  stay = λ k below looked h. absurd (true≢false (sym looked.0 ∙ looked.1));
+}
+
+module _ (v : Held) (reached work leaving place fresh less : ℕ)
+    (so_far : AreLeavingSoFar v reached work leaving) (found : is_set reached place ≡ true)
+    (less_is : (k : ℕ) → is_set less k ≡ (not (k == place) && is_set work k))
+    (work' reached' leaving' : ℕ)
+    (work_is : (k : ℕ) → is_set work' k ≡ (is_set less k || is_set fresh k))
+    (reached_is : (k : ℕ) → is_set reached' k ≡ (is_set reached k || is_set fresh k))
+    (others : (k : ℕ) → k ≢ place → is_set leaving' k ≡ is_set leaving k)
+    (here : place < length v.members → is_set leaving' place ≡ false → StaysHere v (get_or v.members place 0)) where
+  -- the member at the place is looked at too
+  pub leave_on : AreLeavingSoFar v reached' work' leaving'
+  leave_on = record {
+    within = λ k h. reached_is k ∙ or_left (is_set reached k) (is_set fresh k) (elim (cases_eq k place) [
+      | inl e ↦ ap (is_set reached) e ∙ found
+      | inr n ↦ so_far.within k (sym (others k n) ∙ h)
+    ]);
+    stay = λ k below looked h. elim (cases_eq k place) [
+      | inl e ↦ subst (λ a. StaysHere v (get_or v.members a 0)) (sym e)
+          (here (subst (λ a. a < length v.members) e below) (ap (is_set leaving') (sym e) ∙ h))
+      | inr n ↦
+          let gone = or_parts (is_set less k) (is_set fresh k) (sym (work_is k) ∙ looked.1) in
+          elim (or_cases (is_set reached k) (is_set fresh k) (sym (reached_is k) ∙ looked.0)) [
+            | inr e ↦ absurd (true≢false (sym e ∙ gone.1))
+            | inl e ↦ so_far.stay k below (e, sym (ap (λ t. not t && is_set work k) (ne_eqb k place n)) ∙ sym (less_is k) ∙ gone.0) (sym (others k n) ∙ h)
+          ]
+    ];
+  }
+
+pub all_leave : (v : Held) (reached work leaving : ℕ) → work ≡ 0 → ((k : ℕ) → is_set 0 k ≡ false) → AreLeavingSoFar v reached work leaving → AreLeaving v reached leaving
+all_leave v reached work leaving empty none so_far = record {
+  within = so_far.within;
+  stay = λ k below h. so_far.stay k below (h, ap (λ n. is_set n k) empty ∙ none k);
+}
+
+-- ---- at the end
 
 -- with nothing left to look at, those are all for which one that is reached waits
 pub all_looked_at : (v : Held) (reached work awaited : ℕ) → work ≡ 0 → ((k : ℕ) → is_set 0 k ≡ false) → AreLookedAt v reached work awaited → AreAwaited v reached awaited

@@ -1,12 +1,12 @@
 //! Which processes of a site are reached from one of them by waits inside the site.
 
-ghost use Rattle.std.specs.Prelude.{◌≡◌, ℕ, ◌<◌, ◌≤◌, ◌↔◌, ◌==◌, ◌&&◌, ◌||◌, not, true, length, slice_index};
+ghost use Rattle.std.specs.Prelude.{◌≡◌, ◌≢◌, ℕ, ◌<◌, ◌≤◌, ◌↔◌, ◌==◌, ◌&&◌, ◌||◌, not, true, false, length, slice_index};
 ghost use Rattle.std.specs.Prelude.{Contains, IfOk, IsTrue};
 ghost use Rattle.std.specs.List.Sorted.{IsStrictlyIncreasing};
 ghost use Rattle.cmh_model.specs.Paths.{DependsOnItselfAmong, ReachesAmong};
 ghost use Rattle.cmh_waits.specs.Held.{IsMember};
 ghost use Rattle.cmh_waits.specs.Rows.{is_set};
-ghost use Rattle.cmh_dependents.specs.Marks.{AreReached, IsMarked};
+ghost use Rattle.cmh_dependents.specs.Marks.{AreLeaving, AreReached, IsMarked, StaysHere};
 ghost use Rattle.cmh_dependents.specs.Inner.Bits.{AreAwaited, AreThose};
 
 use cmh_frames::ProcId;
@@ -20,6 +20,8 @@ use std::alloc::{AllocError, Global};
 pub struct Reach {
     /// The numbers of the members that are reached, as bits.
     pub places: u64,
+    /// The numbers of those of them that wait for processes of other sites, as bits.
+    pub leaving: u64,
     /// Whether a path of one or more waits between members leads from the member back to it: whether it is locally
     /// dependent upon itself (Chandy, Misra and Haas 1983).
     pub on_cycle: bool,
@@ -30,15 +32,17 @@ impl Reach {
     pub fn new(waits: &LocalWaits, from: ProcId) -> Self
         requires { IsMember waits.now from }
         ensures places { AreReached waits.now from result.places }
+        ensures leaving { AreLeaving waits.now result.places result.leaving }
         ensures on_cycle { IsTrue result.on_cycle ↔ DependsOnItselfAmong (λ p. IsMember waits.now p) waits.now.waits from }
     {
         let Some(start) = waits.place(from) else {
             unreachable!();
         };
-        let (places, awaited) = reached_from(waits, start);
+        let found = reached_from(waits, start);
         Reach {
-            places,
-            on_cycle: is_marked(awaited, start),
+            places: found.reached,
+            leaving: found.leaving,
+            on_cycle: is_marked(found.awaited, start),
         }
     }
 
@@ -89,14 +93,27 @@ pub fn on_local_cycle(
     Ok(Reach::new(waits, process).on_cycle)
 }
 
-/// The numbers of the members that the one at the start reaches, and of those for which any of them waits, as bits.
-fn reached_from(waits: &LocalWaits, start: usize) -> (u64, u64)
+/// Numbers of members, as bits.
+#[derive(Clone, Copy)]
+struct Found {
+    /// Those that are reached.
+    reached: u64,
+    /// Those of them that wait for processes of other sites.
+    leaving: u64,
+    /// Those for which any of them waits.
+    awaited: u64,
+}
+
+/// What the member with this number reaches.
+fn reached_from(waits: &LocalWaits, start: usize) -> Found
     requires { start < length waits.now.members }
-    ensures reached { AreReached waits.now (slice_index waits.now.members start) result.0 }
-    ensures awaited { AreAwaited waits.now result.0 result.1 }
+    ensures reached { AreReached waits.now (slice_index waits.now.members start) result.reached }
+    ensures leaving { AreLeaving waits.now result.reached result.leaving }
+    ensures awaited { AreAwaited waits.now result.reached result.awaited }
 {
     let _ = waits.members();
     let mut reached = 1 << start;
+    let mut leaving = 0;
     let mut awaited = 0;
     let mut work = reached;
     while work != 0 {
@@ -104,10 +121,29 @@ fn reached_from(waits: &LocalWaits, start: usize) -> (u64, u64)
         let row = waits.row(place);
         let fresh = beyond(row, reached);
         awaited = either(awaited, row);
+        leaving = with_leaving(leaving, waits, place);
         work = either(without(work, place), fresh);
         reached = either(reached, fresh);
     }
-    (reached, awaited)
+    Found {
+        reached,
+        leaving,
+        awaited,
+    }
+}
+
+/// The row with a 1 at the place too, where the member with this number waits for a process of another site.
+fn with_leaving(row: u64, waits: &LocalWaits, place: usize) -> u64
+    requires { place < 64 }
+    ensures others { (k : ℕ) → k ≢ place → is_set result k ≡ is_set row k }
+    ensures here { place < length waits.now.members → is_set result place ≡ false
+        → StaysHere waits.now (slice_index waits.now.members place) }
+{
+    if waits.remote_at(place).is_empty() {
+        row
+    } else {
+        row | 1 << place
+    }
 }
 
 /// Whether the row has a 1 at the place.
@@ -118,17 +154,18 @@ fn is_marked(row: u64, place: usize) -> bool
     row >> place & 1 == 1
 }
 
-/// The place of the lowest 1.
-fn lowest(row: u64) -> usize
+/// The place of the lowest 1 of a row.
+pub fn lowest(row: u64) -> usize
     requires { 0 < row }
     ensures within { result < 64 }
     ensures set { is_set row result ≡ true }
+    ensures least { (k : ℕ) → k < result → is_set row k ≡ false }
 {
     row.trailing_zeros() as usize
 }
 
 /// The row with a 0 at the place, where it has a 1.
-fn without(row: u64, place: usize) -> u64
+pub fn without(row: u64, place: usize) -> u64
     requires within { place < 64 }
     requires set { is_set row place ≡ true }
     ensures bits { (k : ℕ) → is_set result k ≡ (not (k == place) && is_set row k) }

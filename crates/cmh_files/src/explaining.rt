@@ -12,6 +12,7 @@ use crate::auditing::{Audited, audit_files, status_of, text_of};
 use crate::faults::Fault;
 use cmh_audit::Verdict;
 use cmh_script::Output;
+use cmh_stored::list_journals;
 use cmh_why::reason_lines;
 use std::alloc::{AllocError, Global};
 use std::io::Write;
@@ -62,7 +63,7 @@ fn explain_into<W: Write>(
 }
 
 /// The lines of the audit, and then those of the reasons.
-fn explained_text(alloc: Global, audited: &Audited) -> Result<String, AllocError>
+fn explained_text(alloc: Global, audited: &Audited<'_>) -> Result<String, AllocError>
     requires { IfRefused audited.now.verdict
         (λ stops. AreStops audited.now.world audited.now.journals.items stops.rows) }
     ensures { IfOk result (λ text. (reasons : List ℕ)
@@ -77,7 +78,7 @@ fn explained_text(alloc: Global, audited: &Audited) -> Result<String, AllocError
 }
 
 /// The lines of the reasons; none where the journals come from a run.
-fn reasons_of(alloc: Global, audited: &Audited) -> Result<String, AllocError>
+fn reasons_of(alloc: Global, audited: &Audited<'_>) -> Result<String, AllocError>
     requires { IfRefused audited.now.verdict
         (λ stops. AreStops audited.now.world audited.now.journals.items stops.rows) }
     ensures { IfOk result (λ text.
@@ -85,11 +86,9 @@ fn reasons_of(alloc: Global, audited: &Audited) -> Result<String, AllocError>
 {
     match &audited.verdict {
         Verdict::Accepted(_) => Ok(String::new(alloc)),
-        Verdict::Refused(stops) => reason_lines(
-            alloc,
-            &audited.world,
-            &audited.journals,
-            stops.rows(),
-        ),
+        Verdict::Refused(stops) => {
+            let listed = list_journals(alloc, &audited.journals)?;
+            reason_lines(alloc, &audited.world, &listed, stops.rows())
+        }
     }
 }

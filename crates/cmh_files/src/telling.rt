@@ -14,6 +14,7 @@ use crate::faults::Fault;
 use crate::run_lines::RunLines;
 use cmh_audit::{AuditMemory, Step, Verdict, run_of};
 use cmh_script::Output;
+use cmh_stored::list_journals;
 use std::alloc::Global;
 use std::io::Write;
 
@@ -58,8 +59,9 @@ fn tell_into<W: Write>(
     let steps = steps_of(alloc, &audited)?;
     let text = text_of(alloc, &audited)?;
     let status = status_of(&audited.verdict);
+    let listed = list_journals(alloc, &audited.journals)?;
     let lines = RunLines {
-        journals: &audited.journals,
+        journals: &listed,
         steps: &steps,
     };
     out.write_text(text.as_str())?;
@@ -69,7 +71,7 @@ fn tell_into<W: Write>(
 }
 
 /// The steps of a run of the journals; none where they come from no run.
-fn steps_of(alloc: Global, audited: &Audited) -> Result<Vec<Step>, AuditMemory>
+fn steps_of(alloc: Global, audited: &Audited<'_>) -> Result<Vec<Step>, AuditMemory>
     requires set { IsSet audited.now.world audited.now.journals.items }
     requires accepted { IsAccepted audited.now.verdict
         ↔ ComeFromRun audited.now.world (journal_of audited.now.journals.items) }

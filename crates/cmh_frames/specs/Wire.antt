@@ -43,6 +43,13 @@ IsShort (kind ∷ body) = IsKind kind × (length body + 1 < length_of_kind kind)
 abbrev pub BeginsNoFrame : List ℕ → Type 0
 BeginsNoFrame bytes = (f : Frame) (more : List ℕ) → IsFrame f → bytes ≢ spelling f ++ more
 
+-- the bytes begin with the spelling of a frame
+pub record BeginsFrame (bytes : List ℕ) : Type 0 where
+  pub frame : Frame
+  pub behind : List ℕ
+  pub is_frame : IsFrame frame
+  pub bytes_are : bytes ≡ spelling frame ++ behind
+
 -- what the bytes begin with: a frame's spelling, less than a frame of their kind, or neither
 abbrev pub IsFront : List ℕ → Front → Type 0
 IsFront bytes (Whole f n) = (n ≤ length bytes) × Spells (take n bytes) f

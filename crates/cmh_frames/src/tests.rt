@@ -58,7 +58,10 @@ fn frames_are_spelled_by_the_bytes_they_were_read_from(rt: HostRuntime) {
     ];
     for bytes in table {
         match decode_front(bytes) {
-            Front::Whole(frame, _) => assert_eq!(rt; encode(&frame).as_slice(), bytes),
+            Front::Whole(frame, len) => {
+                assert_eq!(rt; encode(&frame).as_slice(), bytes);
+                assert_eq!(rt; frame.spelled_len(), len);
+            }
             _ => assert!(rt; false, "no frame: {bytes:?}"),
         }
     }

@@ -35,6 +35,14 @@ impl Targets {
         &self.processes
     }
 
+    /// The list of the targets, whose memory may be used again.
+    #[inline(always)]
+    pub fn into_processes(self) -> Vec<ProcId>
+        ensures { result.items ≡ self }
+    {
+        self.processes
+    }
+
     /// The same targets once more.
     pub fn copy(&self, alloc: Global) -> Result<Targets, AllocError>
         ensures { IfOk result (λ other. other ≡ self.now) }

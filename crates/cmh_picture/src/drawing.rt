@@ -10,6 +10,7 @@ use crate::picture_text::PictureText;
 use cmh_draw::{Kind, Picture, run_picture, waits_picture};
 use cmh_files::{Audited, Fault, audit_files};
 use cmh_script::Output;
+use cmh_stored::list_journals;
 use std::alloc::{AllocError, Global};
 use std::io::Write;
 
@@ -82,12 +83,15 @@ fn picture_of_files(
 }
 
 /// The picture of what was audited.
-fn picture_of(alloc: Global, audited: &Audited, kind: Kind) -> Result<Picture, AllocError>
+fn picture_of(alloc: Global, audited: &Audited<'_>, kind: Kind) -> Result<Picture, AllocError>
     ensures { IfOk result
         (IsPictureOf kind audited.now.world audited.now.journals.items audited.now.verdict) }
 {
     match kind {
         Kind::Waits => waits_picture(alloc, &audited.world, &audited.verdict),
-        Kind::Run => run_picture(alloc, &audited.world, &audited.journals, &audited.verdict),
+        Kind::Run => {
+            let listed = list_journals(alloc, &audited.journals)?;
+            run_picture(alloc, &audited.world, &listed, &audited.verdict)
+        }
     }
 }

@@ -15,7 +15,7 @@ use Rattle.cmh_script.specs.declared.lines.NextLine.TheVariants.{End}
 use Rattle.cmh_play.proofs.Plays.{HasPlayed, answer_fault, answered_fault, answered_some, at_some, fault_not_0}
 use Rattle.cmh_play.specs.Keeping.{AnsweredAndKept, IsKeptPlayFault, IsUnanswered, KeepsAt, KeepsWorld, PlayedToEnd}
 use Rattle.cmh_play.specs.Play.{Answered, IsAnswerFault, IsPlayFault, Plays, status_after}
-use Rattle.cmh_play.specs.declared.play.Game.{Game}
+use Rattle.cmh_play.specs.Games.{Game}
 use Rattle.cmh_play.specs.declared.reply.Reply.{Reply}
 use Rattle.cmh_play.specs.declared.reply.Reply.TheVariants.{Silent, Ok as OkReply, BadLine, Late, Topology, Step, Delivery, Severance, Report}
 use Rattle.cmh_audit.specs.declared.verdict.Verdict.{Verdict}

@@ -1,3 +1,5 @@
+pub mod KeptPlays
+pub mod Led
+pub mod LinesLed
 pub mod PlayedLines
 pub mod Plays
-pub mod KeptPlays

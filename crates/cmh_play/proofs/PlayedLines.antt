@@ -1,16 +1,12 @@
 -- Each line of a script makes the run of the played world longer, or leaves it as it is.
-use Rattle.std.proofs.Common.{◌≡◌, ℕ, ◌<◌, Bool, true, false, ◌==◌, List, [], inl, inr, length, nat_lt, refl, sym, subst, ap}
-use Rattle.std.specs.Prelude.{MatchBool, ⊤}
-use Rattle.std.specs.Io.BufRead.{first_line}
+use Rattle.std.proofs.Common.{◌≡◌, ℕ, Bool, true, false, ◌==◌, [], inl, inr, length, refl, sym, subst}
+use Rattle.std.specs.Prelude.{MatchBool}
 use Rattle.cmh_frames.specs.declared.edition.Edition.{Edition}
 use Rattle.cmh_frames.specs.Rows.{Row}
 use Rattle.cmh_model.specs.declared.event.Event.{Event}
-use Rattle.cmh_model.specs.declared.event.Event.TheVariants.{Ask, Reply, Start, Got}
 use Rattle.cmh_model.specs.Settling.{is_delivery}
-use Rattle.cmh_audit.specs.Verdicts.{IsVerdictOn}
-use Rattle.cmh_playground.specs.Draft.{Draft}
 use Rattle.cmh_playground.specs.Runs.{IsPlayed}
-use Rattle.cmh_playground.specs.Playground.{Playground}
+use Rattle.cmh_playground.specs.World.{World}
 use Rattle.cmh_playground.specs.declared.playground.Delivery.{Delivery}
 use Rattle.cmh_playground.specs.declared.playground.Delivery.TheVariants.{BadLink, Closed, Empty, Refused as DeliveryRefused, Got as Got_frame}
 use Rattle.cmh_playground.proofs.PlayedRuns.{nothing_played, stepped_of, delivered_on, cut_off, refused_for_room, accepted_report}
@@ -20,39 +16,41 @@ use Rattle.cmh_script.specs.declared.script.Command.{Command}
 use Rattle.cmh_script.specs.declared.script.Command.TheVariants.{Act, Deliver, Cut, Report}
 use Rattle.cmh_script.specs.declared.script.Line.{Line}
 use Rattle.cmh_script.specs.declared.script.Line.TheVariants.{Silent, Bad, Edition as Edition_line, Site, Command as Command_line}
-use Rattle.cmh_play.specs.declared.play.Game.{Game}
-use Rattle.cmh_play.specs.declared.play.Game.TheVariants.{Named, Played}
+use Rattle.cmh_script.specs.declared.lines.NextLine.{NextLine}
+use Rattle.cmh_script.specs.declared.lines.NextLine.TheVariants.{Line as Read, TooLong, End}
+use Rattle.cmh_play.specs.Games.{Game, Named, Played}
 use Rattle.cmh_play.specs.declared.reply.Reply.{Reply as Reply_text}
 use Rattle.cmh_play.specs.declared.reply.Reply.TheVariants.{Silent as NoReply, Ok, BadLine, Late, Topology, Step as StepReply, Delivery as DeliveryReply, Severance as SeveranceReply, Report as ReportReply}
-use Rattle.cmh_play.specs.Play.{Plays, begin, answer, IsNewWorld, IsWorldOf, CarriesOut, Commands, SetsEdition, AddsSite, FirstSays, Replies, IsOfRun, IsOfHonestSites}
+use Rattle.cmh_play.specs.Play.{IsWorldOf, CarriesOut, Commands, SetsEdition, AddsSite, IsSaidBy, Replies, IsOfRun, IsOfHonestSites}
 
 -- a script has no line by which a site gets a frame
-says_no_got : (rest : List ℕ) (process : ℕ) (event : Event) → FirstSays rest (Command_line (Act process event)) → is_delivery event ≡ false
-says_no_got rest process event says = go (nat_lt 1024 (length (first_line rest))) says
-  where
-    go : (long : Bool) → MatchBool long (Command_line (Act process event) ≡ Bad) (Says (first_line rest) (Command_line (Act process event))) → is_delivery event ≡ false
-    go true is = absurd (cc is)
-    go false is = act_no_got (first_line rest) process event is
+abbrev pub NoGot : Line → Type 0
+NoGot line = (process : ℕ) (event : Event) → line ≡ Command_line (Act process event) → is_delivery event ≡ false
+
+pub said_no_got : (next : NextLine) (line : Line) → IsSaidBy next line → NoGot line
+said_no_got (Read text) line says process event is = act_no_got text.now process event (subst (λ (l : Line). Says text.now l) is says)
+said_no_got TooLong line says process event is = absurd (cc (says, is))
+said_no_got End line says process event is = absurd (cc (says, is))
 
 -- the world that a command finds is at the end of a run
-world_of : (game : Game) (world : Playground) → IsWorldOf game world → IsOfRun game → IsPlayed world
+world_of : (game : Game) (world : World) → IsWorldOf game world → IsOfRun game → IsPlayed world
 world_of (Named draft) world is of = nothing_played world is.journals is.links
 world_of (Played played) world is of = subst IsPlayed is of
 
 -- a command of a world that is played already
-pub commanded : (old : Game) (before after : Playground) (command : Command) (reply : Reply_text) → old ≡ Played before → CarriesOut before after command reply → Commands old (Played after) command reply
-commanded old before after command reply is done = record {
+pub commanded : (before after : World) (command : Command) (reply : Reply_text) → CarriesOut before after command reply → Commands (Played before) (Played after) command reply
+commanded before after command reply done = record {
   before = before;
   after = after;
-  stands = subst (λ (g : Game). IsWorldOf g before) (sym is) refl;
+  stands = refl;
   done = done;
   kept = refl;
 }
 
 -- what a command does to it, and what it answers
-carried_out : (rest : List ℕ) (old new : Playground) (command : Command) (reply : Reply_text) → FirstSays rest (Command_line command) → CarriesOut old new command reply → IsPlayed old → IsOfHonestSites reply × IsPlayed new
-carried_out rest old new (Act process event) (StepReply step) says is played = (tt, stepped_of old new process event step (says_no_got rest process event says) is played)
-carried_out rest old new (Deliver from to) (DeliveryReply delivery) says is played = (honest delivery is, delivered_on old new from to delivery is played)
+carried_out : (old new : World) (command : Command) (reply : Reply_text) → NoGot (Command_line command) → CarriesOut old new command reply → IsPlayed old → IsOfHonestSites reply × IsPlayed new
+carried_out old new (Act process event) (StepReply step) says is played = (tt, stepped_of old new process event step (says process event refl) is played)
+carried_out old new (Deliver from to) (DeliveryReply delivery) says is played = (honest delivery is, delivered_on old new from to delivery is played)
   where
     honest : (delivery : Delivery) → CarriesOut old new (Deliver from to) (DeliveryReply delivery) → IsOfHonestSites (DeliveryReply delivery)
     honest BadLink is = tt
@@ -60,40 +58,40 @@ carried_out rest old new (Deliver from to) (DeliveryReply delivery) says is play
     honest Empty is = tt
     honest (DeliveryRefused refused) is = refused_for_room old new from to refused is played
     honest (Got_frame frame done) is = tt
-carried_out rest old new (Cut from to) (SeveranceReply severance) says is played = (tt, cut_off old new from to severance is played)
-carried_out rest old new Report (ReportReply edition verdict) says is played = (accepted_report old verdict.value is.2 played, subst IsPlayed (sym is.0) played)
-carried_out rest old new (Act process event) NoReply says is played = absurd is
-carried_out rest old new (Act process event) Ok says is played = absurd is
-carried_out rest old new (Act process event) BadLine says is played = absurd is
-carried_out rest old new (Act process event) Late says is played = absurd is
-carried_out rest old new (Act process event) (Topology fault) says is played = absurd is
-carried_out rest old new (Act process event) (DeliveryReply delivery) says is played = absurd is
-carried_out rest old new (Act process event) (SeveranceReply severance) says is played = absurd is
-carried_out rest old new (Act process event) (ReportReply edition verdict) says is played = absurd is
-carried_out rest old new (Deliver from to) NoReply says is played = absurd is
-carried_out rest old new (Deliver from to) Ok says is played = absurd is
-carried_out rest old new (Deliver from to) BadLine says is played = absurd is
-carried_out rest old new (Deliver from to) Late says is played = absurd is
-carried_out rest old new (Deliver from to) (Topology fault) says is played = absurd is
-carried_out rest old new (Deliver from to) (StepReply step) says is played = absurd is
-carried_out rest old new (Deliver from to) (SeveranceReply severance) says is played = absurd is
-carried_out rest old new (Deliver from to) (ReportReply edition verdict) says is played = absurd is
-carried_out rest old new (Cut from to) NoReply says is played = absurd is
-carried_out rest old new (Cut from to) Ok says is played = absurd is
-carried_out rest old new (Cut from to) BadLine says is played = absurd is
-carried_out rest old new (Cut from to) Late says is played = absurd is
-carried_out rest old new (Cut from to) (Topology fault) says is played = absurd is
-carried_out rest old new (Cut from to) (StepReply step) says is played = absurd is
-carried_out rest old new (Cut from to) (DeliveryReply delivery) says is played = absurd is
-carried_out rest old new (Cut from to) (ReportReply edition verdict) says is played = absurd is
-carried_out rest old new Report NoReply says is played = absurd is
-carried_out rest old new Report Ok says is played = absurd is
-carried_out rest old new Report BadLine says is played = absurd is
-carried_out rest old new Report Late says is played = absurd is
-carried_out rest old new Report (Topology fault) says is played = absurd is
-carried_out rest old new Report (StepReply step) says is played = absurd is
-carried_out rest old new Report (DeliveryReply delivery) says is played = absurd is
-carried_out rest old new Report (SeveranceReply severance) says is played = absurd is
+carried_out old new (Cut from to) (SeveranceReply severance) says is played = (tt, cut_off old new from to severance is played)
+carried_out old new Report (ReportReply edition verdict) says is played = (accepted_report old verdict.value is.2 played, subst IsPlayed (sym is.0) played)
+carried_out old new (Act process event) NoReply says is played = absurd is
+carried_out old new (Act process event) Ok says is played = absurd is
+carried_out old new (Act process event) BadLine says is played = absurd is
+carried_out old new (Act process event) Late says is played = absurd is
+carried_out old new (Act process event) (Topology fault) says is played = absurd is
+carried_out old new (Act process event) (DeliveryReply delivery) says is played = absurd is
+carried_out old new (Act process event) (SeveranceReply severance) says is played = absurd is
+carried_out old new (Act process event) (ReportReply edition verdict) says is played = absurd is
+carried_out old new (Deliver from to) NoReply says is played = absurd is
+carried_out old new (Deliver from to) Ok says is played = absurd is
+carried_out old new (Deliver from to) BadLine says is played = absurd is
+carried_out old new (Deliver from to) Late says is played = absurd is
+carried_out old new (Deliver from to) (Topology fault) says is played = absurd is
+carried_out old new (Deliver from to) (StepReply step) says is played = absurd is
+carried_out old new (Deliver from to) (SeveranceReply severance) says is played = absurd is
+carried_out old new (Deliver from to) (ReportReply edition verdict) says is played = absurd is
+carried_out old new (Cut from to) NoReply says is played = absurd is
+carried_out old new (Cut from to) Ok says is played = absurd is
+carried_out old new (Cut from to) BadLine says is played = absurd is
+carried_out old new (Cut from to) Late says is played = absurd is
+carried_out old new (Cut from to) (Topology fault) says is played = absurd is
+carried_out old new (Cut from to) (StepReply step) says is played = absurd is
+carried_out old new (Cut from to) (DeliveryReply delivery) says is played = absurd is
+carried_out old new (Cut from to) (ReportReply edition verdict) says is played = absurd is
+carried_out old new Report NoReply says is played = absurd is
+carried_out old new Report Ok says is played = absurd is
+carried_out old new Report BadLine says is played = absurd is
+carried_out old new Report Late says is played = absurd is
+carried_out old new Report (Topology fault) says is played = absurd is
+carried_out old new Report (StepReply step) says is played = absurd is
+carried_out old new Report (DeliveryReply delivery) says is played = absurd is
+carried_out old new Report (SeveranceReply severance) says is played = absurd is
 
 -- a line that names a site or the edition
 same_game : (old new : Game) → new ≡ old → IsOfRun old → IsOfRun new
@@ -113,16 +111,11 @@ add_site (Named draft) new row reply (inl is) of = (subst IsOfHonestSites (sym i
 add_site (Named draft) new row reply (inr is) of = (subst IsOfHonestSites (sym is.2.1) tt, subst IsOfRun (sym is.2.0) tt)
 
 -- any line
-pub replied : (rest : List ℕ) (old new : Game) (line : Line) (reply : Reply_text) → FirstSays rest line → Replies old new line reply → IsOfRun old → IsOfHonestSites reply × IsOfRun new
-replied rest old new Silent reply says is of = (subst IsOfHonestSites (sym is.1) tt, same_game old new is.0 of)
-replied rest old new Bad reply says is of = (subst IsOfHonestSites (sym is.1) tt, same_game old new is.0 of)
-replied rest old new (Edition_line edition) reply says is of = set_edition old new edition reply is of
-replied rest old new (Site row) reply says is of = add_site old new row reply is of
-replied rest old new (Command_line command) reply says is of =
-    let done = carried_out rest is.before is.after command reply says is.done (world_of old is.before is.stands of) in
+pub replied : (old new : Game) (line : Line) (reply : Reply_text) → NoGot line → Replies old new line reply → IsOfRun old → IsOfHonestSites reply × IsOfRun new
+replied old new Silent reply says is of = (subst IsOfHonestSites (sym is.1) tt, same_game old new is.0 of)
+replied old new Bad reply says is of = (subst IsOfHonestSites (sym is.1) tt, same_game old new is.0 of)
+replied old new (Edition_line edition) reply says is of = set_edition old new edition reply is of
+replied old new (Site row) reply says is of = add_site old new row reply is of
+replied old new (Command_line command) reply says is of =
+    let done = carried_out is.before is.after command reply says is.done (world_of old is.before is.stands of) in
     (done.0, subst IsOfRun (sym is.kept) done.1)
-
--- so the world of every game is at the end of a run
-pub of_run : (bytes rest text : List ℕ) (game : Game) → Plays bytes rest text game → IsOfRun game
-of_run bytes _ _ _ (begin game new) = subst IsOfRun (sym new) tt
-of_run bytes _ _ _ (answer rest text old game line reply plays some says replies honest of) = of

@@ -12,8 +12,8 @@ use Rattle.cmh_frames.specs.declared.edition.Edition.TheVariants.{One}
 use Rattle.cmh_script.specs.Device.{Tells}
 use Rattle.cmh_files.specs.Faults.{status_of, of_line}
 use Rattle.cmh_script.specs.Lines.{IsNextLine, IsEndless, IsLineFault}
-use Rattle.cmh_play.proofs.PlayedLines.{replied, of_run}
-use Rattle.cmh_play.specs.Play.{Plays, begin, answer, IsNewGame, FirstSays, IsSaidBy, Replies, Answered, IsAnswerFault, IsPlayFault, status_after}
+use Rattle.cmh_play.proofs.PlayedLines.{replied, said_no_got}
+use Rattle.cmh_play.specs.Play.{Plays, begin, answer, IsNewGame, FirstSays, IsSaidBy, Replies, Answered, IsAnswerFault, IsOfRun, IsPlayFault, status_after}
 use Rattle.cmh_play.specs.Replies.{reply_text}
 use Rattle.cmh_script.specs.Script.{Says}
 use Rattle.cmh_script.specs.declared.device.WriteFault.{WriteFault}
@@ -23,8 +23,7 @@ use Rattle.cmh_script.specs.declared.lines.LineFault.{LineFault}
 use Rattle.cmh_script.specs.declared.lines.LineFault.TheVariants.{Input as NoInput, Memory as NoSpace}
 use Rattle.cmh_script.specs.declared.lines.NextLine.{NextLine}
 use Rattle.cmh_script.specs.declared.lines.NextLine.TheVariants.{Line as Read, TooLong, End}
-use Rattle.cmh_play.specs.declared.play.Game.{Game}
-use Rattle.cmh_play.specs.declared.play.Game.TheVariants.{Named}
+use Rattle.cmh_play.specs.Games.{Game, Named}
 use Rattle.cmh_play.specs.declared.reply.Reply.{Reply}
 use Rattle.cmh_script.specs.declared.script.Line.{Line}
 use Rattle.cmh_script.specs.declared.script.Line.TheVariants.{Bad}
@@ -136,12 +135,12 @@ module _ (start now old out : Option (List ℕ)) (game : Game) (n : ℕ) (so_far
   -- one line more
   pub played_more : (after wrote : Option (List ℕ)) (next : NextLine) (said : Line) (reply : Reply) (later : Game)
       → IfSome now (λ bytes. IsNextLine bytes next) → IfSome now (λ bytes. after ≡ Some (drop_through 10 bytes)) → IsSaidBy next said → next ≢ End
-      → Replies game later said reply → Appends out wrote (reply_text reply) → HasPlayed start after old wrote later (n + 1)
-  played_more after wrote next said reply later is left says more replies tells = λ bytes e.
+      → Replies game later said reply → IsOfRun game → Appends out wrote (reply_text reply) → HasPlayed start after old wrote later (n + 1)
+  played_more after wrote next said reply later is left says more replies of tells = λ bytes e.
       let s = so_far bytes e in
       let first = first_says s.rest next said (at_some now (λ bytes. IsNextLine bytes next) s.rest s.now_is is) says more in
       let shorter = length-drop_through 10 s.rest first.0 in
-      let follows = replied s.rest game later said reply first.1 replies (of_run bytes s.rest s.text game s.plays) in
+      let follows = replied game later said reply (said_no_got next said says) replies of in
       let counted = s.counted in
       record {
         rest = drop_through 10 s.rest;

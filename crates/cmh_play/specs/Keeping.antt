@@ -2,12 +2,12 @@
 use Rattle.std.specs.Prelude.{◌≡◌, ℕ, Bool, ◌⊎◌, List, [], Option, ⊤}
 use Rattle.std.specs.Io.KnownBytes.{Appends}
 use Rattle.cmh_journal.specs.Journal.{Journal}
-use Rattle.cmh_playground.specs.Playground.{Playground}
+use Rattle.cmh_playground.specs.World.{World}
 use Rattle.cmh_script.specs.declared.lines.NextLine.{NextLine}
 use Rattle.cmh_files.specs.declared.faults.Fault.{Fault}
 use Rattle.cmh_files.specs.declared.faults.Fault.TheVariants.{OutFile, Memory}
 use Rattle.cmh_play.specs.Play.{Answered, AnswersLine, IsAnswerFault, IsPlayFault, IsWorldOf, Plays}
-use Rattle.cmh_play.specs.declared.play.Game.{Game}
+use Rattle.cmh_play.specs.Games.{Game}
 use Rattle.cmh_play.specs.declared.reply.Reply.{Reply}
 use Rattle.cmh_play.specs.declared.reply.Reply.TheVariants.{Report}
 
@@ -19,7 +19,7 @@ IsUnkept fault = ⊥
 
 -- the journals of the game's world were kept; of a draft those of its sites, which are empty
 pub record KeepsWorld {K : Type 0} (Keeps : K → List Journal → K → Type 0) (game : Game) (old new : K) : Type 0 where
-  pub world : Playground
+  pub world : World
   pub stands : IsWorldOf game world
   pub kept : Keeps old world.journals new
 

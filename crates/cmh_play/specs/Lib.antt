@@ -1,3 +1,5 @@
+pub mod Games
 pub mod Keeping
 pub mod Play
 pub mod Replies
+pub mod Showing

@@ -12,7 +12,7 @@ use Rattle.cmh_audit.specs.Verdicts.{IsAccepted, IsVerdictOn}
 use Rattle.cmh_script.specs.Device.{Tells}
 use Rattle.cmh_playground.specs.Draft.{Draft}
 use Rattle.cmh_script.specs.Lines.{IsEndless}
-use Rattle.cmh_playground.specs.Playground.{Playground, entries_at, link_at, IsStepOf, IsDelivery, IsSeverance}
+use Rattle.cmh_playground.specs.World.{World, entries_at, link_at, IsStepOf, IsDelivery, IsSeverance}
 use Rattle.cmh_playground.specs.Runs.{IsPlayed, IsWantOfRoom}
 use Rattle.cmh_playground.specs.declared.playground.Delivery.TheVariants.{Refused as DeliveryRefused}
 use Rattle.cmh_script.specs.Script.{Says}
@@ -21,8 +21,7 @@ use Rattle.cmh_files.specs.declared.faults.Fault.{Fault}
 use Rattle.cmh_files.specs.declared.faults.Fault.TheVariants.{Input, Output, Memory}
 use Rattle.cmh_script.specs.declared.lines.NextLine.{NextLine}
 use Rattle.cmh_script.specs.declared.lines.NextLine.TheVariants.{Line as Read, TooLong, End}
-use Rattle.cmh_play.specs.declared.play.Game.{Game}
-use Rattle.cmh_play.specs.declared.play.Game.TheVariants.{Named, Played}
+use Rattle.cmh_play.specs.Games.{Game, Named, Played}
 use Rattle.cmh_play.specs.declared.reply.Reply.{Reply}
 use Rattle.cmh_play.specs.declared.reply.Reply.TheVariants.{Silent as NoReply, Ok, BadLine, Late, Topology, Step as StepReply, Delivery as DeliveryReply, Severance as SeveranceReply, Report as ReportReply}
 use Rattle.cmh_script.specs.declared.script.Command.{Command}
@@ -33,18 +32,18 @@ use Rattle.cmh_script.specs.declared.script.Line.TheVariants.{Silent, Bad, Editi
 -- ---- what a line does
 
 -- a world in which nothing has happened yet, of the sites of a draft
-pub record IsNewWorld (draft : Draft) (world : Playground) : Type 0 where
+pub record IsNewWorld (draft : Draft) (world : World) : Type 0 where
   pub topology : IsTopologyOf draft.edition draft.rows world.topology
   pub journals : (s : ℕ) → entries_at world s ≡ []
   pub links : (a b : ℕ) → link_at world a b ≡ Some []
 
 -- the world of a game is this one; that of a draft is new
-abbrev pub IsWorldOf : Game → Playground → Type 0
+abbrev pub IsWorldOf : Game → World → Type 0
 IsWorldOf (Named draft) world = IsNewWorld draft world
 IsWorldOf (Played played) world = played ≡ world
 
 -- a command, what it does to the world, and what is written for it
-abbrev pub CarriesOut : Playground → Playground → Command → Reply → Type 0
+abbrev pub CarriesOut : World → World → Command → Reply → Type 0
 CarriesOut old new (Act process event) (StepReply step) = IsStepOf old new process event step
 CarriesOut old new (Deliver from to) (DeliveryReply delivery) = IsDelivery old new from to delivery
 CarriesOut old new (Cut from to) (SeveranceReply severance) = IsSeverance old new from to severance
@@ -54,8 +53,8 @@ CarriesOut old new command reply = ⊥
 
 -- the first command makes the world of the draft
 pub record Commands (old new : Game) (command : Command) (reply : Reply) : Type 0 where
-  pub before : Playground
-  pub after : Playground
+  pub before : World
+  pub after : World
   pub stands : IsWorldOf old before
   pub done : CarriesOut before after command reply
   pub kept : new ≡ Played after

@@ -1,12 +1,15 @@
 //! The command `play`: all sites of a world in memory, driven by a script.
 
-ghost use Rattle.std.specs.Prelude.{◌≡◌, ◌≢◌, ◌⊎◌, true, false, IfOk, IfErr, IfSome, OnOk, OnErr, Some};
+ghost use Rattle.std.specs.Prelude.{◌≡◌, ◌≢◌, ◌⊎◌, Bool, true, false, IfOk, IfErr, IfSome, OnOk, OnErr, Some};
 ghost use Rattle.std.specs.Io.KnownBytes.{Keeps};
 ghost use Rattle.cmh_files.specs.Faults.{NamesFault};
+ghost use Rattle.cmh_play.specs.Games as games;
 ghost use Rattle.cmh_play.specs.Keeping.{AnsweredAndKept, AnswersAndKeeps, IsKeptPlayFault, IsUnanswered, KeepsAt, KeepsWorld, PlayedToEnd};
-ghost use Rattle.cmh_play.specs.Play.{AddsSite, Answered, AnswersLine, CarriesOut, Commands, IsAnswerFault, IsNewGame, IsPlayFault, IsSaidBy, Replies, SetsEdition, status_after};
+ghost use Rattle.cmh_play.specs.Play.{AddsSite, Answered, CarriesOut, Commands, IsPlayFault, IsSaidBy, Replies, SetsEdition, status_after};
+ghost use Rattle.cmh_play.specs.Showing.{HasWorld, IsNewHeld, IsShown, LeadsOn, LeadsPlayed, ShowsSome};
 ghost use Rattle.cmh_files.specs.Status.{IsStatus};
 
+use crate::answer::write_reply;
 use crate::keeper::{Keeper, NoKeeper};
 use crate::reply::Reply;
 use cmh_files::Fault;
@@ -90,7 +93,7 @@ fn play<R: BufRead + Ahead, W: Write, K: Keeper>(
     let flushed = out.flush();
     played?;
     flushed?;
-    game.keep(alloc, keeper)
+    game.keep_wanted(alloc, keeper)
 }
 
 /// Reads and answers line after line.
@@ -101,11 +104,11 @@ fn answer_all<R: BufRead + Ahead, W: Write, K: Keeper>(
     out: &mut Output<W>,
     keeper: &mut K,
 ) -> Result<(), Fault>
-    requires { IsNewGame game.old }
+    requires { IsNewHeld game.old }
     ensures answers { IfSome (R.remaining input.old.inner) (λ bytes. Answered bytes (W.contents out.old.inner)
         (W.contents out.new.inner) out.new.has_failed (status_after result)) }
-    ensures all { OnOk result (IfSome (R.remaining input.old.inner) (λ bytes. PlayedToEnd bytes
-        (W.contents out.old.inner) (W.contents out.new.inner) game.new)) }
+    ensures all { OnOk result (ShowsSome K.wants game.new (λ shown. IfSome (R.remaining input.old.inner)
+        (λ bytes. PlayedToEnd bytes (W.contents out.old.inner) (W.contents out.new.inner) shown))) }
     ensures fault { IfErr result (IsKeptPlayFault K.fails (R.remaining input.old.inner) input.new.has_failed
         out.new.has_failed) }
 {
@@ -131,6 +134,7 @@ fn flush_awaited<W: Write>(out: &mut Output<W>, has_line: bool) -> Result<(), Wr
 }
 
 /// What a line says; one that is too long is a bad one.
+#[inline(always)]
 fn said_by(alloc: Global, next: NextLine<'_>) -> Result<Line, AllocError>
     ensures { IfOk result (IsSaidBy next.entry) }
 {
@@ -149,22 +153,45 @@ enum Game {
 
 impl Game {
     fn new(alloc: Global) -> Result<Game, AllocError>
-        ensures { IfOk result IsNewGame }
+        ensures { IfOk result IsNewHeld }
     {
         Ok(Game::Named(Draft::new(alloc)?))
+    }
+
+    /// Keeps the journals of the world, where they are wanted.
+    fn keep_wanted<K: Keeper>(&self, alloc: Global, keeper: &mut K) -> Result<(), Fault>
+        ensures kept { OnOk result ((game : games.Game) → IsShown K.wants game self.now
+            → KeepsWorld K.keeps game keeper.old keeper.new) }
+        ensures fault { IfErr result (λ fault. (fault ≡ Fault.Memory) ⊎ K.fails fault) }
+    {
+        if !keeper.wants_journals() {
+            self.world_law();
+            return Ok(());
+        }
+        self.keep(alloc, keeper)
+    }
+
+    /// Each game has a world, which is new while it is named.
+    fn world_law(&self)
+        ensures { (keeps : Bool) (game : games.Game) → IsShown keeps game self.now → HasWorld game }
+    {
+        if let Game::Named(draft) = self {
+            let _ = draft.topology();
+        }
     }
 
     /// Keeps the journals of the world; of a draft those of its sites, which are empty.
     #[cold]
     #[inline(never)]
     fn keep<K: Keeper>(&self, alloc: Global, keeper: &mut K) -> Result<(), Fault>
-        ensures kept { OnOk result (KeepsWorld K.keeps self.now keeper.old keeper.new) }
+        ensures kept { OnOk result ((game : games.Game) → IsShown true game self.now
+            → KeepsWorld K.keeps game keeper.old keeper.new) }
         ensures fault { IfErr result (λ fault. (fault ≡ Fault.Memory) ⊎ K.fails fault) }
     {
         match self {
             Game::Played(world) => keeper.keep(alloc, world.journals()),
             Game::Named(draft) => {
-                let world = Playground::new(alloc, draft.topology())?;
+                let world = Playground::new(alloc, draft.topology(), true)?;
                 keeper.keep(alloc, world.journals())
             }
         }
@@ -172,11 +199,12 @@ impl Game {
 
     /// Keeps the journals where the reply is a report.
     fn keep_for<K: Keeper>(&self, alloc: Global, reply: &Reply, keeper: &mut K) -> Result<(), Fault>
-        ensures kept { OnOk result (KeepsAt K.keeps reply.now self.now keeper.old keeper.new) }
+        ensures kept { OnOk result ((game : games.Game) → IsShown K.wants game self.now
+            → KeepsAt K.keeps reply.now game keeper.old keeper.new) }
         ensures fault { IfErr result (λ fault. (fault ≡ Fault.Memory) ⊎ K.fails fault) }
     {
         match reply {
-            Reply::Report(_, _) => self.keep(alloc, keeper),
+            Reply::Report(_, _) => self.keep_wanted(alloc, keeper),
             _ => Ok(()),
         }
     }
@@ -191,36 +219,38 @@ impl Game {
         out: &mut Output<W>,
         keeper: &mut K,
     ) -> Result<(), Fault>
-        ensures answers { OnOk result (AnswersAndKeeps K.keeps self.old self.new next.entry (W.contents out.old.inner)
-            (W.contents out.new.inner) keeper.old keeper.new) }
+        ensures answers { OnOk result (LeadsOn K.wants (λ old new. AnswersAndKeeps K.keeps old new next.entry
+            (W.contents out.old.inner) (W.contents out.new.inner) keeper.old keeper.new) self.old self.new) }
         ensures fault { IfErr result (IsUnanswered K.fails (W.contents out.old.inner)
             (W.contents out.new.inner) out.new.has_failed) }
     {
         let said = said_by(alloc, next)?;
-        let reply = self.answer(alloc, said)?;
+        let reply = self.answer(alloc, said, keeper.wants_journals())?;
         self.keep_for(alloc, &reply, keeper)?;
-        out.write_text(&reply)?;
+        write_reply(out, &reply)?;
         flush_awaited(out, has_line)?;
         Ok(())
     }
 
     /// What a line does, and its reply. What is done seldom is never inlined: each line would pay for its large values.
-    fn answer(&mut self, alloc: Global, line: Line) -> Result<Reply, AllocError>
-        ensures { IfOk result (Replies self.old self.new line) }
+    #[inline(always)]
+    fn answer(&mut self, alloc: Global, line: Line, keeps: bool) -> Result<Reply, AllocError>
+        ensures { IfOk result (λ reply. LeadsOn keeps (λ old new. Replies old new line reply) self.old self.new) }
     {
         match line {
             Line::Silent => Ok(Reply::Silent),
             Line::Bad => Ok(Reply::BadLine),
             Line::Edition(edition) => self.set_edition(edition),
             Line::Site(row) => self.add(row),
-            Line::Command(command) => self.command(alloc, command),
+            Line::Command(command) => self.command(alloc, command, keeps),
         }
     }
 
     #[cold]
     #[inline(never)]
     fn set_edition(&mut self, edition: Edition) -> Result<Reply, AllocError>
-        ensures { IfOk result (SetsEdition self.old self.new edition) }
+        ensures { IfOk result (λ reply. (keeps : Bool)
+            → LeadsOn keeps (λ old new. SetsEdition old new edition reply) self.old self.new) }
     {
         match self {
             Game::Named(draft) if draft.is_empty() => {
@@ -234,7 +264,8 @@ impl Game {
     #[cold]
     #[inline(never)]
     fn add(&mut self, row: SiteRow) -> Result<Reply, AllocError>
-        ensures { IfOk result (AddsSite self.old self.new row) }
+        ensures { IfOk result (λ reply. (keeps : Bool)
+            → LeadsOn keeps (λ old new. AddsSite old new row reply) self.old self.new) }
     {
         match self {
             Game::Named(draft) => match draft.add(row)? {
@@ -245,25 +276,31 @@ impl Game {
         }
     }
 
-    fn command(&mut self, alloc: Global, command: Command) -> Result<Reply, AllocError>
-        ensures { IfOk result (Commands self.old self.new command) }
+    #[inline(always)]
+    fn command(&mut self, alloc: Global, command: Command, keeps: bool) -> Result<Reply, AllocError>
+        ensures { IfOk result (λ reply. LeadsOn keeps (λ old new. Commands old new command reply) self.old self.new) }
     {
         match self {
             Game::Played(world) => carry_out(alloc, world, command),
-            Game::Named(_) => self.first_command(alloc, command),
+            Game::Named(_) => self.first_command(alloc, command, keeps),
         }
     }
 
     /// The first command closes the draft. It stands apart from the others since a new world is large.
     #[cold]
     #[inline(never)]
-    fn first_command(&mut self, alloc: Global, command: Command) -> Result<Reply, AllocError>
-        ensures { IfOk result (Commands self.old self.new command) }
+    fn first_command(
+        &mut self,
+        alloc: Global,
+        command: Command,
+        keeps: bool,
+    ) -> Result<Reply, AllocError>
+        ensures { IfOk result (λ reply. LeadsOn keeps (λ old new. Commands old new command reply) self.old self.new) }
     {
         match self {
             Game::Played(world) => carry_out(alloc, world, command),
             Game::Named(draft) => {
-                let mut world = Playground::new(alloc, draft.topology())?;
+                let mut world = Playground::new(alloc, draft.topology(), keeps)?;
                 let reply = carry_out(alloc, &mut world, command)?;
                 *self = Game::Played(world);
                 Ok(reply)
@@ -276,7 +313,7 @@ impl Game {
 /// copied from place to place.
 #[inline(always)]
 fn carry_out(alloc: Global, world: &mut Playground, command: Command) -> Result<Reply, AllocError>
-    ensures { IfOk result (CarriesOut world.old world.new command) }
+    ensures { IfOk result (λ reply. LeadsPlayed (λ old new. CarriesOut old new command reply) world.old world.new) }
 {
     match command {
         Command::Act { process, event } => act(world, process, event),
@@ -288,14 +325,16 @@ fn carry_out(alloc: Global, world: &mut Playground, command: Command) -> Result<
 
 #[inline(never)]
 fn act(world: &mut Playground, process: ProcId, event: Event) -> Result<Reply, AllocError>
-    ensures { IfOk result (CarriesOut world.old world.new (Command.Act process event)) }
+    ensures { IfOk result (λ reply. LeadsPlayed (λ old new. CarriesOut old new (Command.Act process event) reply)
+        world.old world.new) }
 {
     Ok(Reply::Step(world.act(process, event)?))
 }
 
 #[inline(never)]
 fn deliver(world: &mut Playground, from: SiteId, to: SiteId) -> Result<Reply, AllocError>
-    ensures { IfOk result (CarriesOut world.old world.new (Command.Deliver from to)) }
+    ensures { IfOk result (λ reply. LeadsPlayed (λ old new. CarriesOut old new (Command.Deliver from to) reply)
+        world.old world.new) }
 {
     Ok(Reply::Delivery(world.deliver(from, to)?))
 }
@@ -304,7 +343,8 @@ fn deliver(world: &mut Playground, from: SiteId, to: SiteId) -> Result<Reply, Al
 #[cold]
 #[inline(never)]
 fn report(alloc: Global, world: &Playground) -> Result<Reply, AllocError>
-    ensures { IfOk result (CarriesOut world.now world.now Command.Report) }
+    ensures { IfOk result (λ reply. LeadsPlayed (λ old new. CarriesOut old new Command.Report reply)
+        world.now world.now) }
 {
     let Ok(verdict) = world.audit(alloc) else {
         return Err(AllocError);

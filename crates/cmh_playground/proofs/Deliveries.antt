@@ -9,14 +9,14 @@ use Rattle.cmh_model.specs.Journals.{frames_to}
 use Rattle.cmh_audit.specs.Journals.{journal_of}
 use Rattle.cmh_playground.specs.declared.site.Done.{Done}
 use Rattle.cmh_playground.specs.Links.{link_of, with_all, goes, without_first, ChangesLink}
-use Rattle.cmh_playground.specs.Playground.{Playground, is_link, WorldSteps, Delivers}
+use Rattle.cmh_playground.specs.World.{World, is_link, WorldSteps, Delivers}
 
-pub ends_differ : (world : Playground) (a b : ℕ) → is_link world a b ≡ true → a ≢ b
+pub ends_differ : (world : World) (a b : ℕ) → is_link world a b ≡ true → a ≢ b
 ends_differ world a b link same =
     let no : false ≡ true = (λ i. not (sym (eq-eqb a b same) i) && (is_site world.topology a && is_site world.topology b)) ∙ link in
     true≢false (sym no)
 
-pub delivered : (old mid new : Playground) (a b : ℕ) (frame : Frame) (done : Done) → a ≢ b → WorldSteps old mid b (Got a frame) done → new.journals ≡ mid.journals → new.topology ≡ mid.topology
+pub delivered : (old mid new : World) (a b : ℕ) (frame : Frame) (done : Done) → a ≢ b → WorldSteps old mid b (Got a frame) done → new.journals ≡ mid.journals → new.topology ≡ mid.topology
     → ChangesLink mid.links new.links a b (without_first (link_of mid.links a b)) → Delivers old new a b frame done
 delivered old mid new a b frame done apart step journals topology changes =
     let here : link_of mid.links a b ≡ link_of old.links a b =

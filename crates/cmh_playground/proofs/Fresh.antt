@@ -1,50 +1,87 @@
 -- The sites of a new world.
-use Rattle.std.proofs.Common.{◌≡◌, ℕ, ◌==◌, Bool, true, false, List, [], ◌∷◌, ◌++◌, map, refl, sym, subst, ◌∙◌, arith}
+use Rattle.std.proofs.Common.{◌≡◌, ℕ, ◌+◌, ◌≤◌, ◌==◌, Bool, true, false, List, [], ◌∷◌, ◌++◌, length, map, take, get_or, ◌<◌, replicate, Some, refl, sym, ap, ◌∙◌, arith}
 use Rattle.std.specs.Prelude.{if◌then◌else◌}
-use Rattle.std.proofs.lemmas.List.{map_push}
-use Rattle.std.proofs.lemmas.List.Elements.{All-push}
-use Rattle.cmh_frames.specs.Topology.{Topology}
+use Rattle.std.specs.List.Sorted.{IsStrictlyIncreasing}
+use Rattle.std.proofs.lemmas.List.{map_push, take_all, take_more}
+use Rattle.std.proofs.lemmas.List.Elements.{All-map}
+use Rattle.cmh_frames.specs.declared.edition.Edition.{Edition}
+use Rattle.cmh_frames.specs.Topology.{Topology, sites_of}
 use Rattle.cmh_model.specs.declared.journal.Entry.{Entry}
-use Rattle.cmh_model.specs.Journals.{IsLawful, value}
-use Rattle.cmh_controller.specs.Controller.{Controller, new_controller}
-use Rattle.cmh_journal.specs.Journal.{Journal}
-use Rattle.cmh_audit.specs.Journals.{journal_of, AreAllLawful}
-use Rattle.cmh_playground.specs.Sites.{controller_of, AreOfEdition, ArePlayed}
+use Rattle.cmh_model.specs.Journals.{IsLawful}
+use Rattle.cmh_controller.specs.Controller.{new_controller}
+use Rattle.cmh_journal.specs.Journal.{Journal, entry_limit}
+use Rattle.cmh_audit.specs.Journals.{journal_of}
+use Rattle.cmh_audit.specs.Sums.{in_journals}
+use Rattle.cmh_audit.proofs.TotalLemmas.{totals_same}
+use Rattle.cmh_playground.specs.Books.{AreBlank, blank_journal}
+use Rattle.cmh_playground.specs.Held.{Held, ShowsNew, step_counts}
+use Rattle.cmh_playground.specs.Links.{link_of}
+use Rattle.cmh_playground.specs.Sites.{controller_of}
 
--- the sites of the list have a controller and a journal each, and none has taken a step
-pub record AreFresh (t : Topology) (cs : List Controller) (js : List Journal) (named : List ℕ) : Type 0 where
-  pub sites : map (λ (j : Journal). j.site) js ≡ named
-  pub edition : AreOfEdition t js
-  pub lawful : AreAllLawful t js
-  pub played : ArePlayed t cs js
-  pub no_entries : (s : ℕ) → journal_of js s ≡ []
+-- ---- blank journals
 
-pub fresh_none : (t : Topology) (cs : List Controller) (js : List Journal) → cs ≡ [] → js ≡ [] → AreFresh t cs js []
-fresh_none t cs js no_controllers no_journals =
-    subst (λ (xs : List Journal). AreFresh t cs xs []) (sym no_journals)
-    (record { sites = refl; edition = λ k d l. absurd (omega arith); lawful = λ k d l. absurd (omega arith); played = no_controllers; no_entries = λ s. refl })
+module _ (edition : Edition) where
+  blank_sites : (sites : List ℕ) → map (λ (j : Journal). j.site) (map (blank_journal edition) sites) ≡ sites
+  blank_sites [] = refl
+  blank_sites (s ∷ sites) = ap (λ ss. s ∷ ss) (blank_sites sites)
 
-nothing_more : (js : List Journal) (j : Journal) (s : ℕ) → j.entries ≡ [] → journal_of js s ≡ [] → journal_of (js ++ j ∷ []) s ≡ []
-nothing_more [] j s none before = one (j.site == s)
-  where
-    one : (t : Bool) → (if t then j.entries else []) ≡ []
-    one true = none
-    one false = refl
-nothing_more (x ∷ js) j s none before = more (x.site == s) (λ e. nothing_more js j s none e) before
-  where
-    more : (t : Bool) → (journal_of js s ≡ [] → journal_of (js ++ j ∷ []) s ≡ []) → (if t then x.entries else journal_of js s) ≡ [] → (if t then x.entries else journal_of (js ++ j ∷ []) s) ≡ []
-    more true rest e = e
-    more false rest e = rest e
+  blank_steps : (sites : List ℕ) → step_counts (map (blank_journal edition) sites) ≡ replicate (length sites) 0
+  blank_steps [] = refl
+  blank_steps (s ∷ sites) = ap (λ ns. 0 ∷ ns) (blank_steps sites)
 
-pub fresh_more : (t : Topology) (cs : List Controller) (js : List Journal) (named : List ℕ) (s : ℕ) (c : Controller) (j : Journal) → AreFresh t cs js named
-    → c ≡ new_controller t s → j.site ≡ s → j.edition ≡ t.edition → j.entries ≡ [] → AreFresh t (cs ++ c ∷ []) (js ++ j ∷ []) (named ++ s ∷ [])
-fresh_more t cs js named s c j before made site edition entries = record {
-  sites = map_push (λ (x : Journal). x.site) js j ∙ (λ i. before.sites i ++ site i ∷ []);
-  edition = All-push (λ (x : Journal). x.edition ≡ t.edition) js j before.edition edition;
-  lawful = All-push (λ (x : Journal). IsLawful t x.site x.entries) js j before.lawful (subst (λ (es : List Entry). IsLawful t j.site es) (sym entries) tt);
-  played = (λ i. before.played i ++ (made ∙ wrote) i ∷ []) ∙ sym (map_push (controller_of t) js j);
-  no_entries = λ q. nothing_more js j q entries (before.no_entries q);
-}
-  where
-    wrote : new_controller t s ≡ controller_of t j
-    wrote = λ i. record { topology = t; site = sym site i; state = value t (sym site i) (sym entries i) }
+  blank_entries : (sites : List ℕ) (q : ℕ) → journal_of (map (blank_journal edition) sites) q ≡ []
+  blank_entries [] q = refl
+  blank_entries (s ∷ sites) q = go (s == q) (blank_entries sites q)
+    where
+      go : (t : Bool) → journal_of (map (blank_journal edition) sites) q ≡ [] → (if t then [] else journal_of (map (blank_journal edition) sites) q) ≡ []
+      go true more = refl
+      go false more = more
+
+  blank_sum : (f : Entry → ℕ) (sites : List ℕ) → in_journals f (map (blank_journal edition) sites) ≡ 0
+  blank_sum f [] = refl
+  blank_sum f (s ∷ sites) = let h = blank_sum f sites in omega (arith, h)
+
+wrote_blank : (t : Topology) (sites : List ℕ) → map (new_controller t) sites ≡ map (controller_of t) (map (blank_journal t.edition) sites)
+wrote_blank t [] = refl
+wrote_blank t (s ∷ sites) = ap (λ cs. new_controller t s ∷ cs) (wrote_blank t sites)
+
+-- ---- lists that are made site by site
+
+pub blank_is : (edition : Edition) (s : ℕ) (j : Journal) → j.site ≡ s → j.edition ≡ edition → j.entries ≡ [] → j.reserved ≡ 0 → j ≡ blank_journal edition s
+blank_is edition s j site of none no_room = λ i. record { site = site i; edition = of i; entries = none i; reserved = no_room i }
+
+pub mapped_more : {X : Type 0} (f : ℕ → X) (made : List X) (sites : List ℕ) (k s : ℕ) (x : X) → k < length sites → s ≡ get_or sites k s → made ≡ map f (take k sites) → x ≡ f s → made ++ x ∷ [] ≡ map f (take (k + 1) sites)
+mapped_more {X = X} f made sites k s x l here so_far is =
+    (λ i. so_far i ++ is i ∷ []) ∙ sym (map_push f (take k sites) s)
+    ∙ ap (map f) (ap (λ z. take k sites ++ z ∷ []) here ∙ sym (take_more sites k s l))
+
+pub mapped_all : {X : Type 0} (f : ℕ → X) (made : List X) (sites all : List ℕ) (k : ℕ) → length sites ≤ k → sites ≡ all → made ≡ map f (take k sites) → made ≡ map f all
+mapped_all f made sites all k end same so_far = so_far ∙ ap (map f) (take_all k sites end ∙ same)
+
+-- ---- the world
+
+pub shows_new : (t : Topology) (keeps : Bool) (held : Held) → held.topology ≡ t → held.controllers ≡ map (new_controller t) (sites_of t) → IsStrictlyIncreasing (sites_of t)
+    → AreBlank t keeps held.books → ((a b : ℕ) → link_of held.links a b ≡ Some []) → ShowsNew t keeps held
+shows_new t keeps held same controllers ascending blank links =
+    let journals : List Journal = map (blank_journal t.edition) (sites_of t) in
+    record {
+      world = record { topology = t; journals = journals; links = held.links };
+      shows = record {
+        topology = same;
+        links = refl;
+        standing = record {
+          ascending = ascending;
+          placed = blank_sites t.edition (sites_of t);
+          edition = All-map (λ (j : Journal). j.edition ≡ t.edition) (blank_journal t.edition) (sites_of t) (λ k d l. refl);
+          lawful = All-map (λ (j : Journal). IsLawful t j.site j.entries) (blank_journal t.edition) (sites_of t) (λ k d l. tt);
+          played = controllers ∙ wrote_blank t (sites_of t);
+        };
+        limit = All-map (λ (j : Journal). length j.entries ≤ entry_limit) (blank_journal t.edition) (sites_of t) (λ k d l. omega arith);
+        steps = blank.no_steps ∙ sym (blank_steps t.edition (sites_of t));
+        totals = totals_same (λ f. in_journals f []) (λ f. in_journals f journals) held.books.totals (λ f. blank_sum t.edition f (sites_of t)) blank.no_totals;
+        journals = blank.no_entries;
+      };
+      topology = refl;
+      journals = λ s. blank_entries t.edition (sites_of t) s;
+      links = links;
+    }

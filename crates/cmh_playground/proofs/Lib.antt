@@ -1,10 +1,14 @@
 pub mod Deliveries
 pub mod Fresh
 pub mod Homes
+pub mod Leading
 pub mod LinkSteps
+pub mod Places
+pub mod PlayedRuns
+pub mod Readiness
 pub mod Seats
 pub mod Sendings
+pub mod Steps
 pub mod Takings
-pub mod Worlds
-pub mod PlayedRuns
-pub mod Places
+pub mod Writing
+pub mod Shown

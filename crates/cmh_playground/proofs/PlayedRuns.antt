@@ -32,7 +32,7 @@ use Rattle.cmh_playground.specs.declared.site.Refused.TheVariants.{Full, Rule}
 use Rattle.cmh_playground.specs.declared.site.Step.{Step}
 use Rattle.cmh_playground.specs.declared.site.Step.TheVariants.{Taken, Refused as StepRefused}
 use Rattle.cmh_playground.specs.Links.{link_of, link_after, goes, next_of, with_all, without_first}
-use Rattle.cmh_playground.specs.Playground.{Playground, entries_at, link_at, Moves, WorldSteps, Delivers, IsUntouched, IsWorldStep, IsStepOf, IsDelivery, IsSeverance}
+use Rattle.cmh_playground.specs.World.{World, entries_at, link_at, Moves, WorldSteps, Delivers, IsUntouched, IsWorldStep, IsStepOf, IsDelivery, IsSeverance}
 use Rattle.cmh_playground.specs.Runs.{IsRunOf, IsPlayed, IsWantOfRoom}
 
 -- the frames of a link, where it is not cut
@@ -74,7 +74,7 @@ first_under_way (Some (first ∷ frames)) frame old next holds =
 -- ---- the run
 
 -- a world in which nothing has happened
-pub nothing_played : (world : Playground) → ((s : ℕ) → entries_at world s ≡ []) → ((a b : ℕ) → link_at world a b ≡ Some []) → IsPlayed world
+pub nothing_played : (world : World) → ((s : ℕ) → entries_at world s ≡ []) → ((a b : ℕ) → link_at world a b ≡ Some []) → IsPlayed world
 nothing_played world journals links = (
   [],
   record {
@@ -85,7 +85,7 @@ nothing_played world journals links = (
 )
 
 -- nothing has changed
-pub untouched : (old new : Playground) → IsUntouched old new → IsPlayed old → IsPlayed new
+pub untouched : (old new : World) → IsUntouched old new → IsPlayed old → IsPlayed new
 untouched old new same (events, of) = (
   events,
   record {
@@ -95,7 +95,7 @@ untouched old new same (events, of) = (
   },
 )
 
-module _ (old new : Playground) (events : List WorldEvent) (of : IsRunOf old events) (s : ℕ) (event : Event) (sent : List (ℕ × Frame)) (declared : Option ℕ) (moves : Moves old new s event sent declared)
+module _ (old new : World) (events : List WorldEvent) (of : IsRunOf old events) (s : ℕ) (event : Event) (sent : List (ℕ × Frame)) (declared : Option ℕ) (moves : Moves old new s event sent declared)
     (next : (a : ℕ) → IsBeginningOf (frame_from a event) (under_way a s events)) where
   abbrev entry : WorldEvent
   entry = record { site = s; entry = record { event = event; sent = sent; declared = declared } }
@@ -137,7 +137,7 @@ module _ (old new : Playground) (events : List WorldEvent) (of : IsRunOf old eve
   )
 
 -- a step that is no delivery
-pub stepped : (old new : Playground) (s : ℕ) (event : Event) (done : Done) → is_delivery event ≡ false → WorldSteps old new s event done → IsPlayed old → IsPlayed new
+pub stepped : (old new : World) (s : ℕ) (event : Event) (done : Done) → is_delivery event ≡ false → WorldSteps old new s event done → IsPlayed old → IsPlayed new
 stepped old new s event done off step (events, of) =
     let next : (a : ℕ) → IsBeginningOf (frame_from a event) (under_way a s events) = λ a. (under_way a s events, ap (λ z. z ++ under_way a s events) (got_none a event off)) in
     let later : List WorldEvent = with_entry old new events of s event step.sent done.declared step.moves next in
@@ -145,7 +145,7 @@ stepped old new s event done off step (events, of) =
     subst (λ link. Carries link (under_way c d later)) (sym (step.links c d)) (sent_link old new events of s event step.sent done.declared step.moves next c d
     (ap (λ z. if s == d then z else []) (got_none c event off) ∙ if_same (s == d) [])))
 
-pub stepped_of : (old new : Playground) (process : ℕ) (event : Event) (step : Step) → is_delivery event ≡ false → IsStepOf old new process event step → IsPlayed old → IsPlayed new
+pub stepped_of : (old new : World) (process : ℕ) (event : Event) (step : Step) → is_delivery event ≡ false → IsStepOf old new process event step → IsPlayed old → IsPlayed new
 stepped_of old new process event step off is played = go (home old.topology process) is
   where
     at : (s : ℕ) (step : Step) → IsWorldStep old new s event step → IsPlayed new
@@ -157,7 +157,7 @@ stepped_of old new process event step off is played = go (home old.topology proc
     go (Some s) is = at s step is
 
 -- the oldest frame of a link is handed over
-handed_over : (old new : Playground) (a b : ℕ) (frame : Frame) (done : Done) → a ≢ b → next_of (link_at old a b) ≡ Some frame → Delivers old new a b frame done → IsPlayed old → IsPlayed new
+handed_over : (old new : World) (a b : ℕ) (frame : Frame) (done : Done) → a ≢ b → next_of (link_at old a b) ≡ Some frame → Delivers old new a b frame done → IsPlayed old → IsPlayed new
 handed_over old new a b frame done apart first delivers (events, of) =
     grown old new events of b (Got a frame) delivers.sent done.declared delivers.moves next (λ c d. elim (cases_Bool (goes a b (record { from = c; to = d }))) [
       | inl here ↦
@@ -192,7 +192,7 @@ handed_over old new a b frame done apart first delivers (events, of) =
         ∙ each_link old new events of b (Got a frame) delivers.sent done.declared delivers.moves next a b
         ∙ (λ i. (if eq-eqb b b refl i then (if eq-eqb a a refl i then frame ∷ [] else []) else []) ++ under_way a b (with_entry old new events of b (Got a frame) delivers.sent done.declared delivers.moves next)))
 
-pub delivered_on : (old new : Playground) (a b : ℕ) (delivery : Delivery) → IsDelivery old new a b delivery → IsPlayed old → IsPlayed new
+pub delivered_on : (old new : World) (a b : ℕ) (delivery : Delivery) → IsDelivery old new a b delivery → IsPlayed old → IsPlayed new
 delivered_on old new a b BadLink is played = untouched old new is.1 played
 delivered_on old new a b Closed is played = untouched old new is.2 played
 delivered_on old new a b Empty is played = untouched old new is.2 played
@@ -200,7 +200,7 @@ delivered_on old new a b (DeliveryRefused refused) is played = untouched old new
 delivered_on old new a b (Got_frame frame done) is played = handed_over old new a b frame done (ends_differ old a b is.0) is.1 is.2 played
 
 -- a link is cut
-pub cut_off : (old new : Playground) (a b : ℕ) (severance : Severance) → IsSeverance old new a b severance → IsPlayed old → IsPlayed new
+pub cut_off : (old new : World) (a b : ℕ) (severance : Severance) → IsSeverance old new a b severance → IsPlayed old → IsPlayed new
 cut_off old new a b NoLink is played = untouched old new is.1 played
 cut_off old new a b CutBefore is played = untouched old new is.2 played
 cut_off old new a b (Lost lost) is (events, of) = (
@@ -219,7 +219,7 @@ cut_off old new a b (Lost lost) is (events, of) = (
 -- ---- what is answered
 
 -- no frame is refused for what it says
-pub refused_for_room : (old new : Playground) (a b : ℕ) (refused : Refused) → IsDelivery old new a b (DeliveryRefused refused) → IsPlayed old → IsWantOfRoom refused
+pub refused_for_room : (old new : World) (a b : ℕ) (refused : Refused) → IsDelivery old new a b (DeliveryRefused refused) → IsPlayed old → IsWantOfRoom refused
 refused_for_room old new a b Full is played = tt
 refused_for_room old new a b (Rule refusal) is (events, of) = go refusal is.2.2.1.holds
   where
@@ -243,5 +243,5 @@ refused_for_room old new a b (Rule refusal) is (events, of) = go refusal is.2.2.
     go Memory h = tt
 
 -- and the journals are accepted
-pub accepted_report : (world : Playground) (verdict : Verdict) → IsVerdictOn world.topology world.journals verdict → IsPlayed world → IsAccepted verdict
+pub accepted_report : (world : World) (verdict : Verdict) → IsVerdictOn world.topology world.journals verdict → IsPlayed world → IsAccepted verdict
 accepted_report world verdict v (events, of) = v.accepted.1 (events, of.run, of.comes)

@@ -1,6 +1,8 @@
 pub mod Links
 pub mod Sites
 pub mod Draft
-pub mod Playground
+pub mod World
+pub mod Books
+pub mod Held
 pub mod Texts
 pub mod Runs

@@ -1,22 +1,16 @@
 -- The sites of a world that is played.
-use Rattle.std.specs.Prelude.{◌≡◌, ℕ, ◌<◌, List, [], ◌∷◌, ◌++◌, length, map, All}
+use Rattle.std.specs.Prelude.{◌≡◌, ℕ, ◌<◌, List, length, map, All}
 use Rattle.std.specs.List.Sorted.{IsStrictlyIncreasing}
-use Rattle.cmh_frames.specs.declared.frame.Frame.{Frame}
 use Rattle.cmh_frames.specs.Topology.{Topology, sites_of}
 use Rattle.cmh_model.specs.declared.event.Event.{Event}
 use Rattle.cmh_model.specs.declared.journal.Entry.{Entry}
 use Rattle.cmh_model.specs.Journals.{IsLawful, value}
-use Rattle.cmh_model.specs.Rules.{Accepts, Sends}
 use Rattle.cmh_controller.specs.Controller.{Controller}
 use Rattle.cmh_controller.specs.Refusals.{Refuses, number_of as refusal_number}
 use Rattle.cmh_journal.specs.Journal.{Journal, entry_limit}
 use Rattle.cmh_audit.specs.Journals.{AreAllLawful}
-use Rattle.cmh_playground.specs.Links.{Links, link_of, link_after}
-use Rattle.cmh_playground.specs.declared.site.Done.{Done}
 use Rattle.cmh_playground.specs.declared.site.Refused.{Refused}
 use Rattle.cmh_playground.specs.declared.site.Refused.TheVariants.{Full, Rule}
-use Rattle.cmh_playground.specs.declared.site.Step.{Step}
-use Rattle.cmh_playground.specs.declared.site.Step.TheVariants.{Taken, Refused as StepRefused}
 
 -- the controller that wrote a journal
 abbrev pub controller_of : Topology → Journal → Controller
@@ -49,29 +43,13 @@ pub record AreStanding (t : Topology) (cs : List Controller) (js : List Journal)
   pub lawful : AreAllLawful t js
   pub played : ArePlayed t cs js
 
--- ---- a step of one site
+-- ---- why a site takes no step
 
--- why a site with these entries takes no step: its journal is full, or else its controller refuses the event
+-- its journal is full, or else its controller refuses the event
 abbrev pub IsReasonOf : Topology → ℕ → List Entry → Event → Refused → Type 0
 IsReasonOf t s entries event Full = length entries ≡ entry_limit
 IsReasonOf t s entries event (Rule refusal) =
     (length entries < entry_limit) × Refuses t s (value t s entries) event refusal
-
--- the controller took the event by the rules, its journal has the entry behind the others, its frames are on the links
-pub record Takes (t : Topology) (s : ℕ) (before later : List Entry) (links after : Links) (event : Event)
-    (done : Done) : Type 0 where
-  pub sent : List (ℕ × Frame)
-  pub accepted : Accepts t s (value t s before) event
-  pub sends : Sends t s (value t s before) event sent done.declared
-  pub grows : later ≡ before ++ record { event = event; sent = sent; declared = done.declared } ∷ []
-  pub counted : done.sent ≡ length sent
-  pub links_are : (a b : ℕ) → link_of after a b ≡ link_after links s sent a b
-
--- what came of an event
-abbrev pub IsTaken : Topology → ℕ → List Entry → List Entry → Links → Links → Event → Step → Type 0
-IsTaken t s before later links after event (Taken done) = Takes t s before later links after event done
-IsTaken t s before later links after event (StepRefused refused) =
-    (later ≡ before) × (after ≡ links) × IsReasonOf t s before event refused
 
 -- the number that stands for it in texts
 abbrev pub number_of : Refused → ℕ

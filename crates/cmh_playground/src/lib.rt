@@ -1,6 +1,7 @@
-//! A world in memory: the controllers of all its sites with their journals, and the links between them.
+//! A world in memory: the controllers of all its sites, what their steps come to, and the links between them.
 #![tactic(auto)]
 
+mod books;
 mod draft;
 mod links;
 mod playground;
@@ -9,4 +10,4 @@ mod site;
 pub use crate::draft::Draft;
 pub use crate::links::Links;
 pub use crate::playground::{Delivery, Playground, Severance};
-pub use crate::site::{Done, Refused, Step, take};
+pub use crate::site::{Done, Refused, Step};

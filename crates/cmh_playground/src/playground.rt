@@ -1,45 +1,52 @@
-//! A world that is played: the controllers of all its sites with their journals, and the links between them.
+//! A world that is played: the controllers of all its sites, what their steps come to, and the links between them.
 
-ghost use Rattle.std.specs.Prelude.{◌≡◌, ◌<◌, ℕ, true, [], IfOk, OnOk, List, Some, length, HoldsAt};
-ghost use Rattle.cmh_journal.specs.Journal as journal;
-ghost use Rattle.cmh_frames.specs.Topology.{is_site};
-ghost use Rattle.cmh_playground.specs.Links.{link_of, link_after};
+ghost use Rattle.std.specs.Prelude.{◌≡◌, ◌<◌, ℕ, true, IfOk, Some, Bool, length, map, slice_index};
+ghost use Rattle.std.specs.List.Sorted.{IsStrictlyIncreasing};
+ghost use Rattle.cmh_frames.specs.Topology.{is_site, sites_of};
+ghost use Rattle.cmh_controller.specs.Controller.{new_controller};
 ghost use Rattle.cmh_playground.specs.Texts as texts;
 
+use crate::books::Books;
 use crate::links::Links;
 use crate::site::{Done, Refused, Step, take};
-use cmh_audit::{AuditMemory, Verdict, audit_lawful};
+use cmh_audit::{AuditMemory, Verdict};
 use cmh_controller::{Controller, Refusal};
 use cmh_frames::{Edition, Frame, ProcId, SiteId, Topology};
-use cmh_journal::Journal;
+use cmh_journal::{Journal, whole_law};
 use cmh_model::Event;
 use std::alloc::{AllocError, Global};
 use std::fmt;
 use std::marker::Model;
 
-/// A world that is played: of each site its controller and the journal of its steps, both in the order of the topology,
-/// and the links between the sites.
+/// A world that is played: the controllers of its sites, in the order of the topology, what is kept of their steps, and
+/// the links between the sites. Where no journals are wanted, a step takes no memory that lasts but for what waits.
 #[derive(Debug, Drop)]
 pub struct Playground {
     topology: Topology,
     controllers: Vec<Controller>,
-    journals: Vec<Journal>,
+    books: Books,
     links: Links,
 }
 
 impl Model for Playground {
-    ghost use Rattle.cmh_playground.specs.Playground as spec;
-    ghost use Rattle.cmh_playground.specs.Sites.{AreStanding};
+    ghost use Rattle.std.specs.FinSet as set;
+    ghost use Rattle.std.specs.Ordering.{nat_cmp};
+    ghost use Rattle.std.specs.Coded.{codes, coded_ℕ};
+    ghost use Rattle.cmh_model.specs.Relation.{relation_code};
+    ghost use Rattle.cmh_playground.specs.Held as spec;
 
-    ghost Value = { spec.Playground };
+    ghost Value = { spec.Held };
+
+    ghost coded = { Prim.hlevel (codes, relation_code, set.code {R = nat_cmp} coded_ℕ) };
 
     ghost view = { λ w. record {
       topology = w.topology;
-      journals = w.journals.items;
+      controllers = w.controllers.items;
+      books = w.books;
       links = w.links;
     } };
 
-    ghost invariant = { λ w. AreStanding w.topology w.controllers.items w.journals.items };
+    ghost invariant = { λ w. spec.AreReady w.topology w.controllers.items w.books };
 }
 
 /// What came of handing over the next frame of a link.
@@ -95,27 +102,22 @@ impl fmt::Display for Severance {
 
 impl Playground {
     ghost use Rattle.cmh_audit.specs.Verdicts.{IsVerdictOn};
-    ghost use Rattle.cmh_playground.specs.Playground.{is_link, link_at, entries_at, IsDelivery, IsSeverance, IsWorldStep, IsStepOf};
+    ghost use Rattle.cmh_playground.specs.Held.{Leads, Shows, ShowsNew};
+    ghost use Rattle.cmh_playground.specs.Runs.{IsPlayed};
+    ghost use Rattle.cmh_playground.specs.World.{World, joins, IsDelivery, IsSeverance, IsWorldStep, IsStepOf};
 
-    /// A world in which nothing has happened yet.
-    pub fn new(alloc: Global, topology: &Topology) -> Result<Playground, AllocError>
-        ensures topology { IfOk result (λ world. world.topology ≡ topology.now) }
-        ensures journals { IfOk result (λ world. (s : ℕ) → entries_at world s ≡ []) }
-        ensures links { IfOk result (λ world. (a b : ℕ) → link_at world a b ≡ Some []) }
+    /// A world in which nothing has happened yet. Where it keeps no journals, all is said of each world that it may be.
+    pub fn new(
+        alloc: Global,
+        topology: &Topology,
+        keeps_journals: bool,
+    ) -> Result<Playground, AllocError>
+        ensures { IfOk result (ShowsNew topology.now keeps_journals) }
     {
-        let mut controllers = Vec::new(alloc);
-        let mut journals = Vec::new(alloc);
-        for site in topology.sites() {
-            let Ok(controller) = Controller::new(alloc, topology, *site) else {
-                return Err(AllocError);
-            };
-            controllers.push(controller)?;
-            journals.push(Journal::new(alloc, topology.edition(), *site))?;
-        }
         Ok(Playground {
             topology: topology.copy(alloc)?,
-            controllers,
-            journals,
+            controllers: new_controllers(alloc, topology)?,
+            books: Books::new(alloc, topology, keeps_journals)?,
             links: Links::new(alloc),
         })
     }
@@ -126,17 +128,17 @@ impl Playground {
         self.topology.edition()
     }
 
-    /// The journals of all sites, in the order of the topology.
+    /// The journals of all sites, in the order of the topology, where they are kept.
     pub fn journals(&self) -> &[Journal]
-        ensures { result.now ≡ self.now.journals }
+        ensures { result.now ≡ self.now.books.journals }
     {
-        &self.journals
+        self.books.journals()
     }
 
     /// Gives an event to the controller of its process's home. Where memory runs out after the step, an error is
     /// answered, and nothing is said of the world from then on.
     pub fn act(&mut self, process: ProcId, event: Event) -> Result<Step, AllocError>
-        ensures { IfOk result (IsStepOf self.old self.new process event) }
+        ensures { IfOk result (λ step. Leads (λ old new. IsStepOf old new process event step) self.old self.new) }
     {
         match self.topology.home(process) {
             Some(site) => self.step(site, event),
@@ -146,7 +148,7 @@ impl Playground {
 
     /// Hands over the oldest frame of a link. Where the receiver refuses it, it stays there. An error is as in `act`.
     pub fn deliver(&mut self, from: SiteId, to: SiteId) -> Result<Delivery, AllocError>
-        ensures { IfOk result (IsDelivery self.old self.new from to) }
+        ensures { IfOk result (λ delivery. Leads (λ old new. IsDelivery old new from to delivery) self.old self.new) }
     {
         if !self.is_link(from, to) {
             return Ok(Delivery::BadLink);
@@ -168,7 +170,8 @@ impl Playground {
 
     /// Cuts a link: what is under way on it is lost, and so is what is sent on it later.
     pub fn cut(&mut self, from: SiteId, to: SiteId) -> Result<Severance, AllocError>
-        ensures { IfOk result (IsSeverance self.old self.new from to) }
+        ensures { IfOk result (λ severance. Leads (λ old new. IsSeverance old new from to severance)
+            self.old self.new) }
     {
         if !self.is_link(from, to) {
             return Ok(Severance::BadLink);
@@ -182,7 +185,7 @@ impl Playground {
     }
 
     fn is_link(&self, from: SiteId, to: SiteId) -> bool
-        ensures { result ≡ is_link self.now from to }
+        ensures { result ≡ joins self.now.topology from to }
     {
         from != to && self.topology.has_site(from) && self.topology.has_site(to)
     }
@@ -190,38 +193,71 @@ impl Playground {
     /// Gives an event to a site's controller; `take` says what comes of it.
     fn step(&mut self, site: SiteId, event: Event) -> Result<Step, AllocError>
         requires { is_site self.old.topology site ≡ true }
-        ensures { IfOk result (IsWorldStep self.old self.new site event) }
+        ensures { IfOk result (λ step. Leads (λ old new. IsWorldStep old new site event step) self.old self.new) }
     {
-        let place = self.place(site);
+        whole_law(&self.topology);
+        let place = place_of(&self.topology, site);
         take(
             &self.topology,
+            site,
+            place,
             &mut self.controllers[place],
-            &mut self.journals[place],
+            &mut self.books,
             &mut self.links,
             event,
         )
     }
 
-    /// Where the controller and the journal of a site stand.
-    fn place(&self, site: SiteId) -> usize
-        requires { is_site self.now.topology site ≡ true }
-        ensures within { result < length self.now.journals }
-        ensures site { HoldsAt (λ (j : journal.Journal). j.site ≡ site) self.now.journals result }
-    {
-        let Ok(place) = self.topology.sites().binary_search(&site) else {
-            // Each site of the topology has its journal here.
-            unreachable!()
-        };
-        place
-    }
-
-    /// Audits the journals as they stand: what the controllers wrote is lawful, so none is replayed. The only error is
-    /// want of memory.
+    /// The verdict on the journals, kept or not, of a world that was played from its beginning on: they come from its
+    /// run, so none is looked through. The only error is want of memory.
     pub fn audit(&self, alloc: Global) -> Result<Verdict, AuditMemory>
-        ensures { IfOk result (IsVerdictOn self.now.topology self.now.journals) }
+        ensures { IfOk result (λ verdict. (keeps : Bool) (world : World) → Shows keeps world self.now → IsPlayed world
+            → IsVerdictOn world.topology world.journals verdict) }
     {
-        audit_lawful(alloc, &self.topology, &self.journals)
+        self.books.verdict(alloc, &self.topology)
     }
+}
+
+/// Where a site stands in the topology.
+#[inline(always)]
+fn place_of(topology: &Topology, site: SiteId) -> usize
+    requires { is_site topology.now site ≡ true }
+    ensures within { result < length (sites_of topology.now) }
+    ensures site { slice_index (sites_of topology.now) result ≡ site }
+{
+    match topology.known_place(site) {
+        Some(place) => place,
+        None => searched_place(topology, site),
+    }
+}
+
+/// The same, by a search.
+#[cold]
+fn searched_place(topology: &Topology, site: SiteId) -> usize
+    requires { is_site topology.now site ≡ true }
+    ensures within { result < length (sites_of topology.now) }
+    ensures site { slice_index (sites_of topology.now) result ≡ site }
+{
+    let Ok(place) = topology.sites().binary_search(&site) else {
+        unreachable!()
+    };
+    place
+}
+
+/// The controllers of all sites, in the order of the topology, before their first steps.
+fn new_controllers(alloc: Global, topology: &Topology) -> Result<Vec<Controller>, AllocError>
+    ensures new { IfOk result (λ controllers. controllers.items
+        ≡ map (new_controller topology.now) (sites_of topology.now)) }
+    ensures ascending { IsStrictlyIncreasing (sites_of topology.now) }
+{
+    let mut controllers = Vec::new(alloc);
+    for site in topology.sites() {
+        let Ok(controller) = Controller::new(alloc, topology, *site) else {
+            return Err(AllocError);
+        };
+        controllers.push(controller)?;
+    }
+    Ok(controllers)
 }
 
 fn got(from: SiteId, frame: &Frame) -> Event

@@ -1,15 +1,17 @@
-//! A step of one site: its controller takes an event, its journal keeps the entry, and its frames go on the links.
+//! A step of one site: its controller takes an event, its frames go on the links, and the books have the entry.
 
-ghost use Rattle.std.specs.Prelude.{◌≡◌, ℕ, IfOk, OnOk, Some};
+ghost use Rattle.std.specs.Prelude.{◌≡◌, ◌<◌, ℕ, IfOk, OnOk, Some, length};
+ghost use Rattle.cmh_playground.specs.Held.{AreKept, IsReady, IsTaken};
 ghost use Rattle.cmh_playground.specs.Links.{link_of, link_after};
-ghost use Rattle.cmh_playground.specs.Sites.{IsStanding, IsTaken};
+ghost use Rattle.cmh_playground.specs.Sites.{AreOfEdition};
 ghost use Rattle.cmh_playground.specs.Texts as texts;
 
+use crate::books::Books;
 use crate::links::Links;
 use cmh_controller::{Controller, Refusal};
 use cmh_frames::{Frame, ProcId, SiteId, Topology};
-use cmh_journal::{Journal, JournalFault, whole_law};
-use cmh_model::{Entry, Event, Outcome};
+use cmh_journal::whole_law;
+use cmh_model::Event;
 use std::alloc::AllocError;
 use std::fmt;
 
@@ -38,7 +40,7 @@ impl fmt::Display for Done {
 pub enum Refused {
     /// The controller refused the event.
     Rule(Refusal),
-    /// The site's journal is full.
+    /// The site has made as many entries as a journal may hold.
     Full,
 }
 
@@ -83,26 +85,28 @@ impl fmt::Display for Step {
     }
 }
 
-/// Gives an event to a site's controller, keeps the entry in its journal, and puts what it sends on its links. A full
-/// journal comes before the controller's reasons to refuse. An error is want of memory: the journal holds what its
-/// controller did even then, but the links may lack frames.
-pub fn take(
+/// Gives an event to the controller of the site at this place, puts what it sends on the site's links, and the entry
+/// into the books. A full journal comes before the controller's reasons to refuse. An error is want of memory, after
+/// which the books and the links may lack what the controller did.
+pub(crate) fn take(
     topology: &Topology,
+    site: SiteId,
+    place: usize,
     controller: &mut Controller,
-    journal: &mut Journal,
+    books: &mut Books,
     links: &mut Links,
     event: Event,
 ) -> Result<Step, AllocError>
-    requires { IsStanding topology.now controller.old journal.old }
-    ensures standing { IsStanding topology.now controller.new journal.new }
-    ensures site { journal.new.site ≡ journal.old.site }
-    ensures step { IfOk result (IsTaken topology.now journal.old.site journal.old.entries journal.new.entries links.old
+    requires place { place < length books.old.steps }
+    requires ready { IsReady topology.now controller.old }
+    requires edition { AreOfEdition topology.now books.old.journals }
+    ensures ready { IsReady topology.now controller.new }
+    ensures kept { AreKept topology.now books.old books.new }
+    ensures step { IfOk result (IsTaken site controller.old controller.new place books.old books.new links.old
         links.new event) }
 {
-    match journal.reserve() {
-        Ok(()) => {}
-        Err(JournalFault::Full) => return Ok(Step::Refused(Refused::Full)),
-        Err(_) => return Err(AllocError),
+    if books.is_full(place) {
+        return Ok(Step::Refused(Refused::Full));
     }
     whole_law(topology);
     match controller.step(&event) {
@@ -111,22 +115,11 @@ pub fn take(
                 sent: outcome.sent.as_slice().len(),
                 declared: outcome.declared,
             };
-            let sending = send_all(links, journal.site(), outcome.sent.as_slice());
-            journal.push_reserved(entry_of(event, outcome));
-            sending?;
+            send_all(links, site, outcome.sent.as_slice())?;
+            books.add(place, event, outcome)?;
             Ok(Step::Taken(done))
         }
         Err(refusal) => Ok(Step::Refused(Refused::Rule(refusal))),
-    }
-}
-
-fn entry_of(event: Event, outcome: Outcome) -> Entry
-    ensures { result ≡ record { event = event; sent = outcome.sent; declared = outcome.declared } }
-{
-    Entry {
-        event,
-        sent: outcome.sent,
-        declared: outcome.declared,
     }
 }
 

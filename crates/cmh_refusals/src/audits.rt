@@ -5,8 +5,8 @@ use crate::making;
 use crate::sheet::Sheet;
 use cmh_audit::{AuditMemory, Report, Verdict, audit, check_set};
 use cmh_frames::{Edition, Topology};
-use cmh_journal::Journal;
 use cmh_site::{Output, run_audit};
+use cmh_stored::StoredJournal;
 use cmh_worlds::{AUDITS, RUNS, STARTING, World};
 use std::alloc::Global;
 
@@ -26,7 +26,8 @@ pub fn audits(alloc: Global) -> Result<(), Failure> {
 
 fn audit_world(alloc: Global, world: &World) -> Result<(), Failure> {
     let topology = making::topology(alloc, world)?;
-    let journals = making::journals(alloc, world)?;
+    let files = world.file_bytes(alloc)?;
+    let journals = making::stored_journals(alloc, &files)?;
     let verdict = audit_again(alloc, &topology, &journals)?;
     let text = text_of(alloc, world.edition, &verdict)?;
     expect(text.as_str() == world.lines, world.name)
@@ -35,7 +36,7 @@ fn audit_world(alloc: Global, world: &World) -> Result<(), Failure> {
 fn audit_again(
     alloc: Global,
     topology: &Topology,
-    journals: &[Journal],
+    journals: &[StoredJournal<'_>],
 ) -> Result<Verdict, Failure> {
     if check_set(topology, journals).is_err() {
         return Err(Failure::Wrong("these are not the journals of all sites"));

@@ -3,6 +3,7 @@
 use crate::failure::{BadNumber, Failure};
 use cmh_frames::{ProcId, SiteId, SiteRow, Topology};
 use cmh_journal::{Journal, read_journal};
+use cmh_stored::{StoredJournal, read_stored};
 use cmh_worlds::{File, World};
 use std::alloc::Global;
 
@@ -39,6 +40,19 @@ pub fn journals(alloc: Global, world: &World) -> Result<Vec<Journal>, Failure> {
     let mut journals = Vec::with_capacity(alloc, world.files.len())?;
     for file in world.files {
         journals.push(journal(alloc, file)?)?;
+    }
+    Ok(journals)
+}
+
+/// The journals of these files, whose entries stay there.
+pub fn stored_journals(
+    alloc: Global,
+    files: &[Vec<u8>],
+) -> Result<Vec<StoredJournal<'_>>, Failure> {
+    let mut journals = Vec::with_capacity(alloc, files.len())?;
+    for bytes in files {
+        let (journal, _) = read_stored(bytes)?;
+        journals.push(journal)?;
     }
     Ok(journals)
 }

@@ -6,6 +6,7 @@ use cmh_audit::{Report, Verdict, audit, check_set};
 use cmh_controller::{Controller, Event, Targets};
 use cmh_frames::{Edition, Frame, ProcId, Reply, SiteId, Topology};
 use cmh_journal::{Journal, MemSink, Sink, append, encode_header};
+use cmh_stored::StoredJournal;
 use cmh_worlds::{RUNS, World};
 use std::alloc::Global;
 
@@ -147,7 +148,8 @@ pub fn audits(alloc: Global, rounds: u32) -> Result<(), Failure> {
 
 fn audit_one(alloc: Global, world: &World, rounds: u32) -> Result<(), Failure> {
     let topology = making::topology(alloc, world)?;
-    let journals = making::journals(alloc, world)?;
+    let files = world.file_bytes(alloc)?;
+    let journals = making::stored_journals(alloc, &files)?;
     expect(is_set(&topology, &journals, rounds), "journals are missing")?;
     if check_set(&topology, &journals).is_err() {
         return Err(Failure::Wrong("journals are missing"));
@@ -158,7 +160,7 @@ fn audit_one(alloc: Global, world: &World, rounds: u32) -> Result<(), Failure> {
     }
 }
 
-fn is_set(topology: &Topology, journals: &[Journal], rounds: u32) -> bool {
+fn is_set(topology: &Topology, journals: &[StoredJournal<'_>], rounds: u32) -> bool {
     let mut holds = true;
     for _ in 0..rounds {
         holds = holds && check_set(topology, journals).is_ok();

@@ -1,11 +1,12 @@
 -- The waits that leave a site, collected process by process.
-use Rattle.std.proofs.Common.{inl, inr, zero, suc, ◌≡◌, ◌↔◌, ℕ, ◌+◌, ◌<◌, false, true, true≢false, List, [], ◌∷◌, ◌++◌, length, get_or, map, refl, sym, ap, ◌∙◌, subst, arith, Contains, Less, nat_cmp, not, ◌&&◌}
+use Rattle.std.proofs.Common.{inl, inr, zero, suc, ◌≡◌, ◌↔◌, ℕ, ◌+◌, ◌-◌, ◌<◌, ◌≤◌, false, true, true≢false, List, [], ◌∷◌, ◌++◌, length, get_or, map, refl, sym, ap, ◌∙◌, subst, arith, Contains, None, slice_get, Less, nat_cmp, not, ◌&&◌, ◌==◌, Bool}
 use Rattle.std.specs.List.{AllByRecursion}
 use Rattle.std.specs.List.Sorted.{IsStrictlySortedBy, IsStrictlyIncreasing}
 use Rattle.std.specs.Ordering.{ordering_then}
 use Rattle.std.specs.Cmp.{nat_cmp_is, nat_cmp_total, tied_itself}
-use Rattle.std.proofs.lemmas.Bool.{and_from}
+use Rattle.std.proofs.lemmas.Bool.{and_from, cases_Bool, cases_eq, cases_lt, eq-eqb, ne_eqb}
 use Rattle.std.proofs.lemmas.List.{map-append}
+use Rattle.std.proofs.lemmas.Option.{none-some, slice_get_cases}
 use Rattle.std.proofs.lemmas.List.Elements.{Contains-push, Contains-append_left, Contains-append_right, Contains-append_cases}
 use Rattle.cmh_model.proofs.Members.{no_member, increasing_tail}
 use Rattle.cmh_frames.specs.declared.frame.Frame.{Frame}
@@ -13,7 +14,7 @@ use Rattle.cmh_frames.specs.declared.frame.Frame.TheVariants.{Probe}
 use Rattle.cmh_model.specs.Relation.{Relation, pair_cmp, has, has_some}
 use Rattle.cmh_waits.specs.Held.{Held, is_member, IsMember}
 use Rattle.cmh_waits.specs.Rows.{is_set}
-use Rattle.cmh_dependents.specs.Marks.{IsMarked}
+use Rattle.cmh_dependents.specs.Marks.{AreLeaving, IsMarked}
 use Rattle.cmh_dependents.proofs.Marked.{AreMarkedBelow, none_below, skip_member, take_member, all_below}
 use Rattle.std.proofs.lemmas.Map.Keys.{sorted_from_strictly_increasing, below_from_sorted}
 use Rattle.cmh_rules.specs.Verdicts.{AreProbesOf, acts, probe_along}
@@ -129,9 +130,6 @@ pub probes_begin : (v : Held) (origin places : ℕ) → ProbesBelow v origin pla
 probes_begin v origin places = record { reached = []; marked = none_below v.members places; probes = none_yet v origin }
 
 module _ (v : Held) (origin places n : ℕ) (frames : List Frame) (so_far : ProbesBelow v origin places n frames) where
-  pub probes_skip : is_set places n ≡ false → ProbesBelow v origin places (n + 1) frames
-  probes_skip unmarked = record { reached = so_far.reached; marked = skip_member v.members places n so_far.reached unmarked so_far.marked; probes = so_far.probes }
-
   pub probes_on : (p : ℕ) (targets : List ℕ) → IsStrictlyIncreasing v.members → n < length v.members → get_or v.members n 0 ≡ p → is_set places n ≡ true
       → IsStrictlyIncreasing targets → ((k : ℕ) → Contains targets k ↔ ((has v.waits p k ≡ true) × (is_member v k ≡ false)))
       → ProbesBelow v origin places (n + 1) (frames ++ map (λ to. Probe (origin, p, to)) targets)
@@ -147,8 +145,112 @@ module _ (v : Held) (origin places n : ℕ) (frames : List Frame) (so_far : Prob
         probes = more_probes v so_far.reached p targets origin frames below ascending each so_far.probes;
       }
 
+  -- none of those up to a later place is reached
+  pub probes_skip_to : (m : ℕ) → n ≤ m → ((k : ℕ) → n ≤ k → k < m → is_set places k ≡ false) → ProbesBelow v origin places m frames
+  probes_skip_to m up none = subst (λ k. ProbesBelow v origin places k frames) (omega (arith, up)) (skip_by (m - n) none_there)
+    where
+      none_there : (k : ℕ) → k < m - n → is_set places (n + k) ≡ false
+      none_there k below = none (n + k) (omega arith) (omega (arith, up, below))
+
+      skip_by : (d : ℕ) → ((k : ℕ) → k < d → is_set places (n + k) ≡ false) → ProbesBelow v origin places (n + d) frames
+      skip_by zero unmarked = subst (λ k. ProbesBelow v origin places k frames) (omega arith) so_far
+      skip_by (suc d) unmarked =
+          let before = skip_by d (λ k below. unmarked k (omega (arith, below))) in
+          record {
+            reached = before.reached;
+            marked = subst (λ k. AreMarkedBelow v.members places k before.reached) (omega arith) (skip_member v.members places (n + d) before.reached (unmarked d (omega arith)) before.marked);
+            probes = before.probes;
+          }
+
   pub probes_end : n ≡ length v.members → AreProbesOf v origin (λ q. IsMarked v.members places q) frames
   probes_end end = probes_of v origin (λ q. Contains so_far.reached q) (λ q. IsMarked v.members places q) frames (all_below v.members places n so_far.reached end so_far.marked).all so_far.probes
+
+-- ---- the bits in turn
+
+-- What is left to look at are the places from some number on that have a 1; the probes from those below it are there.
+pub record ProbesWithout (v : Held) (origin places left : ℕ) (frames : List Frame) : Type 0 where
+  pub done : ℕ
+  pub probes : ProbesBelow v origin places done frames
+  pub within : done ≤ length v.members
+  pub none : (k : ℕ) → k < done → is_set left k ≡ false
+  pub later : (k : ℕ) → done ≤ k → k < length v.members → is_set left k ≡ is_set places k
+
+pub without_none : (v : Held) (origin places : ℕ) → ProbesWithout v origin places places []
+without_none v origin places = record {
+  done = 0;
+  probes = probes_begin v origin places;
+  within = omega arith;
+  none = λ k below. absurd (omega arith);
+  later = λ k from below. refl;
+}
+
+module _ (v : Held) (origin places left : ℕ) (frames : List Frame) (so_far : ProbesWithout v origin places left frames) where
+  -- the probes from those below a place that are reached, where nothing below it is left
+  pub probes_up_to : (place : ℕ) → so_far.done ≤ place → place ≤ length v.members → ((k : ℕ) → k < place → is_set left k ≡ false) → ProbesBelow v origin places place frames
+  probes_up_to place up within least = probes_skip_to v origin places so_far.done frames so_far.probes place up
+      (λ k from below. sym (so_far.later k from (omega (arith, below, within))) ∙ least k below)
+
+  -- nothing is left among the members
+  pub without_end : ((k : ℕ) → k < length v.members → is_set left k ≡ false) → AreProbesOf v origin (λ q. IsMarked v.members places q) frames
+  without_end least = probes_end v origin places (length v.members) frames (probes_up_to (length v.members) so_far.within (omega arith) least) refl
+
+  module _ (place less : ℕ) (set : is_set left place ≡ true) (least : (k : ℕ) → k < place → is_set left k ≡ false)
+      (less_is : (k : ℕ) → is_set less k ≡ (not (k == place) && is_set left k)) where
+    none_of_less : (k : ℕ) → k < place + 1 → is_set less k ≡ false
+    none_of_less k below = elim (cases_eq k place) [
+      | inl e ↦ less_is k ∙ ap (λ b. not b && is_set left k) (eq-eqb k place e)
+      | inr n ↦ less_is k ∙ ap (λ b. not (k == place) && b) (least k (omega arith)) ∙ and_false (not (k == place))
+    ]
+      where
+        and_false : (b : Bool) → (b && false) ≡ false
+        and_false true = refl
+        and_false false = refl
+
+    later_of_less : (k : ℕ) → place < k → is_set less k ≡ is_set left k
+    later_of_less k above = less_is k ∙ ap (λ b. not b && is_set left k) (ne_eqb k place (λ e. absurd (omega (arith, e, above))))
+
+    not_done : so_far.done ≤ place
+    not_done = elim (cases_lt place so_far.done) [
+      | inl below ↦ absurd (true≢false (sym set ∙ so_far.none place below))
+      | inr above ↦ above
+    ]
+
+    -- the next one is a member with these targets
+    pub without_member : (p : ℕ) (targets : List ℕ) → IsStrictlyIncreasing v.members → place < length v.members → get_or v.members place 0 ≡ p
+        → IsStrictlyIncreasing targets → ((k : ℕ) → Contains targets k ↔ ((has v.waits p k ≡ true) × (is_member v k ≡ false)))
+        → ProbesWithout v origin places less (frames ++ map (λ to. Probe (origin, p, to)) targets)
+    without_member p targets up inside is ascending each = record {
+      done = place + 1;
+      probes = probes_on v origin places place frames (probes_up_to place not_done (omega (arith, inside)) least) p targets up inside is (sym (so_far.later place not_done inside) ∙ set) ascending each;
+      within = omega (arith, inside);
+      none = none_of_less;
+      later = λ k from below. later_of_less k (omega (arith, from)) ∙ so_far.later k (let up = not_done in omega (arith, up, from)) below;
+    }
+
+-- the probes of those that wait for processes of other sites are the probes of all
+pub probes_of_leaving : (v : Held) (origin places leaving : ℕ) (frames : List Frame) → AreLeaving v places leaving → AreProbesOf v origin (λ q. IsMarked v.members leaving q) frames → AreProbesOf v origin (λ q. IsMarked v.members places q) frames
+probes_of_leaving v origin places leaving frames are p = record {
+  edges = p.edges;
+  ascending = p.ascending;
+  all = λ edge. (
+    λ c. let e = (p.all edge).0 c in ((e.0.0, e.0.1, e.0.2, are.within e.0.0 e.0.3), e.1, e.2),
+    λ e. (p.all edge).1 ((e.0.0, e.0.1, e.0.2, leaves edge e), e.1, e.2),
+  );
+  are = p.are;
+}
+  where
+    leaves : (edge : ℕ × ℕ) (e : IsMarked v.members places edge.0 × (has v.waits edge.0 edge.1 ≡ true) × (is_member v edge.1 ≡ false)) → is_set leaving e.0.0 ≡ true
+    leaves edge e = elim (cases_Bool (is_set leaving e.0.0)) [
+      | inl set ↦ set
+      | inr unset ↦ absurd (true≢false (sym (are.stay e.0.0 e.0.1 e.0.3 unset edge.1 (ap (λ p. has v.waits p edge.1) e.0.2 ∙ e.1)) ∙ e.2))
+    ]
+
+-- a list has nothing at a place past its end
+pub past_end : (xs : List ℕ) (k : ℕ) → slice_get xs k ≡ None → length xs ≤ k
+past_end xs k none = elim (slice_get_cases xs k).1 [
+  | inl some ↦ absurd (none-some some.0 (sym none ∙ some.2))
+  | inr past ↦ past.0
+]
 
 -- a member is none of another site
 pub apart : (v : Held) (q to : ℕ) → IsMember v q → is_member v to ≡ false → q ≡ to → ⊥

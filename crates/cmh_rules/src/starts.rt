@@ -21,6 +21,7 @@ pub enum StartVerdict {
 
 /// Starts a probe computation for a process of the site (Chandy, Misra and Haas 1983). The only error is want of
 /// memory.
+#[inline(always)]
 pub fn start(alloc: Global, waits: &LocalWaits, process: ProcId) -> Result<StartVerdict, AllocError>
     requires { IsMember waits.now process }
     ensures { IfOk result (IsStart waits.now process) }

@@ -5,3 +5,4 @@ pub mod Spellings
 pub mod Readings
 pub mod Forms
 pub mod Events
+pub mod Writings

@@ -1,10 +1,10 @@
 -- What was read of a line so far.
-use Rattle.std.proofs.Common.{◌≡◌, ℕ, suc, zero, ◌+◌, ◌-◌, ◌^◌, min, ◌<◌, ◌≤◌, Bool, true, false, ◌&&◌, List, [], ◌∷◌, ◌++◌, Option, None, Some, ◌==◌, length, get_or, take, refl, sym, ap, subst, ◌∙◌, arith, inl, inr, nat_lt, length-append, length-take, append_assoc, true≢false}
+use Rattle.std.proofs.Common.{◌≡◌, ℕ, suc, zero, ◌+◌, ◌-◌, ◌^◌, min, ◌<◌, ◌≤◌, Bool, true, false, ◌&&◌, List, [], ◌∷◌, ◌++◌, Option, None, Some, ◌==◌, length, get_or, take, refl, sym, ap, subst, ◌∙◌, arith, inl, inr, nat_lt, length-append, length-take, append_assoc}
 use Rattle.std.proofs.lemmas.List.{take_all, take-append-le, take_more}
 use native.Mathlib.Numerals.{unary_clauses}
 use Rattle.std.proofs.lemmas.Bool.{lt-ltb}
 use Rattle.std.proofs.lemmas.Bool.Decides.{leb_tells}
-use Rattle.std.specs.Prelude.{if◌then◌else◌, IfSome, ◌⊎◌}
+use Rattle.std.specs.Prelude.{if◌then◌else◌, IfSome}
 use Rattle.std.specs.Io.BufRead.{take_through, drop_through, ends_with_byte, strip_last, first_line}
 use Rattle.std.proofs.lemmas.List.{append-nil}
 use Rattle.cmh_script.specs.declared.lines.NextLine.{NextLine}
@@ -12,6 +12,8 @@ use Rattle.cmh_script.specs.declared.lines.NextLine.TheVariants.{Line as Read, T
 use Rattle.cmh_script.specs.declared.device.Piece.{Piece}
 use Rattle.cmh_script.specs.declared.device.Piece.TheVariants.{Fed, Unfed, End as End_piece}
 use Rattle.std.specs.Io.KnownBytes.{Consumes}
+use Rattle.memchr.specs.Find.{Nowhere, Passes, is_byte}
+use Rattle.std.proofs.lemmas.Bool.{ne_eqb, eq-eqb}
 use Rattle.cmh_script.specs.Lines.{NoFeed, IsPiece, IsEndless, Judges, JudgesAtEnd, IsNextLine}
 
 no_feed-append : (xs ys : List ℕ) → NoFeed xs → NoFeed ys → NoFeed (xs ++ ys)
@@ -96,9 +98,12 @@ length-strip_last b xs = go (ends_with_byte b xs)
 
 -- ---- what a look at bytes shows
 
--- the first bytes before a line feed, and that one
-pub no_feed-more : (xs : List ℕ) (k : ℕ) → k < length xs → NoFeed (take k xs) → (get_or xs k 0 == 10) ≡ false → NoFeed (take (k + 1) xs)
-no_feed-more xs k inside none h = subst NoFeed (sym (take_more xs k 0 inside)) (no_feed-append (take k xs) (get_or xs k 0 ∷ []) none (h, tt))
+-- no byte before this place is a line feed
+pub no_feed-before : (xs : List ℕ) (n : ℕ) → n ≤ length xs → Nowhere (Passes (is_byte 10) xs) 0 n → NoFeed (take n xs)
+no_feed-before xs zero within none = tt
+no_feed-before [] (suc n) within none = tt
+no_feed-before (x ∷ xs) (suc n) within none =
+    (ne_eqb x 10 (λ e. none 0 (omega arith) (omega arith) (eq-eqb x 10 e)), no_feed-before xs n (omega arith) (λ k low below. none (suc k) (omega arith) (omega arith)))
 
 -- ---- the first bytes of what comes in pieces
 take_on : (n : ℕ) (xs ys : List ℕ) → take n xs ++ take (n - length (take n xs)) ys ≡ take n (xs ++ ys)

@@ -5,7 +5,7 @@ use Rattle.std.proofs.lemmas.Int.Digits.{digits_value-lt}
 use Rattle.std.specs.Prelude.{SomeIff}
 use Rattle.cmh_frames.specs.Number.{IsNumber}
 use Rattle.cmh_script.specs.Words.{decimal}
-use Rattle.cmh_script.specs.Front.{AreFewDigits, Begins, BeginsNone, Takes}
+use Rattle.cmh_script.specs.Front.{AreFewDigits, Begins, BeginsDigits, BeginsNone, Takes}
 use Rattle.cmh_script.specs.Script.{Spell}
 
 -- ---- the numbers that words spell
@@ -25,21 +25,29 @@ below_limit word d =
     omega (arith, below, power)
 
 -- what a site or a process may have for its number is what the first word spells
-pub takes_named : {words behind : List (List ℕ)} {word : List ℕ} {n : ℕ} (named : Option ℕ) → words ≡ word ∷ behind → AreFewDigits word × (n ≡ decimal word)
-    → SomeIff named (IsNumber n) n → Takes words behind named
-takes_named {words} {behind} {word} {n} (Some k) are (few, spells) (is_number, same) = record {
-  word = word;
-  words_are = are;
-  numeral = record { few = few.few; digits = few.digits; positive = subst (λ (m : ℕ). 1 ≤ m) spells is_number.least };
-  value = sym spells ∙ sym same;
+pub takes_named : {words behind : List (List ℕ)} {n : ℕ} (named : Option ℕ) → BeginsDigits words n behind → SomeIff named (IsNumber n) n → Takes words behind named
+takes_named (Some k) begins (is_number, same) = record {
+  word = begins.word;
+  words_are = begins.words_are;
+  numeral = record { few = begins.digits.few; digits = begins.digits.digits; positive = subst (λ (m : ℕ). 1 ≤ m) begins.value is_number.least };
+  value = sym begins.value ∙ sym same;
 }
-takes_named {words} {behind} {word} {n} None are (few, spells) refused = λ number others begins.
-    let firsts = sym are ∙ begins.words_are in
-    let same : word ≡ begins.word = cc in
+takes_named {n = n} None begins refused = λ number others other.
+    let firsts = sym begins.words_are ∙ other.words_are in
+    let same : begins.word ≡ other.word = cc in
     refused (record {
-      least = subst (λ (m : ℕ). 1 ≤ m) (sym spells) (subst (λ (w : List ℕ). 1 ≤ decimal w) (sym same) begins.numeral.positive);
-      most = subst (λ (m : ℕ). m ≤ 9999) (sym spells) (below_limit word few);
+      least = subst (λ (m : ℕ). 1 ≤ m) (sym begins.value) (subst (λ (w : List ℕ). 1 ≤ decimal w) (sym same) other.numeral.positive);
+      most = subst (λ (m : ℕ). m ≤ 9999) (sym begins.value) (below_limit begins.word begins.digits);
     })
+
+-- what spells a number is of few digits
+pub begins_none : {words : List (List ℕ)} → ((number : ℕ) (behind : List (List ℕ)) → BeginsDigits words number behind → ⊥) → BeginsNone words
+begins_none none = λ number behind begins. none number behind (record {
+  word = begins.word;
+  words_are = begins.words_are;
+  digits = record { few = begins.numeral.few; digits = begins.numeral.digits };
+  value = sym begins.value;
+})
 
 -- words that spell no numbers are none
 pub spell_nothing : (words : List (List ℕ)) (numbers : List ℕ) → Spell words numbers → numbers ≡ [] → words ≡ []

@@ -1,5 +1,5 @@
 -- Lines of a script.
-use Rattle.std.specs.Prelude.{◌≡◌, ℕ, ◌+◌, ◌-◌, ◌^◌, ◌<◌, ◌≤◌, ◌==◌, Bool, true, false, ◌⊎◌, List, [], ◌∷◌, ◌++◌, length, take, Option, None, Some, ⊤}
+use Rattle.std.specs.Prelude.{◌≡◌, ℕ, ◌-◌, ◌^◌, ◌<◌, ◌≤◌, ◌==◌, Bool, true, false, ◌⊎◌, List, [], ◌∷◌, ◌++◌, length, take, Option, None, Some, ⊤}
 use Rattle.std.specs.Io.BufRead.{first_line}
 use Rattle.cmh_script.specs.declared.device.Piece.{Piece}
 use Rattle.cmh_script.specs.declared.device.Piece.TheVariants.{Fed, Unfed, End as End_piece}

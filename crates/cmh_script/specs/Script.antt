@@ -74,10 +74,10 @@ pub record AreOf (words : List (List ℕ)) (line : Line) : Type 0 where
   pub spell : Spell behind numbers
   pub fits : Fits form numbers line
 
--- what is made of words: the line that fits, or nothing where none does
-abbrev pub IsFitted : List (List ℕ) → Option Line → Type 0
-IsFitted words None = (line : Line) → AreOf words line → ⊥
-IsFitted words (Some line) = AreOf words line
+-- the form that the first word names, and the words behind it, or none where it names none
+abbrev pub IsFormOf : List (List ℕ) → Option (Form × List (List ℕ)) → Type 0
+IsFormOf words None = (form : Form) (behind : List (List ℕ)) → words ≡ name_of form ∷ behind → ⊥
+IsFormOf words (Some front) = words ≡ name_of front.0 ∷ front.1
 
 -- what a line's words say: what they fit, and nothing but a bad line where they fit nothing
 abbrev pub Say : List (List ℕ) → Line → Type 0

@@ -1,11 +1,14 @@
 //! What a command reads from and writes to, and whether that failed.
 
-ghost use Rattle.std.specs.Prelude.{◌≡◌, ◌<◌, ◌≤◌, true, false, IfOk, IfErr, IfSome, OnOk, OnErr, length, take, get_or};
+ghost use Rattle.std.specs.Prelude.{◌≡◌, ◌-◌, ◌<◌, ◌≤◌, true, false, IfOk, IfErr, IfSome, OnOk, OnErr, length, take, get_or};
 ghost use Rattle.std.specs.Fmt.{with_newline};
 ghost use Rattle.std.specs.Io.KnownBytes.{Appends, Keeps};
 ghost use Rattle.cmh_script.specs.Lines.{IsPiece, NoFeed};
 
 use crate::lines::LineFault;
+use arrayvec::ArrayString;
+use memchr::{memchr, memrchr};
+use std::fmt::Write as _;
 use std::io::{BufRead, BufReader, ErrorKind, Read, Write};
 use std::{fmt, io};
 
@@ -57,6 +60,8 @@ enum PieceFault {
 pub struct Input<R> {
     inner: R,
     has_failed: bool,
+    /// How many of the bytes that were read ahead are known to end with a line feed.
+    fed: usize,
 }
 
 impl<R> Input<R> {
@@ -67,6 +72,7 @@ impl<R> Input<R> {
         Input {
             inner,
             has_failed: false,
+            fed: 0,
         }
     }
 
@@ -94,7 +100,7 @@ impl<R: BufRead> Input<R> {
         ensures err { IfErr result (λ fault. fault ≡ LineFault.Input → self.new.has_failed ≡ true) }
     {
         for turn in 0..u64::MAX {
-            match take_piece(&mut self.inner, line, most) {
+            match take_piece(&mut self.inner, &mut self.fed, line, most) {
                 Ok(piece) => return Ok(piece),
                 Err(PieceFault::Interrupted) => {}
                 Err(PieceFault::Memory) => return Err(LineFault::Memory),
@@ -110,15 +116,36 @@ impl<R: BufRead> Input<R> {
 }
 
 impl<R: Ahead> Input<R> {
-    /// Whether a whole line can be read without waiting.
-    pub fn has_line(&self) -> bool {
-        self.inner.ahead().contains(&b'\n')
+    /// Whether a whole line can be read without waiting. It looks for the last line feed that was read ahead, so that it
+    /// need not look again before each of the lines up to there.
+    pub fn has_line(&mut self) -> bool
+        ensures inner { self.new.inner ≡ self.old.inner }
+        ensures has_failed { self.new.has_failed ≡ self.old.has_failed }
+    {
+        if self.fed == 0 {
+            self.fed = fed_len(self.inner.ahead());
+        }
+        self.fed > 0
     }
 }
 
-/// One read of a piece.
+/// How many bytes there are up to the last line feed.
+#[cold]
+#[inline(never)]
+fn fed_len(bytes: &[u8]) -> usize
+    ensures none { result ≡ 0 → NoFeed bytes.now }
+    ensures some { 0 < result → get_or bytes.now (result - 1) 0 ≡ 10 }
+{
+    match memrchr(b'\n', bytes) {
+        Some(at) => at + 1,
+        None => 0,
+    }
+}
+
+/// One read of a piece. What it takes is no longer ahead.
 fn take_piece<R: BufRead>(
     reader: &mut R,
+    fed: &mut usize,
     line: &mut Vec<u8>,
     most: usize,
 ) -> Result<Piece, PieceFault>
@@ -139,9 +166,11 @@ fn take_piece<R: BufRead>(
     }
     if is_fed {
         reader.consume(seen + 1);
+        *fed = fed.saturating_sub(seen + 1);
         return Ok(Piece::Fed);
     }
     reader.consume(seen);
+    *fed = 0;
     if seen == 0 {
         Ok(Piece::End)
     } else {
@@ -163,12 +192,10 @@ fn feed_at(bytes: &[u8]) -> usize
     ensures before { NoFeed (take result bytes.now) }
     ensures feed { result < length bytes.now → get_or bytes.now result 0 ≡ 10 }
 {
-    for at in 0..bytes.len() {
-        if bytes[at] == b'\n' {
-            return at;
-        }
+    match memchr(b'\n', bytes) {
+        Some(at) => at,
+        None => bytes.len(),
     }
-    bytes.len()
 }
 
 /// A writer, whether a call of it has failed, and whether nothing was written since it was flushed.
@@ -199,6 +226,23 @@ impl<W> Output<W> {
 }
 
 impl<W: Write> Output<W> {
+    /// Writes all of the bytes.
+    pub fn write_bytes(&mut self, bytes: &[u8]) -> Result<(), WriteFault>
+        ensures bytes { OnOk result (Appends (W.contents self.old.inner) (W.contents self.new.inner) bytes.now) }
+        ensures ok { OnOk result (self.new.has_failed ≡ self.old.has_failed) }
+        ensures err { OnErr result (self.new.has_failed ≡ true) }
+        ensures unflushed { self.new.is_flushed ≡ false }
+    {
+        self.is_flushed = false;
+        match self.inner.write_all(bytes) {
+            Ok(()) => Ok(()),
+            Err(_) => {
+                self.has_failed = true;
+                Err(WriteFault)
+            }
+        }
+    }
+
     /// Writes all of the text.
     pub fn write_text<T: fmt::Display + Drop>(&mut self, text: T) -> Result<(), WriteFault>
         ensures bytes { OnOk result (IfSome (T.output text) (Appends (W.contents self.old.inner)
@@ -208,7 +252,7 @@ impl<W: Write> Output<W> {
         ensures unflushed { self.new.is_flushed ≡ false }
     {
         self.is_flushed = false;
-        match self.inner.write_fmt(text) {
+        match write_whole(&mut self.inner, text) {
             Ok(()) => Ok(()),
             Err(_) => {
                 self.has_failed = true;
@@ -251,5 +295,19 @@ impl<W: Write> Output<W> {
                 Err(WriteFault)
             }
         }
+    }
+}
+
+/// The greatest length of a text that is put together first.
+const SHORT: usize = 64;
+
+/// Writes all of the text. One that is short is put together first, and takes one write.
+fn write_whole<W: Write, T: fmt::Display + Drop>(writer: &mut W, text: T) -> io::Result<()>
+    ensures { OnOk result (IfSome (T.output text) (Appends (W.contents writer.old) (W.contents writer.new))) }
+{
+    let mut short = ArrayString::<SHORT>::new();
+    match short.write_fmt(&text) {
+        Ok(()) => writer.write_all(short.as_str().as_bytes()),
+        Err(_) => writer.write_fmt(text),
     }
 }

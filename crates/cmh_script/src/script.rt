@@ -1,8 +1,9 @@
 //! What the lines of a script of `play` say.
 
-ghost use Rattle.std.specs.Prelude.{◌≡◌, ◌≢◌, ℕ, List, [], ◌∷◌, IfOk, MatchOption};
+ghost use Rattle.std.specs.Prelude.{◌≡◌, ◌≢◌, ℕ, List, None, [], ◌∷◌, IfOk, IfSome, MatchOption};
 ghost use Rattle.cmh_script.specs.declared.script.Form as declared_form;
-ghost use Rattle.cmh_script.specs.Script.{Fits, IsFitted, ReadsAll, Says, Spell, is_comment, name_of};
+ghost use Rattle.cmh_script.specs.Words.{words_of};
+ghost use Rattle.cmh_script.specs.Script.{Fits, IsFormOf, ReadsAll, Says, Spell, is_comment, name_of};
 
 use crate::words::Words;
 use cmh_frames::{Edition, ProcId, SiteId, SiteRow};
@@ -51,16 +52,64 @@ enum Form {
 pub fn parse(alloc: Global, line: &[u8]) -> Result<Line, AllocError>
     ensures { IfOk result (Says line.now) }
 {
-    let mut words = Words::new(line);
-    let Some(name) = words.next_word() else {
-        return Ok(Line::Silent);
+    let Some((form, words)) = front(line) else {
+        return Ok(said_without_form(line));
     };
-    if is_comment(name) {
-        return Ok(Line::Silent);
-    }
-    match fitted(alloc, name, words)? {
+    match line_of(alloc, form, words)? {
         Some(line) => Ok(line),
         None => Ok(Line::Bad),
+    }
+}
+
+/// The form that the first word of a line names, and the words behind it.
+#[inline(always)]
+fn front(line: &[u8]) -> Option<(Form, Words<'_>)>
+    ensures { IsFormOf (words_of line.now) result }
+{
+    match form_in_front(line) {
+        Some((form, behind)) => Some((form, Words::new(behind))),
+        None => front_word(line),
+    }
+}
+
+/// The form whose name and a space begin a line, and what stands behind them: so most lines are told without a search
+/// for the end of their first word. The rarer forms are left to `front_word`.
+#[inline(always)]
+fn form_in_front(line: &[u8]) -> Option<(Form, &[u8])>
+    ensures { IfSome result (λ front. words_of line.now ≡ name_of front.0 ∷ words_of front.1.now) }
+{
+    match line {
+        [b'd', b'e', b'l', b'i', b'v', b'e', b'r', b' ', behind @ ..] => {
+            Some((Form::Deliver, behind))
+        }
+        [b'r', b'e', b'p', b'l', b'y', b' ', behind @ ..] => Some((Form::Reply, behind)),
+        [b'a', b's', b'k', b' ', behind @ ..] => Some((Form::Ask, behind)),
+        [b's', b't', b'a', b'r', b't', b' ', behind @ ..] => Some((Form::Start, behind)),
+        _ => None,
+    }
+}
+
+/// The same by the words of a line.
+#[cold]
+#[inline(never)]
+fn front_word(line: &[u8]) -> Option<(Form, Words<'_>)>
+    ensures { IsFormOf (words_of line.now) result }
+{
+    let mut words = Words::new(line);
+    let form = form_of(words.next_word()?)?;
+    Some((form, words))
+}
+
+/// What a line says whose first word names no form: nothing, if it has no word or is a comment.
+#[cold]
+#[inline(never)]
+fn said_without_form(line: &[u8]) -> Line
+    requires { IsFormOf (words_of line.now) None }
+    ensures { Says line.now result }
+{
+    match Words::new(line).next_word() {
+        Some(name) if !is_comment(name) => Line::Bad,
+        _ => Line::Silent,
     }
 }
 
@@ -74,46 +123,22 @@ fn is_comment(word: &[u8]) -> bool
     }
 }
 
-/// The line of a name and the words behind it, if they fit a form.
-fn fitted(alloc: Global, name: &[u8], words: Words<'_>) -> Result<Option<Line>, AllocError>
-    ensures { IfOk result (IsFitted (name.now ∷ words.entry)) }
-{
-    match form_of(name) {
-        Some(form) => line_of(alloc, form, words),
-        None => Ok(None),
-    }
-}
-
 /// The form of this name.
 fn form_of(name: &[u8]) -> Option<Form>
     ensures { MatchOption result ((form : declared_form.Form) → name.now ≢ name_of form)
         (λ form. name.now ≡ name_of form) }
 {
-    if name == b"edition".as_slice() {
-        return Some(Form::Edition);
+    match name {
+        b"edition" => Some(Form::Edition),
+        b"site" => Some(Form::Site),
+        b"ask" => Some(Form::Ask),
+        b"reply" => Some(Form::Reply),
+        b"start" => Some(Form::Start),
+        b"deliver" => Some(Form::Deliver),
+        b"cut" => Some(Form::Cut),
+        b"report" => Some(Form::Report),
+        _ => None,
     }
-    if name == b"site".as_slice() {
-        return Some(Form::Site);
-    }
-    if name == b"ask".as_slice() {
-        return Some(Form::Ask);
-    }
-    if name == b"reply".as_slice() {
-        return Some(Form::Reply);
-    }
-    if name == b"start".as_slice() {
-        return Some(Form::Start);
-    }
-    if name == b"deliver".as_slice() {
-        return Some(Form::Deliver);
-    }
-    if name == b"cut".as_slice() {
-        return Some(Form::Cut);
-    }
-    if name == b"report".as_slice() {
-        return Some(Form::Report);
-    }
-    None
 }
 
 /// The line of this form with the numbers that the words spell.
@@ -247,6 +272,7 @@ fn report(words: Words<'_>) -> Option<Line>
 }
 
 /// The sites that a link goes from and to.
+#[inline(always)]
 fn link(mut words: Words<'_>) -> Option<(SiteId, SiteId)>
     ensures { ReadsAll (λ ns (ends : ℕ × ℕ). ns ≡ ends.0 ∷ ends.1 ∷ []) words.entry result }
 {

@@ -1,7 +1,7 @@
 //! Words of a line, and the numbers among them.
 
-ghost use Rattle.std.specs.Prelude.{◌≡◌, ◌≢◌, ◌≤◌, ◌<◌, ◌↔◌, ℕ, ◌∷◌, [], length, slice_index, IfSome, IfNone, IsTrue, SomeIff};
-ghost use Rattle.cmh_script.specs.Front.{AreFewDigits, Takes};
+ghost use Rattle.std.specs.Prelude.{◌≡◌, ◌≢◌, ◌≤◌, ◌<◌, ◌↔◌, ℕ, true, false, ◌∷◌, [], length, slice_index, IfSome, IfNone, IsTrue, SomeIff};
+ghost use Rattle.cmh_script.specs.Front.{IsFirstNumeral, Takes, TakesDigits};
 ghost use Rattle.cmh_script.specs.Words.{words_of, IsNumeral, decimal};
 
 use cmh_frames::{ProcId, SiteId};
@@ -68,21 +68,38 @@ impl<'a> Words<'a> {
     pub fn number(&mut self) -> Option<u16>
         ensures { Takes self.old self.new result }
     {
-        number(self.next_word()?)
+        let number = self.digits()?;
+        if number == 0 { None } else { Some(number) }
     }
 
     /// The process that the next word names.
     pub fn process(&mut self) -> Option<ProcId>
         ensures { Takes self.old self.new result }
     {
-        ProcId::new(digits(self.next_word()?)?)
+        ProcId::new(self.digits()?)
     }
 
     /// The site that the next word names.
     pub fn site(&mut self) -> Option<SiteId>
         ensures { Takes self.old self.new result }
     {
-        SiteId::new(digits(self.next_word()?)?)
+        SiteId::new(self.digits()?)
+    }
+
+    /// The number that the next word spells, of at most four digits. It may be zero, which `ProcId` and `SiteId` refuse
+    /// by themselves.
+    #[inline(always)]
+    fn digits(&mut self) -> Option<u16>
+        ensures { TakesDigits self.old self.new result }
+    {
+        let numeral = first_numeral(self.rest);
+        if numeral.len == 0 || goes_on(self.rest, numeral.len) {
+            self.next_word();
+            return None;
+        }
+        let (_, behind) = self.rest.split_at(numeral.len);
+        self.rest = without_spaces(behind);
+        Some(numeral.number)
     }
 }
 
@@ -112,27 +129,51 @@ fn word_len(line: &[u8]) -> usize
     line.len()
 }
 
+/// Whether a word goes on at this place of a line: neither its end nor a space is there.
+fn goes_on(line: &[u8], at: usize) -> bool
+    ensures yes { result ≡ true → (at < length line.now) × (slice_index line.now at ≢ 32) }
+    ensures no { result ≡ false → at < length line.now → slice_index line.now at ≡ 32 }
+{
+    at < line.len() && line[at] != b' '
+}
+
+/// What the digits at the front of a line spell.
+#[derive(Clone, Copy)]
+struct Numeral {
+    number: u16,
+    /// How many digits they are.
+    len: usize,
+}
+
+/// Reads at most four digits.
+fn first_numeral(line: &[u8]) -> Numeral
+    ensures { IsFirstNumeral line.now result.number result.len }
+{
+    let most = line.len().min(MAX_DIGITS);
+    let mut number = 0;
+    for len in 0..most {
+        let Some(digit) = char::from(line[len]).to_digit(10) else {
+            return Numeral {
+                number: number as u16,
+                len,
+            };
+        };
+        number = number * 10 + digit;
+    }
+    Numeral {
+        number: number as u16,
+        len: most,
+    }
+}
+
 /// The number that a word spells, 1 to 9999: one to four decimal digits.
 pub fn number(word: &[u8]) -> Option<u16>
     ensures { SomeIff result (IsNumeral word.now) (decimal word.now) }
 {
-    let number = digits(word)?;
-    if number == 0 {
-        return None;
+    let numeral = first_numeral(word);
+    if numeral.len == word.len() && numeral.number > 0 {
+        Some(numeral.number)
+    } else {
+        None
     }
-    Some(number)
-}
-
-/// The number that at most four decimal digits spell. It may be zero, which `ProcId` and `SiteId` refuse by themselves.
-fn digits(word: &[u8]) -> Option<u16>
-    ensures { SomeIff result (AreFewDigits word.now) (decimal word.now) }
-{
-    if word.len() > MAX_DIGITS {
-        return None;
-    }
-    let mut number = 0;
-    for byte in word {
-        number = number * 10 + char::from(*byte).to_digit(10)?;
-    }
-    Some(number as u16)
 }

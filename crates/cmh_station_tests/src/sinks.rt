@@ -6,7 +6,8 @@ use crate::failing::{Failing, Shown};
 use crate::world::{Opened, ask, start, topology};
 use cmh_audit::{Report, Verdict, audit, check_set};
 use cmh_frames::{Edition, ProcId, Topology};
-use cmh_journal::{FuseSink, Journal, MemSink, Sink, Tail, read_journal};
+use cmh_journal::{FuseSink, MemSink, Sink, Tail};
+use cmh_stored::{StoredJournal, read_stored};
 use std::alloc::{AllocError, Global};
 use std::test::Fail;
 
@@ -103,8 +104,8 @@ fn played<S: Shown>(alloc: Global, topology: &Topology, sink: S) -> Result<Files
 }
 
 /// The journal of a file, where it has one, behind those that are there; and the bytes of its tail.
-fn read_one(alloc: Global, bytes: &[u8], journals: &mut Vec<Journal>) -> Result<usize, Fail> {
-    let Ok((journal, tail)) = read_journal(alloc, bytes) else {
+fn read_one<'a>(bytes: &'a [u8], journals: &mut Vec<StoredJournal<'a>>) -> Result<usize, Fail> {
+    let Ok((journal, tail)) = read_stored(bytes) else {
         return Err(Fail::new("a file has no journal"));
     };
     journals.push(journal)?;
@@ -124,15 +125,19 @@ struct Findings {
 /// A file of fewer bytes than a header has is that of a site with no station, for which its header stands.
 fn audited(alloc: Global, topology: &Topology, files: &Files) -> Result<Findings, Fail> {
     let mut journals = Vec::new(alloc);
-    let cut = read_one(alloc, or_header(&files.one), &mut journals)?;
-    if read_one(alloc, &files.two, &mut journals)? != 0 {
+    let cut = read_one(or_header(&files.one), &mut journals)?;
+    if read_one(&files.two, &mut journals)? != 0 {
         return Err(Fail::new("the file of site 2 is cut"));
     }
     let lines = lines_of(alloc, topology, &journals)?;
     Ok(Findings { cut, lines })
 }
 
-fn lines_of(alloc: Global, topology: &Topology, journals: &[Journal]) -> Result<String, Fail> {
+fn lines_of(
+    alloc: Global,
+    topology: &Topology,
+    journals: &[StoredJournal<'_>],
+) -> Result<String, Fail> {
     if check_set(topology, journals).is_err() {
         return Err(Fail::new("no set of journals"));
     }

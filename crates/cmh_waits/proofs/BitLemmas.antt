@@ -1,10 +1,10 @@
 -- One bit of a row, as it is set and cleared.
-use Rattle.std.proofs.Common.{◌≡◌, ◌<◌, ◌^◌, ◌*◌, ◌%◌, ℕ, true, false, not, ◌&&◌, ◌||◌, ◌==◌, sym, ap, ◌∙◌, inl, inr, arith, w64}
-use Rattle.std.specs.Int.{bit_at, bit_not}
-use Rattle.std.specs.Int.Bits.{bit_and, bit_or}
+use Rattle.std.proofs.Common.{◌≡◌, ◌<◌, ◌≤◌, ◌+◌, ◌^◌, ◌*◌, ◌%◌, ◌⊎◌, ℕ, cond, true, false, not, ◌&&◌, ◌||◌, ◌==◌, refl, sym, ap, ◌∙◌, subst, inl, inr, arith, true≢false, w64}
+use Rattle.std.specs.Int.{bit_at, bit_not, trailing_zeros}
+use Rattle.std.specs.Int.Bits.{bit_and, bit_or, bit_xor}
 use Rattle.std.proofs.lemmas.Bool.{eq-eqb, ne_eqb, cases_eq, cases_lt}
-use Rattle.std.proofs.lemmas.Nat.{and_le_l}
-use Rattle.std.proofs.lemmas.Nat.Bits.{bit_at_set_same, bit_at_set_other, bit_at_clear_same, bit_at_clear_other, bit_at_above, bit_at-zero, same_from_bits, bit_at-lt}
+use Rattle.std.proofs.lemmas.Nat.{and_le_l, shl_whole}
+use Rattle.std.proofs.lemmas.Nat.Bits.{bit_at_set_same, bit_at_set_other, bit_at_clear_same, bit_at_clear_other, bit_at_above, bit_at-zero, bit_at_xor, bit_at-pow_same, bit_at-pow_other, bit_at-trailing_zeros, same_from_bits, bit_at-lt}
 use Rattle.cmh_waits.specs.Rows.{is_set}
 
 -- a 1 at the place, and all else as it was
@@ -42,3 +42,53 @@ none_set n none = same_from_bits n 0 (λ k. zero_bit (bit_at n k) (bit_at-lt n k
       where
         true_false : true ≡ false → ⊥
         true_false e = cc e
+
+bit_cases : (x : ℕ) → x < 2 → (x ≡ 0) ⊎ (x ≡ 1)
+bit_cases x less = elim (cases_eq x 0) [ inl e ↦ inl e | inr n ↦ inr (omega arith) ]
+
+-- what holds of the four pairs of bits holds of any two
+pub two_bits : (P : ℕ → ℕ → Type 0) → P 0 0 → P 0 1 → P 1 0 → P 1 1 → (x y : ℕ) → x < 2 → y < 2 → P x y
+two_bits P a b c d x y less below = elim (bit_cases x less) [
+  | inl e ↦ elim (bit_cases y below) [ inl f ↦ subst (λ z. P z y) (sym e) (subst (P 0) (sym f) a) | inr f ↦ subst (λ z. P z y) (sym e) (subst (P 0) (sym f) b) ]
+  | inr e ↦ elim (bit_cases y below) [ inl f ↦ subst (λ z. P z y) (sym e) (subst (P 1) (sym f) c) | inr f ↦ subst (λ z. P z y) (sym e) (subst (P 1) (sym f) d) ]
+]
+
+pub lowest_bit : (n : ℕ) → 0 < n → n < 2 ^ 64 → is_set n (trailing_zeros w64 n) ≡ true
+lowest_bit n some fits = eq-eqb (bit_at n (trailing_zeros w64 n)) 1 (bit_at-trailing_zeros w64 n some fits).1
+
+-- a row that loses a bit gets less
+pub less_without : (n p : ℕ) → n < 2 ^ 64 → p < 64 → is_set n p ≡ true → bit_and n (bit_not w64 (1 * 2 ^ p % 2 ^ 64)) < n
+less_without n p fits within set =
+    let most = and_le_l n (bit_not w64 (1 * 2 ^ p % 2 ^ 64)) in
+    elim (cases_eq (bit_and n (bit_not w64 (1 * 2 ^ p % 2 ^ 64))) n) [
+      | inl e ↦ absurd (true≢false (sym set ∙ ap (λ m. is_set m p) (sym e) ∙ cleared_bit n p p fits within ∙ ap (λ b. not b && is_set n p) (eq-eqb p p refl)))
+      | inr ne ↦ omega (arith, most, ne)
+    ]
+
+one_times : (n : ℕ) → 1 * n ≡ n
+one_times n = omega arith
+
+one_shl : (k : ℕ) → k < 64 → 1 * 2 ^ k % 2 ^ 64 ≡ 2 ^ k
+one_shl k within = shl_whole 1 1 k 64 (omega arith) (omega arith) ∙ one_times (2 ^ k)
+
+-- a 1 at one place
+pub one_bit : (p k : ℕ) → p < 64 → is_set (1 * 2 ^ p % 2 ^ 64) k ≡ (k == p)
+one_bit p k within = elim (cases_eq k p) [
+  | inl e ↦ ap (λ j. is_set (1 * 2 ^ p % 2 ^ 64) j) e ∙ ap (λ n. is_set n p) (one_shl p within) ∙ eq-eqb (bit_at (2 ^ p) p) 1 (bit_at-pow_same p) ∙ sym (eq-eqb k p e)
+  | inr n ↦ ap (λ m. is_set m k) (one_shl p within) ∙ ap (λ m. m == 1) (bit_at-pow_other p k n) ∙ sym (ne_eqb k p n)
+]
+
+-- the other bit at one place
+pub flipped_bit : (n p k : ℕ) → p < 64 → is_set (bit_xor n (1 * 2 ^ p % 2 ^ 64)) k ≡ cond (k == p) (not (is_set n k)) (is_set n k)
+flipped_bit n p k within =
+    let one = 1 * 2 ^ p % 2 ^ 64 in
+    ap (λ b. b == 1) (bit_at_xor n one k)
+    ∙ two_bits (λ x y. ((x + y) % 2 == 1) ≡ cond (y == 1) (not (x == 1)) (x == 1)) refl refl refl refl (bit_at n k) (bit_at one k) (bit_at-lt n k) (bit_at-lt one k)
+    ∙ ap (λ t. cond t (not (is_set n k)) (is_set n k)) (one_bit p k within)
+
+-- the lowest bit is the least
+pub lowest_least : (n k : ℕ) → 0 < n → n < 2 ^ 64 → is_set n k ≡ true → trailing_zeros w64 n ≤ k
+lowest_least n k some fits set = elim (cases_lt k (trailing_zeros w64 n)) [
+  | inl below ↦ absurd (true≢false (sym set ∙ ap (λ b. b == 1) ((bit_at-trailing_zeros w64 n some fits).2 k below)))
+  | inr above ↦ above
+]

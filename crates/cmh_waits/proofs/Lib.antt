@@ -10,3 +10,4 @@ pub mod Updates
 pub mod AskLemmas
 pub mod Shown
 pub mod Placed
+pub mod NumberLemmas

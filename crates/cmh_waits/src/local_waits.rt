@@ -12,6 +12,7 @@ ghost use Rattle.cmh_waits.specs.Rows.{AreRows, bit_of, is_at_in, is_in, is_set,
 
 use crate::bits::{has_bit, with_bit, without_bit};
 use crate::member_table::MemberTable;
+use crate::proc_bits::ProcBits;
 use crate::proc_list::ProcList;
 use cmh_frames::ProcId;
 use std::alloc::{AllocError, Global};
@@ -21,8 +22,8 @@ use std::marker::Model;
 ///
 /// A process is blocked where it waits for some process, and else active (Chandy, Misra and Haas 1983). The members of
 /// a site are those that the topology puts there, ascending; all others are at other sites. Waits between members are
-/// rows of bits, those that touch other sites are lists. A call fails only for want of memory, and then nothing has
-/// changed.
+/// rows of bits, those for other sites are lists, and what is owed to other sites are sets of bits. A call fails only
+/// for want of memory, and then nothing has changed.
 #[derive(Debug, Drop)]
 pub struct LocalWaits {
     alloc: Global,
@@ -35,7 +36,7 @@ pub struct LocalWaits {
     /// The processes of other sites that each member waits for.
     remote_waits: Vec<ProcList>,
     /// The processes of other sites to which each member owes a reply.
-    remote_owed: Vec<ProcList>,
+    remote_owed: Vec<ProcBits>,
 }
 
 impl Model for LocalWaits {
@@ -66,7 +67,7 @@ impl LocalWaits {
             waits: vec![in alloc; 0; count]?,
             owed: vec![in alloc; 0; count]?,
             remote_waits: empty_lists(alloc, count)?,
-            remote_owed: empty_lists(alloc, count)?,
+            remote_owed: empty_sets(alloc, count)?,
         })
     }
 
@@ -136,7 +137,7 @@ impl LocalWaits {
     pub fn owes(&self, holder: ProcId, asker: ProcId) -> bool
         ensures { result ≡ has self.now.owed holder asker }
     {
-        contains(&self.members, &self.owed, &self.remote_owed, holder, asker)
+        owes(&self.members, &self.owed, &self.remote_owed, holder, asker)
     }
 
     /// A member asks for what the targets hold, and waits for each of them; those at the site owe it a reply at once.
@@ -284,7 +285,7 @@ impl LocalWaits {
             waits: self.waits.to_vec(alloc)?,
             owed: self.owed.to_vec(alloc)?,
             remote_waits: ProcList::copy_all(alloc, &self.remote_waits)?,
-            remote_owed: ProcList::copy_all(alloc, &self.remote_owed)?,
+            remote_owed: ProcBits::copy_all(alloc, &self.remote_owed)?,
         })
     }
 }
@@ -306,6 +307,28 @@ fn contains(
         Some(place) => match members.place_of(second) {
             Some(other) => has_bit(rows[place], other),
             None => lists[place].contains(second),
+        },
+        None => false,
+    }
+}
+
+/// Whether the pair of a holder and an asker is in the relation of the rows and the sets.
+fn owes(
+    members: &MemberTable,
+    rows: &[u64],
+    sets: &[ProcBits],
+    holder: ProcId,
+    asker: ProcId,
+) -> bool
+    requires ascending { IsStrictlyIncreasing members.now }
+    requires few { length members.now ≤ 64 }
+    requires rows { AreRows members.now rows.now sets.now }
+    ensures { result ≡ has (relation_of members.now rows.now sets.now) holder asker }
+{
+    match members.place_of(holder) {
+        Some(second) => match members.place_of(asker) {
+            Some(first) => has_bit(rows[second], first),
+            None => sets[second].contains(asker),
         },
         None => false,
     }
@@ -420,4 +443,15 @@ fn empty_lists(alloc: Global, count: usize) -> Result<Vec<ProcList>, AllocError>
         lists.push(ProcList::empty(alloc))?;
     }
     Ok(lists)
+}
+
+/// So many sets without a process.
+fn empty_sets(alloc: Global, count: usize) -> Result<Vec<ProcBits>, AllocError>
+    ensures { IfOk result (λ sets. sets.items ≡ replicate count []) }
+{
+    let mut sets = Vec::with_capacity(alloc, count)?;
+    for _ in 0..count {
+        sets.push(ProcBits::empty(alloc))?;
+    }
+    Ok(sets)
 }

@@ -1,6 +1,6 @@
 //! The frames that are under way between the sites of a world, found by the sites' numbers.
 
-ghost use Rattle.std.specs.Prelude.{◌≡◌, ◌++◌, ◌∷◌, [], ℕ, ◌<◌, length, slice_get, OnOk, OnErr};
+ghost use Rattle.std.specs.Prelude.{◌≡◌, ◌≢◌, ◌++◌, ◌∷◌, [], ℕ, ◌<◌, length, slice_get, OnOk, OnErr, MatchBool, Some};
 ghost use Rattle.std.specs.Option.{option_to_list};
 ghost use Rattle.cmh_world.specs.Links.{SameQueues, SameRow, if_some_at, if_some_to, only_at, only_to, queue_at, waiting, without_at, without_to};
 
@@ -58,6 +58,19 @@ impl Queue {
         ensures moved { self.old ≡ option_to_list result ++ self.new }
     {
         self.frames.pop_front()
+    }
+
+    #[inline(always)]
+    fn receive_this(&mut self, frame: &Frame) -> bool
+        ensures { MatchBool result (self.old ≡ frame.now ∷ self.new)
+            ((self.new ≡ self.old) × (slice_get self.old 0 ≢ Some frame.now)) }
+    {
+        match self.frames.front() {
+            Some(first) if first == frame => {}
+            _ => return false,
+        }
+        let _ = self.frames.pop_front();
+        true
     }
 
     fn clear(&mut self)
@@ -126,6 +139,20 @@ impl Row {
             self.queues[at].receive()
         } else {
             None
+        }
+    }
+
+    #[inline(always)]
+    fn receive_this(&mut self, to: SiteId, frame: &Frame) -> bool
+        ensures { MatchBool result
+            ((b : ℕ) → queue_at self.old b ≡ only_to to frame.now b ++ queue_at self.new b)
+            ((self.new ≡ self.old) × (slice_get (queue_at self.old to) 0 ≢ Some frame.now)) }
+    {
+        let at = to.get() as usize;
+        if at < self.queues.len() {
+            self.queues[at].receive_this(frame)
+        } else {
+            false
         }
     }
 
@@ -221,6 +248,21 @@ impl Links {
             self.rows[at].receive(to)
         } else {
             None
+        }
+    }
+
+    /// Takes the oldest frame, if it is this one.
+    #[inline(always)]
+    pub fn receive_this(&mut self, from: SiteId, to: SiteId, frame: &Frame) -> bool
+        ensures { MatchBool result
+            ((a b : ℕ) → waiting self.old a b ≡ only_at from to frame.now a b ++ waiting self.new a b)
+            ((self.new ≡ self.old) × (slice_get (waiting self.old from to) 0 ≢ Some frame.now)) }
+    {
+        let at = from.get() as usize;
+        if at < self.rows.len() {
+            self.rows[at].receive_this(to, frame)
+        } else {
+            false
         }
     }
 

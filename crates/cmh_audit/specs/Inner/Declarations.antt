@@ -1,14 +1,7 @@
--- The processes that entries declare.
+-- The processes that entries declare, as a set.
 use Rattle.std.specs.Prelude.{◌≡◌, ℕ, zero, suc, Bool, true, false, ◌||◌}
 use Rattle.std.specs.Ordering.{nat_cmp}
 use Rattle.std.specs.BTreeSet.{BTreeSet, contains}
-use Rattle.cmh_frames.specs.Topology.{is_some_of}
-use Rattle.cmh_model.specs.declared.journal.Entry.{Entry}
-use Rattle.cmh_model.specs.Laws.{bit}
-
--- whether an entry declares i, as a number
-abbrev pub declares : ℕ → Entry → ℕ
-declares i e = bit (is_some_of e.declared i)
 
 abbrev pub is_positive : ℕ → Bool
 is_positive zero = false

@@ -11,7 +11,20 @@ WaitsIn waits j k = Contains waits (j, k)
 abbrev pub IsCycleIn : List (ℕ × ℕ) → ℕ → List ℕ → Type 0
 IsCycleIn waits i members = IsCycleOf (λ j k. WaitsIn waits j k) i members
 
+-- where there is a cycle through i, it is the first
+abbrev pub IsFoundCycle : List (ℕ × ℕ) → ℕ → List ℕ → Type 0
+IsFoundCycle waits i members =
+    (other : List ℕ) → IsCycleIn waits i other → IsFirstCycleOf (λ j k. WaitsIn waits j k) i members
+
 -- one for each of these processes
+abbrev pub AreFoundCycles : List (ℕ × ℕ) → List ℕ → List (List ℕ) → Type 0
+AreFoundCycles waits [] [] = Unit {0}
+AreFoundCycles waits [] (members ∷ cycles) = ⊥
+AreFoundCycles waits (i ∷ processes) [] = ⊥
+AreFoundCycles waits (i ∷ processes) (members ∷ cycles) =
+    IsFoundCycle waits i members × AreFoundCycles waits processes cycles
+
+-- the first of each of these processes
 abbrev pub AreFirstCycles : List (ℕ × ℕ) → List ℕ → List (List ℕ) → Type 0
 AreFirstCycles waits [] [] = Unit {0}
 AreFirstCycles waits [] (members ∷ cycles) = ⊥

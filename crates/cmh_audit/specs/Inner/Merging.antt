@@ -1,8 +1,9 @@
 -- How far the journals were taken, and what can be taken next.
-use Rattle.std.specs.Prelude.{◌≡◌, ℕ, ◌+◌, ◌<◌, ◌≤◌, ◌==◌, ◌⊎◌, slice_index_or, Contains, List, [], ◌∷◌, ◌++◌, length, map, take, if◌then◌else◌}
+use Rattle.std.specs.Prelude.{◌≡◌, ℕ, ◌+◌, ◌<◌, ◌≤◌, ◌==◌, ◌⊎◌, slice_index_or, Contains, List, [], ◌∷◌, ◌++◌, length, map, take, drop, if◌then◌else◌}
 use Rattle.cmh_frames.specs.declared.frame.Frame.{Frame}
 use Rattle.cmh_frames.specs.Topology.{Topology}
 use Rattle.cmh_model.specs.declared.event.Event.{Event}
+use Rattle.cmh_model.specs.declared.event.Event.TheVariants.{Got}
 use Rattle.cmh_model.specs.declared.journal.Entry.{Entry}
 use Rattle.cmh_model.specs.Journals.{IsLawful, frames_to, frame_from, sendings_of, receipts_of}
 use Rattle.cmh_model.specs.Runs.{IsBeginningOf, ComeFromRun}
@@ -27,6 +28,17 @@ pub record CanGrow (t : Topology) (site : ℕ) (held : ℕ → List Entry) (e : 
 abbrev pub IsNextFrame : Links → ℕ → Event → Type 0
 IsNextFrame links site event = (a : ℕ) → IsBeginningOf (frame_from a event) (waiting links a site)
 
+-- the frame that the event got, if it got one, was the next of its link and is gone
+abbrev pub ReceivesFrame : Links → Links → ℕ → Event → Type 0
+ReceivesFrame old new site event =
+    (a b : ℕ) → (if site == b then frame_from a event else []) ++ waiting new a b ≡ waiting old a b
+
+-- the event got a frame of this site that is not the next of its link
+pub record LacksFrame (links : Links) (site : ℕ) (event : Event) (from : ℕ) : Type 0 where
+  pub frame : Frame
+  pub got : event ≡ Got from frame
+  pub not_next : IsNextFrame links site event → ⊥
+
 -- the links after the site sent these frames
 abbrev pub SendsFrames : Links → Links → ℕ → List (ℕ × Frame) → Type 0
 SendsFrames old new site sent =
@@ -47,6 +59,16 @@ pub record IsLawfulLength (t : Topology) (site : ℕ) (entries : List Entry) (n 
 -- how many entries each journal has
 abbrev pub entry_counts : List Journal → List ℕ
 entry_counts journals = map (λ (j : Journal). length j.entries) journals
+
+-- the entries of each journal
+abbrev pub entries_each : List Journal → List (List Entry)
+entries_each journals = map (λ (j : Journal). j.entries) journals
+
+-- of each journal the entries behind those that were taken
+pub record AreLeftAt (journals : List Journal) (counts : List ℕ) (walks : List (List Entry)) : Type 0 where
+  pub one_each : length walks ≡ length journals
+  pub left : (k : ℕ) (j : Journal) → k < length journals → j ≡ slice_index_or journals k j
+      → slice_index_or walks k [] ≡ drop (slice_index_or counts k 0) j.entries
 
 -- one for each journal
 abbrev pub AreLawfulLengths : Topology → List Journal → List ℕ → Type 0
@@ -96,8 +118,3 @@ abbrev pub AreLeft : List Journal → List ℕ → Links → Type 0
 AreLeft journals counts links =
     (a b : ℕ) → receipts_of a (taken_of journals counts b) ++ waiting links a b
     ≡ sendings_of b (taken_of journals counts a)
-
--- the same where all entries were taken
-abbrev pub AreAllLeft : List Journal → Links → Type 0
-AreAllLeft journals links =
-    (a b : ℕ) → receipts_of a (journal_of journals b) ++ waiting links a b ≡ sendings_of b (journal_of journals a)

@@ -1,135 +1,148 @@
-use Rattle.std.proofs.Common.{subst₂, ◌≡◌, ◌<◌, ◌+◌, ℕ, List, [], ◌∷◌, ◌++◌, take, drop, set, get_or, length, replicate, None, subst, sym, ap, ◌∙◌, refl, arith, true≢false, length-append, rules}
-use Rattle.cmh_audit.specs.declared.step.Step.{Step}
+use Rattle.std.proofs.Common.{◌≡◌, ◌<◌, ◌+◌, ℕ, List, [], ◌∷◌, set, length, replicate, None, Some, subst, subst₂, sym, ap, ◌∙◌, arith, length-append, rules}
 use Rattle.cmh_journal.specs.Journal.{Journal}
+use Rattle.cmh_audit.specs.declared.step.Step.{Step}
 use Rattle.cmh_audit.specs.Journals.{OneEach}
-use Rattle.cmh_audit.specs.Inner.Merging.{AreTried}
-use Rattle.cmh_audit.specs.Inner.Ready.{Wakes}
-use Rattle.cmh_model.proofs.Beginnings.{empty_list}
+use Rattle.cmh_audit.specs.Inner.Merging.{AreLeftAt}
+use Rattle.cmh_audit.specs.Inner.Ready.{ArePlaces, Wakes, with_turn}
+use Rattle.std.specs.Prelude.{IfNone}
 use Rattle.cmh_audit.proofs.CountLemmas.{length-limits}
-use Rattle.cmh_audit.proofs.MoveLemmas.{next_other}
-use Rattle.cmh_audit.proofs.ReadyLemmas.{Listed, limit_read, listed_start, listed_end, listed_tries, place_in, looked_done, looked_past, looked_parked, looked_took, work, work_step}
-use Rattle.cmh_audit.proofs.OrderLemmas.{IsKept, kept_start, kept_took, order_took}
+use Rattle.cmh_audit.proofs.LookLemmas.{place_in, looked_past, looked_done, looked_parked, looked_took, turn_is, took_left, took_less, took_order}
+use Rattle.cmh_audit.proofs.OrderLemmas.{IsKept, kept_start, kept_took}
+use Rattle.cmh_audit.proofs.ReadyLemmas.{Listed, listed_start, listed_end, listed_tries, work}
+use Rattle.cmh_audit.proofs.WalkLemmas.{left_start}
 use Rattle.cmh_audit.proofs.merge.merge.Goals as goal
 
-pub loop-i-init : goal.loop-i-init
-loop-i-init c =
+pub loop-turn-init : goal.loop-turn-init
+loop-turn-init c =
+    let js = c.args.journals.now in
     let zeros : c.in_ok-taken.taken.items ≡ replicate (length c.args.journals.now) 0 = search rules in
-    let L : List ℕ → Type 0 = λ counts. Listed c.args.topology.now c.args.journals.now c.args.limits.now counts c.new-links.result c.in_ok-lacks.lacks.items c.in_ok-ready.ready.items 0 in
     let none : c.in_ok-lacks.lacks.items ≡ replicate (length c.args.journals.now) None = search rules in
-    let O : List ℕ → List Step → Type 0 = λ counts steps. IsKept c.args.keeps_order c.args.topology.now c.args.journals.now counts steps in (
-      subst L (sym zeros) (listed_start c.args.topology.now c.args.journals.now c.args.limits.now c.new-links.result c.in_ok-lacks.lacks.items c.in_ok-ready.ready.items c.new-links.ensures none c.in_ok-ready.ensures),
-      subst₂ O (sym zeros) (sym c.new-steps.ensures.items) (kept_start c.args.keeps_order c.args.topology.now c.args.journals.now),
-    )
+    let ready = with_turn c.last_of-turn.result c.last_of-turn.new.ready.items in
+    let places = subst (λ r. ArePlaces r (length js)) (sym c.last_of-turn.ensures.list) c.in_ok-ready.ensures in
+    let L : List ℕ → Type 0 = λ counts. Listed c.args.topology.now js c.args.limits.now counts c.new-links.result c.in_ok-lacks.lacks.items ready 0 in
+    let A : List ℕ → Type 0 = λ counts. AreLeftAt js counts c.in_ok-walks.walks.items in
+    let O : List ℕ → List Step → Type 0 = λ counts steps. IsKept c.args.keeps_order c.args.topology.now js counts steps in
+    record {
+      listed = subst L (sym zeros) (listed_start c.args.topology.now js c.args.limits.now c.new-links.result c.in_ok-lacks.lacks.items ready c.new-links.ensures none places);
+      last = c.last_of-turn.ensures.none;
+      left = subst A (sym zeros) (left_start js c.in_ok-walks.walks.items c.in_ok-walks.ensures);
+      kept = subst₂ O (sym zeros) (sym c.new-steps.ensures.items) (kept_start c.args.keeps_order c.args.topology.now js);
+    }
+
+-- ---- places in range
 
 pub bounds-journals-i : goal.bounds-journals-i
-bounds-journals-i c = place_in c.args.topology.now c.args.journals.now c.args.limits.now c.loop-i.taken.items c.loop-i.links c.loop-i.lacks.items c.loop-i.ready.items c.pop.new.self.items c.loop-i.tries c.in-Some.i c.loop-i.invariant.0 c.in-Some.ensures.items
+bounds-journals-i c = place_in c.loop-turn.invariant.listed c.loop-turn.ready.items c.in-Some.i (turn_is c.loop-turn.turn c.loop-turn.ready.items c.in-Some.i c.in-Some.is)
 
 pub offset_bounds-journals-i : goal.offset_bounds-journals-i
-offset_bounds-journals-i c = let h = place_in c.args.topology.now c.args.journals.now c.args.limits.now c.loop-i.taken.items c.loop-i.links c.loop-i.lacks.items c.loop-i.ready.items c.pop.new.self.items c.loop-i.tries c.in-Some.i c.loop-i.invariant.0 c.in-Some.ensures.items in let few = c.requires.few in omega (arith, h, few)
+offset_bounds-journals-i c = let h = place_in c.loop-turn.invariant.listed c.loop-turn.ready.items c.in-Some.i (turn_is c.loop-turn.turn c.loop-turn.ready.items c.in-Some.i c.in-Some.is) in let few = c.requires.few in omega (arith, h, few)
 
 pub index-at-requires : goal.index-at-requires
-index-at-requires c = let h = place_in c.args.topology.now c.args.journals.now c.args.limits.now c.loop-i.taken.items c.loop-i.links c.loop-i.lacks.items c.loop-i.ready.items c.pop.new.self.items c.loop-i.tries c.in-Some.i c.loop-i.invariant.0 c.in-Some.ensures.items in let n = c.loop-i.invariant.0.merging.each in let w = c.loop-i.taken.ok.0 in omega (arith, h, n, w)
+index-at-requires c = let h = place_in c.loop-turn.invariant.listed c.loop-turn.ready.items c.in-Some.i (turn_is c.loop-turn.turn c.loop-turn.ready.items c.in-Some.i c.in-Some.is) in let n = c.loop-turn.invariant.listed.merging.each in let w = c.loop-turn.taken.ok.0 in omega (arith, h, n, w)
+
+pub index-requires : goal.index-requires
+index-requires c = let h = place_in c.loop-turn.invariant.listed c.loop-turn.ready.items c.in-Some.i (turn_is c.loop-turn.turn c.loop-turn.ready.items c.in-Some.i c.in-Some.is) in let n = c.loop-turn.invariant.left.one_each in let w = c.loop-turn.walks.ok.0 in omega (arith, h, n, w)
 
 pub bounds-limits-i : goal.bounds-limits-i
 bounds-limits-i c =
-    let h = place_in c.args.topology.now c.args.journals.now c.args.limits.now c.loop-i.taken.items c.loop-i.links c.loop-i.lacks.items c.loop-i.ready.items c.pop.new.self.items c.loop-i.tries c.in-Some.i c.loop-i.invariant.0 c.in-Some.ensures.items in
+    let h = place_in c.loop-turn.invariant.listed c.loop-turn.ready.items c.in-Some.i (turn_is c.loop-turn.turn c.loop-turn.ready.items c.in-Some.i c.in-Some.is) in
     let n = length-limits c.args.topology.now c.args.journals.now c.args.limits.now c.requires.lawful in
     omega (arith, h, n)
 
 pub offset_bounds-limits-i : goal.offset_bounds-limits-i
-offset_bounds-limits-i c =
-    let h = place_in c.args.topology.now c.args.journals.now c.args.limits.now c.loop-i.taken.items c.loop-i.links c.loop-i.lacks.items c.loop-i.ready.items c.pop.new.self.items c.loop-i.tries c.in-Some.i c.loop-i.invariant.0 c.in-Some.ensures.items in
-    let few = c.requires.few in
-    omega (arith, h, few)
+offset_bounds-limits-i c = let h = place_in c.loop-turn.invariant.listed c.loop-turn.ready.items c.in-Some.i (turn_is c.loop-turn.turn c.loop-turn.ready.items c.in-Some.i c.in-Some.is) in let few = c.requires.few in omega (arith, h, few)
 
 pub index_mut-requires : goal.index_mut-requires
-index_mut-requires c = let h = place_in c.args.topology.now c.args.journals.now c.args.limits.now c.loop-i.taken.items c.loop-i.links c.loop-i.lacks.items c.loop-i.ready.items c.pop.new.self.items c.loop-i.tries c.in-Some.i c.loop-i.invariant.0 c.in-Some.ensures.items in let n = c.loop-i.invariant.0.merging.each in let w = c.loop-i.taken.ok.0 in omega (arith, h, n, w)
+index_mut-requires c = let h = place_in c.loop-turn.invariant.listed c.loop-turn.ready.items c.in-Some.i (turn_is c.loop-turn.turn c.loop-turn.ready.items c.in-Some.i c.in-Some.is) in let n = c.loop-turn.invariant.listed.long in let w = c.loop-turn.lacks.ok.0 in omega (arith, h, n, w)
 
-pub index_mut-requires-in-Got : goal.index_mut-requires-in-Got
-index_mut-requires-in-Got c = let h = place_in c.args.topology.now c.args.journals.now c.args.limits.now c.loop-i.taken.items c.loop-i.links c.loop-i.lacks.items c.loop-i.ready.items c.pop.new.self.items c.loop-i.tries c.in-Some.i c.loop-i.invariant.0 c.in-Some.ensures.items in let n = c.loop-i.invariant.0.long in let w = c.loop-i.lacks.ok.0 in omega (arith, h, n, w)
+pub index_mut-requires-in-Some : goal.index_mut-requires-in-Some
+index_mut-requires-in-Some c = let h = place_in c.loop-turn.invariant.listed c.loop-turn.ready.items c.in-Some.i (turn_is c.loop-turn.turn c.loop-turn.ready.items c.in-Some.i c.in-Some.is) in let n = c.loop-turn.invariant.listed.merging.each in let w = c.loop-turn.taken.ok.0 in omega (arith, h, n, w)
+
+pub index_mut-requires-in-Some-2 : goal.index_mut-requires-in-Some-2
+index_mut-requires-in-Some-2 c = let h = place_in c.loop-turn.invariant.listed c.loop-turn.ready.items c.in-Some.i (turn_is c.loop-turn.turn c.loop-turn.ready.items c.in-Some.i c.in-Some.is) in let n = c.loop-turn.invariant.left.one_each in let w = c.loop-turn.walks.ok.0 in omega (arith, h, n, w)
 
 pub overflow_add-tries : goal.overflow_add-tries
 overflow_add-tries c =
-    let b = listed_tries c.args.topology.now c.args.journals.now c.args.limits.now c.loop-i.taken.items c.loop-i.links c.loop-i.lacks.items c.loop-i.ready.items c.loop-i.tries c.requires.lawful c.loop-i.invariant.0 in
-    let n = ap length c.in-Some.ensures.items ∙ length-append c.pop.new.self.items (c.in-Some.i ∷ []) in
+    let b = listed_tries c.requires.lawful c.loop-turn.invariant.listed in
+    let n = ap length (turn_is c.loop-turn.turn c.loop-turn.ready.items c.in-Some.i c.in-Some.is) ∙ length-append c.loop-turn.ready.items (c.in-Some.i ∷ []) in
     let s = c.requires.small in
     omega (arith, b, n, s)
 
-pub move_frames-requires : goal.move_frames-requires
-move_frames-requires c = c.if-is_next.ensures.0 refl
+pub send_all-requires-clause-long : goal.send_all-requires-clause-long
+send_all-requires-clause-long c = c.loop-turn.invariant.listed.long ∙ sym (ap length c.in_ok-places.ensures)
 
-pub loop-i-preserved-in-Continue-branch-8 : goal.loop-i-preserved-in-Continue-branch-8
-loop-i-preserved-in-Continue-branch-8 c =
-    let lacks = take c.loop-i.lacks.len (c.wake.new.lacks ++ drop (length c.wake.new.lacks) c.loop-i.lacks.items) in
-    let W : List Journal → Type 0 = λ js. Wakes js c.as_slice-sent.result.now c.pop.new.self.items c.wake.new.ready.items c.deref_mut.result.now c.wake.new.lacks c.site-site.result (length c.as_slice-sent.result.now) in
-    let woken = subst W c.in_ok-places.ensures c.in_ok-wake.ensures in (
-      subst (λ r. Listed c.args.topology.now c.args.journals.now c.args.limits.now (set c.loop-i.taken.items c.in-Some.i (c.index-at.result.now + 1)) c.move_frames.new.links lacks r (c.loop-i.tries + 1)) (sym c.in_ok-push.ensures.items)
-          (looked_took c.args.topology.now c.args.journals.now c.args.limits.now c.loop-i.taken.items c.loop-i.links c.move_frames.new.links c.loop-i.lacks.items c.deref_mut.result.now c.wake.new.lacks c.loop-i.ready.items c.pop.new.self.items c.wake.new.ready.items
-          c.loop-i.tries c.in-Some.i c.index-at.result.now (get_or c.args.limits.now c.in-Some.i 0) c.site-site.result c.loop-i.lacks.len c.index-journals-i.result c.entries-entries.result.now c.index-entries-at.result c.as_slice-sent.result.now c.requires.once c.requires.lawful c.loop-i.invariant.0 c.in-Some.ensures.items
-          c.index-at.ensures (limit_read c.args.topology.now c.args.journals.now c.args.limits.now c.in-Some.i c.requires.lawful (place_in c.args.topology.now c.args.journals.now c.args.limits.now c.loop-i.taken.items c.loop-i.links c.loop-i.lacks.items c.loop-i.ready.items c.pop.new.self.items c.loop-i.tries c.in-Some.i c.loop-i.invariant.0 c.in-Some.ensures.items)) c.index-journals-i.is c.site-site.ensures c.entries-entries.ensures.value c.if-at-limit.true c.index-entries-at.is (c.if-is_next.ensures.0 refl) c.in_ok-move_frames.ensures c.as_slice-sent.ensures woken c.deref_mut.ensures.value c.loop-i.lacks.ok.0),
-      kept_took c.args.keeps_order c.args.topology.now c.args.journals.now c.loop-i.taken.items (set c.loop-i.taken.items c.in-Some.i (c.index-at.result.now + 1)) c.loop-i.steps.items c.keep.new.steps.items (record { journal = c.in-Some.i; entry = c.index-at.result.now }) c.in_ok-keep.ensures
-          (λ order. order_took c.args.topology.now c.args.journals.now c.args.limits.now c.loop-i.taken.items c.loop-i.links c.move_frames.new.links c.loop-i.lacks.items c.loop-i.ready.items c.pop.new.self.items
-          c.loop-i.tries c.in-Some.i c.index-at.result.now (get_or c.args.limits.now c.in-Some.i 0) c.site-site.result c.index-journals-i.result c.entries-entries.result.now c.index-entries-at.result c.loop-i.steps.items c.requires.once c.requires.lawful c.loop-i.invariant.0 order c.in-Some.ensures.items
-          c.index-at.ensures (limit_read c.args.topology.now c.args.journals.now c.args.limits.now c.in-Some.i c.requires.lawful (place_in c.args.topology.now c.args.journals.now c.args.limits.now c.loop-i.taken.items c.loop-i.links c.loop-i.lacks.items c.loop-i.ready.items c.pop.new.self.items c.loop-i.tries c.in-Some.i c.loop-i.invariant.0 c.in-Some.ensures.items)) c.index-journals-i.is c.site-site.ensures c.entries-entries.ensures.value c.if-at-limit.true c.index-entries-at.is (c.if-is_next.ensures.0 refl) c.in_ok-move_frames.ensures) c.loop-i.invariant.1,
-    )
+pub send_all-requires-clause-once : goal.send_all-requires-clause-once
+send_all-requires-clause-once c = subst OneEach (sym c.in_ok-places.ensures) c.requires.once
 
-pub loop-i-smaller-in-Continue-branch-8 : goal.loop-i-smaller-in-Continue-branch-8
-loop-i-smaller-in-Continue-branch-8 c =
-    let W : List Journal → Type 0 = λ js. Wakes js c.as_slice-sent.result.now c.pop.new.self.items c.wake.new.ready.items c.deref_mut.result.now c.wake.new.lacks c.site-site.result (length c.as_slice-sent.result.now) in
-    let woken = subst W c.in_ok-places.ensures c.in_ok-wake.ensures in
-    subst (λ r. work c.args.journals.now (set c.loop-i.taken.items c.in-Some.i (c.index-at.result.now + 1)) r < work c.args.journals.now c.loop-i.taken.items c.loop-i.ready.items) (sym c.in_ok-push.ensures.items)
-    (work_step c.args.topology.now c.args.journals.now c.args.limits.now c.loop-i.taken.items c.loop-i.links c.loop-i.lacks.items c.loop-i.ready.items c.pop.new.self.items (c.wake.new.ready.items ++ c.in-Some.i ∷ []) _ c.move_frames.new.links
-    c.loop-i.tries c.in-Some.i c.index-at.result.now c.requires.lawful c.loop-i.invariant.0 c.in-Some.ensures.items c.index-at.ensures
-    (looked_took c.args.topology.now c.args.journals.now c.args.limits.now c.loop-i.taken.items c.loop-i.links c.move_frames.new.links c.loop-i.lacks.items c.deref_mut.result.now c.wake.new.lacks c.loop-i.ready.items c.pop.new.self.items c.wake.new.ready.items
-    c.loop-i.tries c.in-Some.i c.index-at.result.now (get_or c.args.limits.now c.in-Some.i 0) c.site-site.result c.loop-i.lacks.len c.index-journals-i.result c.entries-entries.result.now c.index-entries-at.result c.as_slice-sent.result.now c.requires.once c.requires.lawful c.loop-i.invariant.0 c.in-Some.ensures.items
-    c.index-at.ensures (limit_read c.args.topology.now c.args.journals.now c.args.limits.now c.in-Some.i c.requires.lawful (place_in c.args.topology.now c.args.journals.now c.args.limits.now c.loop-i.taken.items c.loop-i.links c.loop-i.lacks.items c.loop-i.ready.items c.pop.new.self.items c.loop-i.tries c.in-Some.i c.loop-i.invariant.0 c.in-Some.ensures.items)) c.index-journals-i.is c.site-site.ensures c.entries-entries.ensures.value c.if-at-limit.true c.index-entries-at.is (c.if-is_next.ensures.0 refl) c.in_ok-move_frames.ensures c.as_slice-sent.ensures woken c.deref_mut.ensures.value c.loop-i.lacks.ok.0))
+-- ---- a look
 
-pub wake-requires-clause-long : goal.wake-requires-clause-long
-wake-requires-clause-long c = ap length c.deref_mut.ensures.value ∙ c.loop-i.invariant.0.long ∙ sym (ap length c.in_ok-places.ensures)
+pub loop-turn-preserved-in_default-next_entry : goal.loop-turn-preserved-in_default-next_entry
+loop-turn-preserved-in_default-next_entry c =
+    let next = c.last_of-turn-in_default-next_entry.ensures in
+    record {
+      listed = subst (λ r. Listed c.args.topology.now c.args.journals.now c.args.limits.now c.loop-turn.taken.items c.loop-turn.links c.loop-turn.lacks.items r c.loop-turn.tries) (sym next.list)
+          (looked_past c.loop-turn.invariant.listed c.loop-turn.ready.items c.in-Some.i (turn_is c.loop-turn.turn c.loop-turn.ready.items c.in-Some.i c.in-Some.is) c.loop-turn.invariant.left c.index-at.result.now c.index-journals-i.result c.index.result.now c.index-at.ensures c.index-journals-i.is c.index.ensures c.requires.lawful (sym c.copy-ahead.ensures ∙ c.in_default-next_entry.ensures.0));
+      last = next.none;
+      left = c.loop-turn.invariant.left;
+      kept = c.loop-turn.invariant.kept;
+    }
 
-pub wake-requires-clause-once : goal.wake-requires-clause-once
-wake-requires-clause-once c = subst OneEach (sym c.in_ok-places.ensures) c.requires.once
+pub loop-turn-preserved-then-at-limits : goal.loop-turn-preserved-then-at-limits
+loop-turn-preserved-then-at-limits c =
+    let next = c.last_of-turn-then-at-limits.ensures in
+    record {
+      listed = subst (λ r. Listed c.args.topology.now c.args.journals.now c.args.limits.now c.loop-turn.taken.items c.loop-turn.links c.loop-turn.lacks.items r (c.loop-turn.tries + 1)) (sym next.list)
+          (looked_done c.loop-turn.invariant.listed c.loop-turn.ready.items c.in-Some.i (turn_is c.loop-turn.turn c.loop-turn.ready.items c.in-Some.i c.in-Some.is) c.loop-turn.invariant.left c.index-at.result.now c.index-journals-i.result c.index.result.now c.index-at.ensures c.index-journals-i.is c.index.ensures c.requires.lawful
+          c.in-Some-next_entry.entry c.next_entry.new.self (sym c.copy-ahead.ensures ∙ c.in-Some-next_entry.ensures) c.if-at-limits.true);
+      last = next.none;
+      left = c.loop-turn.invariant.left;
+      kept = c.loop-turn.invariant.kept;
+    }
 
-pub loop-i-preserved-in-Got : goal.loop-i-preserved-in-Got
-loop-i-preserved-in-Got c = (
-  looked_parked c.args.topology.now c.args.journals.now c.args.limits.now c.loop-i.taken.items c.loop-i.links c.loop-i.lacks.items c.loop-i.ready.items c.pop.new.self.items c.loop-i.tries c.in-Some.i c.index-at.result.now (get_or c.args.limits.now c.in-Some.i 0) c.site-site.result c.index-journals-i.result c.entries-entries.result.now c.in-Got.from c.in-Got.frame c.index-entries-at.result
-      c.requires.lawful c.loop-i.invariant.0 c.in-Some.ensures.items c.index-at.ensures (limit_read c.args.topology.now c.args.journals.now c.args.limits.now c.in-Some.i c.requires.lawful (place_in c.args.topology.now c.args.journals.now c.args.limits.now c.loop-i.taken.items c.loop-i.links c.loop-i.lacks.items c.loop-i.ready.items c.pop.new.self.items c.loop-i.tries c.in-Some.i c.loop-i.invariant.0 c.in-Some.ensures.items)) c.index-journals-i.is c.site-site.ensures c.entries-entries.ensures.value
-      c.if-at-limit.true c.index-entries-at.is c.in-Got.is (λ h. true≢false (sym (c.if-is_next.ensures.1 h))),
-  c.loop-i.invariant.1,
-)
+pub loop-turn-preserved-in-Some-receive : goal.loop-turn-preserved-in-Some-receive
+loop-turn-preserved-in-Some-receive c =
+    let next = c.last_of-turn-in-Some-receive.ensures in
+    let lacks = set c.loop-turn.lacks.items c.in-Some.i (Some c.in-Some-receive.from) in
+    record {
+      listed = subst₂ (λ links r. Listed c.args.topology.now c.args.journals.now c.args.limits.now c.loop-turn.taken.items links lacks r (c.loop-turn.tries + 1)) (sym c.in-Some-receive.ensures.0) (sym next.list)
+          (looked_parked c.loop-turn.invariant.listed c.loop-turn.ready.items c.in-Some.i (turn_is c.loop-turn.turn c.loop-turn.ready.items c.in-Some.i c.in-Some.is) c.loop-turn.invariant.left c.index-at.result.now c.index-journals-i.result c.index.result.now c.index-at.ensures c.index-journals-i.is c.index.ensures c.requires.lawful
+          c.in-Some-next_entry.entry c.next_entry.new.self (sym c.copy-ahead.ensures ∙ c.in-Some-next_entry.ensures) c.site-site.result c.in-Some-receive.from c.site-site.ensures c.if-at-limits.false c.in-Some-receive.ensures.1);
+      last = next.none;
+      left = c.loop-turn.invariant.left;
+      kept = c.loop-turn.invariant.kept;
+    }
 
-pub loop-i-preserved-in_default-event : goal.loop-i-preserved-in_default-event
-loop-i-preserved-in_default-event c =
-    absurd (true≢false (sym (c.if-is_next.ensures.1 (next_other c.loop-i.links c.site-site.result c.index-entries-at.result.event c.in_default-event.not-Got))))
+pub loop-turn-preserved : goal.loop-turn-preserved
+loop-turn-preserved c =
+    let counts = set c.loop-turn.taken.items c.in-Some.i (c.index-at.result.now + 1) in
+    let W : List Journal → Type 0 = λ js. Wakes js c.in-Some-next_entry.entry.sent c.loop-turn.ready.items c.send_all.new.ready.items c.loop-turn.lacks.items c.send_all.new.lacks.items c.site-site.result in
+    let woken = subst W c.in_ok-places.ensures c.in_ok-send_all.ensures.wakes in
+    record {
+      listed = looked_took c.loop-turn.invariant.listed c.loop-turn.ready.items c.in-Some.i (turn_is c.loop-turn.turn c.loop-turn.ready.items c.in-Some.i c.in-Some.is) c.loop-turn.invariant.left c.index-at.result.now c.index-journals-i.result c.index.result.now c.index-at.ensures c.index-journals-i.is c.index.ensures c.requires.lawful
+          c.in-Some-next_entry.entry c.next_entry.new.self (sym c.copy-ahead.ensures ∙ c.in-Some-next_entry.ensures) c.receive.new.links c.send_all.new.links c.send_all.new.lacks.items c.send_all.new.ready.items c.site-site.result c.requires.once c.site-site.ensures c.if-at-limits.false c.in_default-receive.ensures c.in_ok-send_all.ensures.sends woken;
+      last = tt;
+      left = took_left c.loop-turn.invariant.listed c.loop-turn.ready.items c.in-Some.i (turn_is c.loop-turn.turn c.loop-turn.ready.items c.in-Some.i c.in-Some.is) c.loop-turn.invariant.left c.index-at.result.now c.index-journals-i.result c.index.result.now c.index-at.ensures c.index-journals-i.is c.index.ensures c.requires.lawful
+          c.in-Some-next_entry.entry c.next_entry.new.self (sym c.copy-ahead.ensures ∙ c.in-Some-next_entry.ensures) c.receive.new.links c.send_all.new.links c.send_all.new.lacks.items c.send_all.new.ready.items c.site-site.result c.requires.once c.site-site.ensures c.if-at-limits.false c.in_default-receive.ensures c.in_ok-send_all.ensures.sends woken;
+      kept = kept_took c.args.keeps_order c.args.topology.now c.args.journals.now c.loop-turn.taken.items counts c.loop-turn.steps.items c.keep.new.steps.items (record { journal = c.in-Some.i; entry = c.index-at.result.now }) c.in_ok-keep.ensures
+          (took_order c.loop-turn.invariant.listed c.loop-turn.ready.items c.in-Some.i (turn_is c.loop-turn.turn c.loop-turn.ready.items c.in-Some.i c.in-Some.is) c.loop-turn.invariant.left c.index-at.result.now c.index-journals-i.result c.index.result.now c.index-at.ensures c.index-journals-i.is c.index.ensures c.requires.lawful
+          c.in-Some-next_entry.entry c.next_entry.new.self (sym c.copy-ahead.ensures ∙ c.in-Some-next_entry.ensures) c.receive.new.links c.send_all.new.links c.send_all.new.lacks.items c.send_all.new.ready.items c.site-site.result c.requires.once c.site-site.ensures c.if-at-limits.false c.in_default-receive.ensures c.in_ok-send_all.ensures.sends woken c.loop-turn.steps.items) c.loop-turn.invariant.kept;
+    }
 
-pub loop-i-preserved-else-at-limit : goal.loop-i-preserved-else-at-limit
-loop-i-preserved-else-at-limit c = (
-  looked_done c.args.topology.now c.args.journals.now c.args.limits.now c.loop-i.taken.items c.loop-i.links c.loop-i.lacks.items c.loop-i.ready.items c.pop.new.self.items c.loop-i.tries c.in-Some.i c.index-at.result.now (get_or c.args.limits.now c.in-Some.i 0) c.index-journals-i.result c.entries-entries.result.now c.requires.lawful c.loop-i.invariant.0 c.in-Some.ensures.items c.index-at.ensures (limit_read c.args.topology.now c.args.journals.now c.args.limits.now c.in-Some.i c.requires.lawful (place_in c.args.topology.now c.args.journals.now c.args.limits.now c.loop-i.taken.items c.loop-i.links c.loop-i.lacks.items c.loop-i.ready.items c.pop.new.self.items c.loop-i.tries c.in-Some.i c.loop-i.invariant.0 c.in-Some.ensures.items)) c.index-journals-i.is c.entries-entries.ensures.value c.if-at-entries.true c.if-at-limit.false,
-  c.loop-i.invariant.1,
-)
+pub loop-turn-smaller : goal.loop-turn-smaller
+loop-turn-smaller c =
+    let W : List Journal → Type 0 = λ js. Wakes js c.in-Some-next_entry.entry.sent c.loop-turn.ready.items c.send_all.new.ready.items c.loop-turn.lacks.items c.send_all.new.lacks.items c.site-site.result in
+    let woken = subst W c.in_ok-places.ensures c.in_ok-send_all.ensures.wakes in
+    took_less c.loop-turn.invariant.listed c.loop-turn.ready.items c.in-Some.i (turn_is c.loop-turn.turn c.loop-turn.ready.items c.in-Some.i c.in-Some.is) c.loop-turn.invariant.left c.index-at.result.now c.index-journals-i.result c.index.result.now c.index-at.ensures c.index-journals-i.is c.index.ensures c.requires.lawful
+    c.in-Some-next_entry.entry c.next_entry.new.self (sym c.copy-ahead.ensures ∙ c.in-Some-next_entry.ensures) c.receive.new.links c.send_all.new.links c.send_all.new.lacks.items c.send_all.new.ready.items c.site-site.result c.requires.once c.site-site.ensures c.if-at-limits.false c.in_default-receive.ensures c.in_ok-send_all.ensures.sends woken
 
-pub loop-i-preserved : goal.loop-i-preserved
-loop-i-preserved c = (
-  looked_past c.args.topology.now c.args.journals.now c.args.limits.now c.loop-i.taken.items c.loop-i.links c.loop-i.lacks.items c.loop-i.ready.items c.pop.new.self.items c.loop-i.tries c.in-Some.i c.index-at.result.now c.index-journals-i.result c.entries-entries.result.now c.requires.lawful c.loop-i.invariant.0 c.in-Some.ensures.items c.index-at.ensures c.index-journals-i.is c.entries-entries.ensures.value c.if-at-entries.false,
-  c.loop-i.invariant.1,
-)
+-- ---- the end
 
 pub returns-clause-stuck : goal.returns-clause-stuck
 returns-clause-stuck c =
-    let none : c.loop-i.ready.items ≡ [] = empty_list c.loop-i.ready.items (sym c.loop-i.ready.ok.0 ∙ c.in_default.ensures.cases.0) in
-    listed_end c.args.topology.now c.args.journals.now c.args.limits.now c.loop-i.taken.items c.loop-i.links c.loop-i.lacks.items c.loop-i.tries c.requires.once c.requires.lawful
-    (subst (λ r. Listed c.args.topology.now c.args.journals.now c.args.limits.now c.loop-i.taken.items c.loop-i.links c.loop-i.lacks.items r c.loop-i.tries) none c.loop-i.invariant.0)
-
-pub returns-clause-left : goal.returns-clause-left
-returns-clause-left c = c.loop-i.invariant.0.merging.frames
+    let empty = subst (λ turn. IfNone turn (c.loop-turn.ready.items ≡ [])) c.in_default.is c.loop-turn.invariant.last in
+    let none : with_turn c.loop-turn.turn c.loop-turn.ready.items ≡ [] = ap (λ turn. with_turn turn c.loop-turn.ready.items) c.in_default.is ∙ empty in
+    listed_end c.requires.once c.requires.lawful
+    (subst (λ r. Listed c.args.topology.now c.args.journals.now c.args.limits.now c.loop-turn.taken.items c.loop-turn.links c.loop-turn.lacks.items r c.loop-turn.tries) none c.loop-turn.invariant.listed)
 
 pub returns-clause-tries : goal.returns-clause-tries
-returns-clause-tries c = let b = listed_tries c.args.topology.now c.args.journals.now c.args.limits.now c.loop-i.taken.items c.loop-i.links c.loop-i.lacks.items c.loop-i.ready.items c.loop-i.tries c.requires.lawful c.loop-i.invariant.0 in omega (arith, b)
-
-pub returns-clause-looked : goal.returns-clause-looked
-returns-clause-looked c =
-    let none : c.loop-i.ready.items ≡ [] = empty_list c.loop-i.ready.items (sym c.loop-i.ready.ok.0 ∙ c.in_default.ensures.cases.0) in
-    subst (λ r. AreTried c.args.journals.now c.loop-i.taken.items r c.loop-i.tries) none c.loop-i.invariant.0.tried
-
-pub returns-clause-order : goal.returns-clause-order
-returns-clause-order c = c.loop-i.invariant.1
+returns-clause-tries c = let b = listed_tries c.requires.lawful c.loop-turn.invariant.listed in omega (arith, b)

@@ -2,7 +2,7 @@ use Rattle.std.proofs.Common.{◌≤◌, ℕ, List, length, get_or, refl, subst,
 use Rattle.std.specs.List.Sorted.{IsStrictlyIncreasing}
 use Rattle.cmh_waits.proofs.BitLemmas.{no_bit}
 use Rattle.cmh_waits.proofs.RowLemmas.{in_at}
-use Rattle.cmh_dependents.proofs.Awaited.{all_looked_at, look_on, none_looked_at}
+use Rattle.cmh_dependents.proofs.Awaited.{all_leave, all_looked_at, leave_on, look_on, none_leave, none_looked_at}
 use Rattle.cmh_dependents.proofs.BitLemmas.{one_bit}
 use Rattle.cmh_dependents.proofs.Searching.{begin_search, search_on, search_ends, effort_less}
 use Rattle.cmh_dependents.proofs.reach.reached_from.Goals as goal
@@ -15,6 +15,7 @@ loop-work-init c =
     record {
       searching = begin_search v (get_or v.members c.args.start 0) c.args.start _ up c.requires refl (λ k. one_bit c.args.start k (omega (arith, few, c.requires)));
       looked = none_looked_at v _ no_bit;
+      leaving = none_leave v _ no_bit;
     }
 
 pub loop-work-preserved : goal.loop-work-preserved
@@ -28,6 +29,9 @@ loop-work-preserved c =
       looked = look_on v c.loop-work.reached c.loop-work.work c.loop-work.awaited place c.row-row.result c.beyond-fresh.result c.without.result c.loop-work.invariant.looked (s.in_work place c.lowest-place.ensures.set)
           c.row-row.ensures c.beyond-fresh.ensures c.without.ensures.bits c.either-work.result c.either-reached.result c.either-awaited.result
           c.either-work.ensures.bits c.either-reached.ensures.bits c.either-awaited.ensures.bits;
+      leaving = leave_on v c.loop-work.reached c.loop-work.work c.loop-work.leaving place c.beyond-fresh.result c.without.result c.loop-work.invariant.leaving (s.in_work place c.lowest-place.ensures.set)
+          c.without.ensures.bits c.either-work.result c.either-reached.result c.with_leaving-leaving.result
+          c.either-work.ensures.bits c.either-reached.ensures.bits c.with_leaving-leaving.ensures.others c.with_leaving-leaving.ensures.here;
     }
 
 pub loop-work-smaller : goal.loop-work-smaller
@@ -46,3 +50,7 @@ returns-clause-reached c =
 pub returns-clause-awaited : goal.returns-clause-awaited
 returns-clause-awaited c =
     all_looked_at c.args.waits.now c.loop-work.reached c.loop-work.work c.loop-work.awaited c.loop-work-test.false no_bit c.loop-work.invariant.looked
+
+pub returns-clause-leaving : goal.returns-clause-leaving
+returns-clause-leaving c =
+    all_leave c.args.waits.now c.loop-work.reached c.loop-work.work c.loop-work.leaving c.loop-work-test.false no_bit c.loop-work.invariant.leaving

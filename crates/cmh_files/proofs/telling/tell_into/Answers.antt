@@ -30,9 +30,9 @@ returns-clause-wrote g c =
     let cuts = c.in_ok-audited.audited.cuts.items in
     let verdict = c.in_ok-audited.audited.verdict in
     let steps = c.in_ok-steps.steps.items in
-    let journals = c.deref.ensures.value ∙ sym of.journals_are in
+    let journals = c.deref-2.ensures.value ∙ c.in_ok-listed.ensures ∙ c.deref.ensures.value ∙ sym of.journals_are in
     let first = c.as_str.ensures.value ∙ c.in_ok-text.ensures in
-    let lines = ap (λ (js : List Journal). run_text js c.deref-2.result.now) journals ∙ ap (run_text of.audits.journals) c.deref-2.ensures.value in
+    let lines = ap (λ (js : List Journal). run_text js c.deref-3.result.now) journals ∙ ap (run_text of.audits.journals) c.deref-3.ensures.value in
     let both = appends-more _ _ _ _ _ c.in_ok-write_text.ensures.bytes c.in_ok-write_text-2.ensures.bytes in
     record {
       edition = edition;

@@ -1,4 +1,5 @@
-use Rattle.cmh_play.proofs.KeptPlays.{kept_at_end, kept_fault, kept_none}
+use Rattle.std.proofs.lemmas.Result.{on_ok_weaker}
+use Rattle.cmh_play.proofs.KeptPlays.{kept_at_end, kept_none}
 use Rattle.cmh_play.proofs.Plays.{answered_none_err, answered_ended}
 use Rattle.cmh_play.proofs.play.play.Goals as goal
 
@@ -22,4 +23,6 @@ returns-in_err-flushed-clause-answers g c =
 
 pub returns-clause-answers : goal.returns-clause-answers
 returns-clause-answers g c =
-    kept_at_end _ _ _ _ _ _ _ _ _ c.keep.result c.in_ok-played.ensures.all c.flush-flushed.ensures.bytes c.keep.ensures.kept
+    let played = c.in_ok-played.ensures.all in
+    kept_at_end _ _ _ _ _ _ played.game _ _ c.keep_wanted.result played.holds c.flush-flushed.ensures.bytes
+    (on_ok_weaker c.keep_wanted.result (λ kept. kept played.game played.shows) c.keep_wanted.ensures.kept)

@@ -1,6 +1,9 @@
-use Rattle.std.proofs.lemmas.Bool.{ne_eqb}
-use Rattle.cmh_script.proofs.LinesSeen.{no_feed-more}
+use Rattle.std.proofs.Common.{length, arith}
+use Rattle.cmh_script.proofs.LinesSeen.{no_feed-before}
 use Rattle.cmh_script.proofs.device.feed_at.Goals as goal
 
-pub loop-at-preserved : goal.loop-at-preserved
-loop-at-preserved c = no_feed-more c.args.bytes.now c.loop-at.at c.loop-at-test.true c.loop-at.invariant (ne_eqb _ 10 c.if-bytes-at-eq10.false)
+pub returns-in-Some-clause-before : goal.returns-in-Some-clause-before
+returns-in-Some-clause-before c = no_feed-before c.args.bytes.now c.in-Some.at (omega (arith, c.in-Some.ensures.0.high)) c.in-Some.ensures.0.before
+
+pub returns-in-None-clause-before : goal.returns-in-None-clause-before
+returns-in-None-clause-before c = no_feed-before c.args.bytes.now (length c.args.bytes.now) (omega arith) c.in-None.ensures

@@ -22,7 +22,7 @@ loop-target-preserved c =
             len = ap (λ v. length v.items) w.owed-is ∙ length-set rows p w.without_bit.result ∙ c.loop-target.invariant.len;
             bits = λ a b.
                 ap (λ v. bit_of v.items a b) w.owed-is
-                ∙ bit_of-without rows p place w.without_bit.result below (λ k. w.without_bit.ensures k ∙ ap (λ n. not (k == place) && is_set n k) row) a b
+                ∙ bit_of-without rows p place w.without_bit.result below (λ k. w.without_bit.ensures.bits k ∙ ap (λ n. not (k == place) && is_set n k) row) a b
                 ∙ ap (λ t. not ((a == p) && (b == place)) && t) (c.loop-target.invariant.bits a b)
                 ∙ one_less_owes (a == p) (b == place) (is_at_in ms (take i targets) a) (bit_of c.args.owed.now.items a b)
                 ∙ ap (λ t. not ((b == place) && t) && bit_of c.args.owed.now.items a b) (sym (next_member ms targets c.requires.ascending i p c.target-item.result a c.loop-target-test.true c.target-item.is at.0 at.1));

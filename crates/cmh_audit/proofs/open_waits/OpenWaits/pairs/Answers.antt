@@ -1,9 +1,11 @@
 use Rattle.std.proofs.Common.{◌≡◌, ◌↔◌, ◌+◌, ℕ, true, List, [], ◌++◌, map, get_or, subst, sym, ap, ◌∙◌, arith, Contains}
+use Rattle.std.specs.List.Sorted.{IsStrictlyIncreasing}
 use Rattle.std.proofs.lemmas.List.{get_or_default}
-use Rattle.cmh_audit.specs.Inner.Turns.{ArePairsOf, is_open}
+use Rattle.cmh_audit.specs.Turns.{is_open}
+use Rattle.cmh_audit.specs.Inner.Turns.{ArePairsOf}
 use Rattle.cmh_audit.proofs.OpenLemmas.{pairs_begin, pairs_skip, pairs_more, pairs_end}
 use Rattle.cmh_audit.proofs.open_waits.OpenWaits.pairs.Goals as goal
-use Rattle.cmh_audit.proofs.open_waits.OpenWaits.pairs.Goals.{in-Some+in_ok-push_row, in_default}
+use Rattle.cmh_audit.proofs.open_waits.OpenWaits.pairs.Goals.{in-Some+in_ok-holders+in_ok-push_row, in_default}
 
 pub loop-index-init : goal.loop-index-init
 loop-index-init c = subst (ArePairsOf c.self.inside.rows.items 0) (sym c.new-pairs.ensures.items) (pairs_begin c.self.inside.rows.items)
@@ -13,11 +15,11 @@ loop-index-preserved c =
     let rows = c.self.inside.rows.items in
     let n = c.loop-index.index in
     elim c.match-new.branch [
-      | in-Some+in_ok-push_row w ↦
-          let row = w.as_slice.result.now in
-          let here : get_or rows n [] ≡ row = get_or_default rows n [] w.index.result.now (let l = c.loop-index-test.true in let len = c.len-index-end.ensures in omega (arith, l, len)) ∙ sym w.index.ensures ∙ sym w.as_slice.ensures.value in
+      | in-Some+in_ok-holders+in_ok-push_row w ↦
+          let row = w.deref.result.now in
+          let here : get_or rows n [] ≡ row = get_or_default rows n [] w.index.result.now (let l = c.loop-index-test.true in let len = c.len-index-end.ensures in omega (arith, l, len)) ∙ sym w.index.ensures ∙ sym w.in_ok-holders.ensures.value ∙ sym w.deref.ensures.value in
           let all : c.match-new.pairs.items ≡ c.loop-index.pairs.items ++ map (λ k. (n, k)) row = ap (λ vec. vec.items) w.pairs-is ∙ w.in_ok-push_row.ensures ∙ ap (λ p. c.loop-index.pairs.items ++ map (λ k. (p, k)) row) w.in-Some.ensures.1 in
-          subst (ArePairsOf rows (n + 1)) (sym all) (pairs_more rows n c.loop-index.pairs.items c.loop-index.invariant row here w.as_slice.ensures.ascending)
+          subst (ArePairsOf rows (n + 1)) (sym all) (pairs_more rows n c.loop-index.pairs.items c.loop-index.invariant row here (subst IsStrictlyIncreasing (sym w.deref.ensures.value) w.in_ok-holders.ensures.ascending))
       | in_default w ↦ subst (λ vec. ArePairsOf rows (n + 1) vec.items) (sym w.pairs-is) (pairs_skip rows n c.loop-index.pairs.items c.loop-index.invariant c.self.invariant w.in_default.ensures)
     ]
 

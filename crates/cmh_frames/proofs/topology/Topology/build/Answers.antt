@@ -9,7 +9,7 @@ invariant_of-result c =
     let sites_are = c.in_ok-rows.ensures.sites ∙ c.deref.ensures.value in (
       are_tidy c.args.edition c.args.given.now rows _ c.requires c.in_ok-sites.ensures sites_are c.in_ok-rows.ensures.members,
       sym sites_are,
-      (λ p. c.in_ok-homes.ensures p ∙ ap (λ xs. home_in xs p) c.deref-2.ensures.value),
+      (λ p. c.in_ok-homes.ensures p ∙ ap (λ xs. home_in xs p) c.deref-3.ensures.value),
     )
 
 pub returns : goal.returns

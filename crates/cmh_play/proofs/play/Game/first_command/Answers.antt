@@ -1,29 +1,28 @@
-use Rattle.std.proofs.Common.{refl, sym, subst}
+use Rattle.std.proofs.Common.{sym, subst}
 use Rattle.std.proofs.lemmas.Result.{IfOk-weaker}
-use Rattle.cmh_frames.specs.Topology.{Topology, IsTopologyOf}
-use Rattle.cmh_play.proofs.PlayedLines.{commanded}
-use Rattle.cmh_play.specs.Play.{IsWorldOf}
-use Rattle.cmh_play.specs.declared.play.Game.{Game}
+use Rattle.cmh_playground.specs.World.{World}
+use Rattle.cmh_play.proofs.Led.{commands, commands_first}
+use Rattle.cmh_play.specs.Games.{Game}
+use Rattle.cmh_play.specs.Play.{CarriesOut, Commands}
+use Rattle.cmh_play.specs.Showing.{LeadsOn, LeadsPlayed}
+use Rattle.cmh_play.specs.declared.play.Game.{Game as HeldGame}
+use Rattle.cmh_play.specs.declared.play.Game.TheVariants.{Played as HeldPlayed}
+use Rattle.cmh_play.specs.declared.reply.Reply.{Reply}
 use Rattle.cmh_play.proofs.play.Game.first_command.Goals as goal
 
 pub returns-in-Played : goal.returns-in-Played
 returns-in-Played c =
-    IfOk-weaker c.carry_out.result _ _
-    (λ reply done. commanded c.args.self.now c.in-Played.world c.carry_out.new.world c.args.command reply c.in-Played.is done)
+    let new = c.carry_out.new.world in
+    IfOk-weaker c.carry_out.result (λ (reply : Reply). LeadsPlayed (λ (before later : World). CarriesOut before later c.args.command reply) c.in-Played.world new)
+    (λ (reply : Reply). LeadsOn c.args.keeps (λ (before later : Game). Commands before later c.args.command reply) c.args.self.now (HeldPlayed new))
+    (λ reply leads.
+    subst (λ (h : HeldGame). LeadsOn c.args.keeps (λ (before later : Game). Commands before later c.args.command reply) h (HeldPlayed new)) (sym c.in-Played.is)
+    (commands c.args.keeps c.in-Played.world new c.args.command reply leads))
     c.carry_out.ensures
 
 pub returns-in_ok-reply-in-Named : goal.returns-in_ok-reply-in-Named
 returns-in_ok-reply-in-Named c =
-    let draft = c.in-Named.draft in
-    let before = c.in_ok-world-in-Named.world in
-    record {
-      before = before;
-      after = c.carry_out-in-Named.new.world;
-      stands = subst (λ (g : Game). IsWorldOf g before) (sym c.in-Named.is) (record {
-        topology = subst (λ (t : Topology). IsTopologyOf draft.edition draft.rows t) (sym c.in_ok-world-in-Named.ensures.topology) c.topology.ensures;
-        journals = c.in_ok-world-in-Named.ensures.journals;
-        links = c.in_ok-world-in-Named.ensures.links;
-      });
-      done = c.in_ok-reply-in-Named.ensures;
-      kept = refl;
-    }
+    let new = c.carry_out-in-Named.new.world in
+    let reply = c.in_ok-reply-in-Named.reply in
+    subst (λ (h : HeldGame). LeadsOn c.args.keeps (λ (before later : Game). Commands before later c.args.command reply) h (HeldPlayed new)) (sym c.in-Named.is)
+    (commands_first c.args.keeps c.in-Named.draft c.topology.result.now c.in_ok-world-in-Named.world new c.args.command reply c.topology.ensures c.in_ok-world-in-Named.ensures c.in_ok-reply-in-Named.ensures)

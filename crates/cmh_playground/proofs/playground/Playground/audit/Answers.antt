@@ -1,11 +1,24 @@
-use Rattle.std.proofs.Common.{List, sym, subst}
+use Rattle.std.proofs.Common.{Bool, List, sym, subst}
+use Rattle.std.proofs.lemmas.Result.{IfOk-weaker}
+use Rattle.cmh_frames.specs.Topology.{Topology}
 use Rattle.cmh_journal.specs.Journal.{Journal}
-use Rattle.cmh_audit.specs.Set.{IsSet}
-use Rattle.cmh_playground.proofs.Seats.{is_set}
+use Rattle.cmh_audit.specs.Totals.{AreTotalsOfRun}
+use Rattle.cmh_audit.specs.Verdicts.{IsVerdictOn}
+use Rattle.cmh_audit.specs.declared.verdict.Verdict.{Verdict}
+use Rattle.cmh_playground.specs.Held.{Held, Shows}
+use Rattle.cmh_playground.specs.Runs.{IsPlayed}
+use Rattle.cmh_playground.specs.World.{World}
+use Rattle.cmh_playground.proofs.Shown.{totals_of_run}
 use Rattle.cmh_playground.proofs.playground.Playground.audit.Goals as goal
 
-pub audit_lawful-requires-clause-set : goal.audit_lawful-requires-clause-set
-audit_lawful-requires-clause-set c =
-    let w = c.self.inside in
-    let stands = c.self.invariant in
-    subst (λ (js : List Journal). IsSet w.topology js) (sym c.deref.ensures.value) (is_set w.topology w.journals.items stands.ascending stands.placed stands.edition)
+pub returns : goal.returns
+returns c =
+    let held : Held = record { topology = c.self.inside.topology; controllers = c.self.inside.controllers.items; books = c.self.inside.books; links = c.self.inside.links } in
+    IfOk-weaker c.verdict.result (λ (v : Verdict). (journals : List Journal) → AreTotalsOfRun held.topology journals held.books.totals → IsVerdictOn held.topology journals v)
+    (λ (v : Verdict). (keeps : Bool) (world : World) → Shows keeps world c.args.self.now → IsPlayed world → IsVerdictOn world.topology world.journals v)
+    (λ v each keeps world shown played.
+    let shows : Shows keeps world held = subst (λ (h : Held). Shows keeps world h) (sym c.self.view_is) shown in
+    let P : Topology → Type 0 = λ t. AreTotalsOfRun t world.journals held.books.totals in
+    let Q : Topology → Type 0 = λ t. IsVerdictOn t world.journals v in
+    subst Q shows.topology (each world.journals (subst P (sym shows.topology) (totals_of_run keeps world held shows played))))
+    c.verdict.ensures

@@ -9,11 +9,11 @@ invariant_of-result c =
     let waits = c.in_ok-vec.ensures.items_if_clones_equal (λ y e. e) in
     let owed = c.in_ok-vec-2.ensures.items_if_clones_equal (λ y e. e) in (
       new_rows_as ms _ c.requires.ascending same _ _ waits c.in_ok-empty_lists.ensures,
-      new_rows_as ms _ c.requires.ascending same _ _ owed c.in_ok-empty_lists-2.ensures,
-      kept_as _ _ (new_held ms _ c.requires.ascending same _ _ _ _ waits owed c.in_ok-empty_lists.ensures c.in_ok-empty_lists-2.ensures) (kept_nothing ms c.requires.ascending c.requires.few),
+      new_rows_as ms _ c.requires.ascending same _ _ owed c.in_ok-empty_sets.ensures,
+      kept_as _ _ (new_held ms _ c.requires.ascending same _ _ _ _ waits owed c.in_ok-empty_lists.ensures c.in_ok-empty_sets.ensures) (kept_nothing ms c.requires.ascending c.requires.few),
     )
 
 pub returns : goal.returns
 returns c =
     new_held c.args.members.now _ c.requires.ascending (c.in_ok-new.ensures) _ _ _ _
-    (c.in_ok-vec.ensures.items_if_clones_equal (λ y e. e)) (c.in_ok-vec-2.ensures.items_if_clones_equal (λ y e. e)) c.in_ok-empty_lists.ensures c.in_ok-empty_lists-2.ensures
+    (c.in_ok-vec.ensures.items_if_clones_equal (λ y e. e)) (c.in_ok-vec-2.ensures.items_if_clones_equal (λ y e. e)) c.in_ok-empty_lists.ensures c.in_ok-empty_sets.ensures

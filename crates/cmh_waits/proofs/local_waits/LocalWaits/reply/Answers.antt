@@ -21,9 +21,9 @@ invariant_of-self c =
     let up = c.self.invariant.2.ascending in
     let owes = c.index.ensures ∙ get_or_default w.owed.items p c.index.result.now 0 (omega (arith, at.0, c.self.invariant.1.rows_len)) in
     let waits = c.index-in-Some-place_of.ensures ∙ get_or_default w.waits.items q c.index-in-Some-place_of.result.now 0 (omega (arith, to.0, c.self.invariant.0.rows_len)) in (
-      rows_bit_taken ms w.waits.items w.remote_waits.items up c.self.invariant.0 q p c.args.asker c.args.holder to.0 at.0 to.1 at.1 c.index-in-Some-place_of.result.now c.without_bit-in-Some-place_of.result waits c.without_bit-in-Some-place_of.ensures,
-      rows_bit_taken ms w.owed.items w.remote_owed.items up c.self.invariant.1 p q c.args.holder c.args.asker at.0 to.0 at.1 to.1 c.index.result.now c.without_bit.result owes c.without_bit.ensures,
-      kept_as _ _ (same_held ms _ _ _ _ (bit_taken ms w.waits.items w.remote_waits.items up c.self.invariant.0 q p c.args.asker c.args.holder to.0 at.0 to.1 at.1 c.index-in-Some-place_of.result.now c.without_bit-in-Some-place_of.result waits c.without_bit-in-Some-place_of.ensures) (bit_taken ms w.owed.items w.remote_owed.items up c.self.invariant.1 p q c.args.holder c.args.asker at.0 to.0 at.1 to.1 c.index.result.now c.without_bit.result owes c.without_bit.ensures))
+      rows_bit_taken ms w.waits.items w.remote_waits.items up c.self.invariant.0 q p c.args.asker c.args.holder to.0 at.0 to.1 at.1 c.index-in-Some-place_of.result.now c.without_bit-in-Some-place_of.result waits c.without_bit-in-Some-place_of.ensures.bits,
+      rows_bit_taken ms w.owed.items w.remote_owed.items up c.self.invariant.1 p q c.args.holder c.args.asker at.0 to.0 at.1 to.1 c.index.result.now c.without_bit.result owes c.without_bit.ensures.bits,
+      kept_as _ _ (same_held ms _ _ _ _ (bit_taken ms w.waits.items w.remote_waits.items up c.self.invariant.0 q p c.args.asker c.args.holder to.0 at.0 to.1 at.1 c.index-in-Some-place_of.result.now c.without_bit-in-Some-place_of.result waits c.without_bit-in-Some-place_of.ensures.bits) (bit_taken ms w.owed.items w.remote_owed.items up c.self.invariant.1 p q c.args.holder c.args.asker at.0 to.0 at.1 to.1 c.index.result.now c.without_bit.result owes c.without_bit.ensures.bits))
           (kept_replied _ c.args.holder c.args.asker c.self.invariant.2),
     )
 
@@ -38,7 +38,7 @@ returns-in-Some-place_of-clause-value c =
     let up = c.self.invariant.2.ascending in
     let owes = c.index.ensures ∙ get_or_default w.owed.items p c.index.result.now 0 (omega (arith, at.0, c.self.invariant.1.rows_len)) in
     let waits = c.index-in-Some-place_of.ensures ∙ get_or_default w.waits.items q c.index-in-Some-place_of.result.now 0 (omega (arith, to.0, c.self.invariant.0.rows_len)) in
-    same_held ms _ _ _ _ (bit_taken ms w.waits.items w.remote_waits.items up c.self.invariant.0 q p c.args.asker c.args.holder to.0 at.0 to.1 at.1 c.index-in-Some-place_of.result.now c.without_bit-in-Some-place_of.result waits c.without_bit-in-Some-place_of.ensures) (bit_taken ms w.owed.items w.remote_owed.items up c.self.invariant.1 p q c.args.holder c.args.asker at.0 to.0 at.1 to.1 c.index.result.now c.without_bit.result owes c.without_bit.ensures)
+    same_held ms _ _ _ _ (bit_taken ms w.waits.items w.remote_waits.items up c.self.invariant.0 q p c.args.asker c.args.holder to.0 at.0 to.1 at.1 c.index-in-Some-place_of.result.now c.without_bit-in-Some-place_of.result waits c.without_bit-in-Some-place_of.ensures.bits) (bit_taken ms w.owed.items w.remote_owed.items up c.self.invariant.1 p q c.args.holder c.args.asker at.0 to.0 at.1 to.1 c.index.result.now c.without_bit.result owes c.without_bit.ensures.bits)
     ∙ sym (replied_here (record { members = ms; waits = relation_of ms w.waits.items w.remote_waits.items; owed = relation_of ms w.owed.items w.remote_owed.items }) c.args.holder c.args.asker (in_at ms q c.args.asker to.0 to.1))
     ∙ ap (λ (v : Held). replied v c.args.holder c.args.asker) c.self.view_is
 
@@ -72,7 +72,7 @@ has_first-requires-clause-rows c =
     let up = c.self.invariant.2.ascending in
     let owes = c.index.ensures ∙ get_or_default w.owed.items p c.index.result.now 0 (omega (arith, at.0, c.self.invariant.1.rows_len)) in
     let waits = c.index-in-Some-place_of.ensures ∙ get_or_default w.waits.items q c.index-in-Some-place_of.result.now 0 (omega (arith, to.0, c.self.invariant.0.rows_len)) in
-    let new = rows_bit_taken ms w.waits.items w.remote_waits.items up c.self.invariant.0 q p c.args.asker c.args.holder to.0 at.0 to.1 at.1 c.index-in-Some-place_of.result.now c.without_bit-in-Some-place_of.result waits c.without_bit-in-Some-place_of.ensures in
+    let new = rows_bit_taken ms w.waits.items w.remote_waits.items up c.self.invariant.0 q p c.args.asker c.args.holder to.0 at.0 to.1 at.1 c.index-in-Some-place_of.result.now c.without_bit-in-Some-place_of.result waits c.without_bit-in-Some-place_of.ensures.bits in
     subst (λ (xs : List ℕ). AreRows ms xs c.deref-in-Some-place_of.result.now) (sym c.deref.ensures.value)
     (subst (λ (ls : List (List ℕ)). AreRows ms (set w.waits.items q c.without_bit-in-Some-place_of.result) ls) (sym c.deref-in-Some-place_of.ensures.value) new)
 

@@ -1,0 +1,5 @@
+//! Tests of journals whose entries are read where they are stored.
+#![tactic(auto)]
+
+#[cfg(test)]
+mod stored;

@@ -1,0 +1,20 @@
+use Rattle.std.proofs.Common.{◌∙◌, ◌/◌, not}
+use Rattle.std.proofs.lemmas.List.{get_or_default}
+use Rattle.cmh_waits.proofs.NumberLemmas.{changed_are, turned}
+use Rattle.cmh_waits.proofs.proc_bits.ProcBits.turn.Goals as goal
+
+pub invariant_of-self-2 : goal.invariant_of-self-2
+invariant_of-self-2 c =
+    let words = c.lengthen.new.words.items in
+    let n = c.get-number.result in
+    let room = c.in_ok-lengthen.ensures.room in
+    let was = c.index.ensures ∙ get_or_default words (n / 64) c.index.result.now 0 room in
+    changed_are not words n c.index.result.now c.flipped.result room was c.flipped.ensures c.get-number.ensures.number c.lengthen.ensures.are
+
+pub returns-clause-ok : goal.returns-clause-ok
+returns-clause-ok c =
+    let words = c.lengthen.new.words.items in
+    let n = c.get-number.result in
+    let room = c.in_ok-lengthen.ensures.room in
+    let was = c.index.ensures ∙ get_or_default words (n / 64) c.index.result.now 0 room in
+    turned c.self.inside.words.items words n c.index.result.now c.flipped.result c.args.process c.args.self.now room was c.lengthen.ensures.same c.get-number.ensures.value c.self.view_is c.flipped.ensures
