@@ -1,5 +1,5 @@
 -- Tables of waits.
-use Rattle.std.proofs.Common.{◌≡◌, ℕ, zero, suc, ◌+◌, ◌/◌, ◌<◌, ◌≤◌, ◌==◌, ◌&&◌, ◌||◌, ◌↔◌, true, false, not, true≢false, List, [], ◌∷◌, ◌++◌, length, take, get_or, Option, Some, None, Err, ◌⊎◌, inl, inr, ⊎_elim, sym, ap, subst, refl, ◌∙◌, arith}
+use Rattle.std.proofs.Common.{◌≡◌, ℕ, zero, suc, ◌+◌, ◌/◌, ◌<◌, ◌≤◌, ◌==◌, ◌&&◌, ◌||◌, ◌↔◌, true, false, not, true≢false, List, [], ◌∷◌, ◌++◌, length, take, get_or, Option, Some, None, Err, ◌⊎◌, inl, inr, ⊎_elim, sym, ap, subst, refl, ◌∙◌, arith, length-append}
 use Rattle.std.specs.Prelude.{Contains, nat_eq}
 use Rattle.std.specs.Option.{option_eq}
 use Rattle.std.specs.declared.cmp.Ordering.TheVariants.{Less}
@@ -7,7 +7,8 @@ use Rattle.std.specs.Ordering.{nat_cmp}
 use Rattle.std.specs.List.{AllByRecursion}
 use Rattle.std.specs.List.Sorted.{IsStrictlyIncreasing, IsStrictlySortedBy, IsBinarySearchResult}
 use Rattle.std.proofs.lemmas.Bool.{cases_Bool, cases_eq, cases_lt, eq-eqb, eqb-true, and_parts, or_cases, or_left, or_right}
-use Rattle.std.proofs.lemmas.List.{get_or_default}
+use Rattle.std.proofs.Math.Seq.{get_or-append_seam}
+use Rattle.std.proofs.lemmas.List.{get_or_append_left, get_or_default}
 use Rattle.std.proofs.lemmas.List.Kept.{AllPairs-from_increasing}
 use Rattle.std.proofs.lemmas.Option.{none-some}
 use Rattle.cmh_model.specs.Relation.{pair_cmp}
@@ -16,7 +17,7 @@ use Rattle.std.proofs.lemmas.List.Sorted.{searched}
 use Rattle.cmh_model.proofs.Members.{no_member, not_decreasing}
 use Rattle.cmh_waits.proofs.Ordered.{first_below}
 use Rattle.cmh_audit.specs.Inner.Graphs.{WaitsAt, AreAskers}
-use Rattle.cmh_audit.specs.Inner.Rows.{has_place, row_at, IsTable}
+use Rattle.cmh_audit.specs.Inner.Rows.{AreTwins, has_place, row_at, IsTable}
 use Rattle.cmh_audit.proofs.Members.{contains_left, contains_last, contains_push, looked_at, looked_before, looked_now, looked_all, looked_within}
 use Rattle.cmh_dependents.proofs.Marked.{IsStrictlyIncreasing-push}
 
@@ -234,3 +235,40 @@ module _ (ps : List ℕ) (waits : List (ℕ × ℕ)) (i : ℕ) (w : ℕ × ℕ) 
 
   pub asker_fits : (b a : ℕ) → b < length ps → a < length ps → (b < length ts) × (a / 64 < length (row_at ts b))
   asker_fits b a inside beside = let long = is.askers.long in let wide = is.askers.wide b inside in (omega (arith, long, inside), omega (arith, wide, beside))
+
+-- ---- the twins
+
+-- a twin for each of the first places
+pub record AreTwinsSoFar (table : List (List ℕ)) (at : ℕ) (twins : List ℕ) : Type 0 where
+  pub long : length twins ≡ at
+  pub back : (k : ℕ) → k < at → get_or twins k 0 ≤ k
+  pub same : (k : ℕ) → k < at → row_at table (get_or twins k 0) ≡ row_at table k
+
+pub twins_start : (table : List (List ℕ)) (twins : List ℕ) → twins ≡ [] → AreTwinsSoFar table 0 twins
+twins_start table twins empty = record { long = ap length empty; back = λ k l. absurd (omega arith); same = λ k l. absurd (omega arith) }
+
+pub twins_push : (table : List (List ℕ)) (at : ℕ) (twins : List ℕ) (twin : ℕ) → AreTwinsSoFar table at twins → twin ≤ at → row_at table twin ≡ row_at table at → AreTwinsSoFar table (at + 1) (twins ++ twin ∷ [])
+twins_push table at twins twin is back same = record {
+  long = length-append twins (twin ∷ []) ∙ ap (λ n. n + 1) is.long;
+  back = λ k l. elim (cases_eq k at) [
+    | inl e ↦ let here = last k e in omega (arith, here, back, e)
+    | inr ne ↦ let before = earlier k (omega arith) in let less = is.back k (omega arith) in omega (arith, before, less)
+  ];
+  same = λ k l. elim (cases_eq k at) [
+    | inl e ↦ ap (row_at table) (last k e) ∙ same ∙ ap (row_at table) (sym e)
+    | inr ne ↦ ap (row_at table) (earlier k (omega arith)) ∙ is.same k (omega arith)
+  ];
+}
+  where
+    last : (k : ℕ) → k ≡ at → get_or (twins ++ twin ∷ []) k 0 ≡ twin
+    last k e = ap (λ i. get_or (twins ++ twin ∷ []) i 0) (e ∙ sym is.long) ∙ get_or-append_seam twins twin [] 0
+
+    earlier : (k : ℕ) → k < at → get_or (twins ++ twin ∷ []) k 0 ≡ get_or twins k 0
+    earlier k l = let long = is.long in get_or_append_left twins (twin ∷ []) 0 k (omega (arith, long, l))
+
+pub twins_end : (table : List (List ℕ)) (at : ℕ) (twins : List ℕ) → length table ≡ at → AreTwinsSoFar table at twins → AreTwins table twins
+twins_end table at twins all is = record {
+  long = is.long ∙ sym all;
+  back = λ k l. is.back k (omega (arith, all, l));
+  same = λ k l. is.same k (omega (arith, all, l));
+}

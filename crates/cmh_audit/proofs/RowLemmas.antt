@@ -1,9 +1,10 @@
 -- Rows of words, word by word.
-use Rattle.std.proofs.Common.{inl, inr, ◌≡◌, ◌↔◌, ℕ, ◌+◌, ◌*◌, ◌/◌, ◌%◌, ◌^◌, ◌<◌, ◌≤◌, Bool, true, false, not, ◌&&◌, ◌||◌, ◌==◌, ◌⊎◌, ⊎_elim, List, length, get_or, set, refl, sym, ap, ◌∙◌, arith, true≢false}
+use Rattle.std.proofs.Common.{inl, inr, ◌≡◌, ◌↔◌, ℕ, zero, suc, ◌+◌, ◌*◌, ◌/◌, ◌%◌, ◌^◌, ◌<◌, ◌≤◌, Bool, true, false, not, ◌&&◌, ◌||◌, ◌==◌, ◌⊎◌, ⊎_elim, List, length, get_or, set, refl, sym, ap, ◌∙◌, arith, true≢false}
 use Rattle.std.specs.Int.Bits.{bit_and, bit_or}
-use Rattle.std.proofs.lemmas.Bool.{eq-eqb, ne_eqb, cases_eq, cases_lt, and_parts, and_from, or_cases, or_left, or_right}
+use Rattle.std.proofs.lemmas.Bool.{eq-eqb, ne_eqb, cases_Bool, cases_eq, cases_lt, and_parts, and_from, or_cases, or_left, or_right}
+use Rattle.std.proofs.Math.Bool.{and-false}
 use Rattle.std.proofs.lemmas.List.{get_or_default, get_or_past, get_or-set_same, get_or-set_other, length-set}
-use Rattle.cmh_audit.specs.Inner.Rows.{has_place, row_at}
+use Rattle.cmh_audit.specs.Inner.Rows.{AreTwins, has_place, leads, row_at}
 use Rattle.cmh_waits.specs.Rows.{is_set}
 use Rattle.cmh_audit.proofs.BitLemmas.{both_bit}
 use Rattle.cmh_waits.proofs.BitLemmas.{no_bit, set_bit}
@@ -63,14 +64,18 @@ changed_more f new old other at w v u is l long here there bits =
       rest = λ q above. get_or-set_other new at q u 0 (λ e. absurd (omega (arith, e, above))) ∙ is.rest q (omega arith);
     }
 
-pub changed_places : (f : Bool → Bool → Bool) (new old other : List ℕ) (at : ℕ) → f false false ≡ false → AreChanged f new old other at → length old ≤ at → length other ≡ length old → (k : ℕ) → has_place new k ≡ f (has_place old k) (has_place other k)
-changed_places f new old other at none is all long k = elim (cases_lt (k / 64) at) [
-  | inl l ↦ is.done (k / 64) (k % 64) l
+pub changed_bits : (f : Bool → Bool → Bool) (new old other : List ℕ) (at : ℕ) → f false false ≡ false → AreChanged f new old other at → length old ≤ at → length other ≡ length old
+    → (q k : ℕ) → is_set (get_or new q 0) k ≡ f (is_set (get_or old q 0) k) (is_set (get_or other q 0) k)
+changed_bits f new old other at none is all long q k = elim (cases_lt q at) [
+  | inl l ↦ is.done q k l
   | inr past ↦
       let e = is.same in
-      none_past new k (omega (arith, e, all, past)) ∙ sym none
-      ∙ ap (λ b. f b false) (sym (none_past old k (omega (arith, all, past)))) ∙ ap (λ b. f (has_place old k) b) (sym (none_past other k (omega (arith, all, past, long))))
+      no_word new (omega (arith, e, all, past)) ∙ sym none
+      ∙ ap (λ b. f b false) (sym (no_word old (omega (arith, all, past)))) ∙ ap (λ b. f (is_set (get_or old q 0) k) b) (sym (no_word other (omega (arith, all, past, long))))
 ]
+  where
+    no_word : (xs : List ℕ) → length xs ≤ q → is_set (get_or xs q 0) k ≡ false
+    no_word xs past = ap (λ w. is_set w k) (get_or_past xs q 0 past) ∙ no_bit k
 
 -- ---- one more place
 
@@ -169,39 +174,123 @@ adding_end table start word old new left none is v = (
   λ h. ⊎_elim (λ o. is.kept v o) (λ q. is.added v q.0 q.2 (ap (λ w. is_set w q.0) none ∙ no_bit q.0) q.3) h,
 )
 
--- the row has what the rows of the table have at the places in the first words
-pub record IsUnion (table : List (List ℕ)) (places union : List ℕ) (at : ℕ) : Type 0 where
+-- ---- the rows of a table at the places of a row that lead
+
+-- the row has what the rows of the table have at those places in the first words that lead
+pub record IsUnion (table : List (List ℕ)) (twins places union : List ℕ) (at : ℕ) : Type 0 where
   pub same : length union ≡ length places
-  pub added : (k v : ℕ) → k / 64 < at → has_place places k ≡ true → has_place (row_at table k) v ≡ true → has_place union v ≡ true
+  pub added : (k v : ℕ) → k / 64 < at → has_place places k ≡ true → leads places twins k ≡ true → has_place (row_at table k) v ≡ true → has_place union v ≡ true
   pub only : (v : ℕ) → has_place union v ≡ true → (k : ℕ) × (has_place places k ≡ true) × (has_place (row_at table k) v ≡ true)
 
-pub union_start : (table : List (List ℕ)) (places union : List ℕ) → length union ≡ length places → ((k : ℕ) → has_place union k ≡ false) → IsUnion table places union 0
-union_start table places union long none = record {
+pub union_start : (table : List (List ℕ)) (twins places union : List ℕ) → length union ≡ length places → ((k : ℕ) → has_place union k ≡ false) → IsUnion table twins places union 0
+union_start table twins places union long none = record {
   same = long;
   added = λ k v l. absurd (omega arith);
   only = λ v h. absurd (true≢false (sym h ∙ none v));
 }
 
-pub union_more : (table : List (List ℕ)) (places old new : List ℕ) (at word : ℕ) → IsUnion table places old at → get_or places at 0 ≡ word → length new ≡ length old
-    → ((v : ℕ) → has_place new v ≡ true ↔ ((has_place old v ≡ true) ⊎ ((p : ℕ) × (p < 64) × (is_set word p ≡ true) × (has_place (row_at table (at * 64 + p)) v ≡ true))))
-    → IsUnion table places new (at + 1)
-union_more table places old new at word is here long step = record {
+pub union_more : (table : List (List ℕ)) (twins places old new : List ℕ) (at word leading : ℕ) → IsUnion table twins places old at → get_or places at 0 ≡ word → length new ≡ length old
+    → ((p : ℕ) → p < 64 → is_set leading p ≡ (is_set word p && leads places twins (at * 64 + p)))
+    → ((v : ℕ) → has_place new v ≡ true ↔ ((has_place old v ≡ true) ⊎ ((p : ℕ) × (p < 64) × (is_set leading p ≡ true) × (has_place (row_at table (at * 64 + p)) v ≡ true))))
+    → IsUnion table twins places new (at + 1)
+union_more table twins places old new at word leading is here long bits step = record {
   same = long ∙ is.same;
-  added = λ k v l h has. elim (cases_eq (k / 64) at) [
-    | inl e ↦ (step v).1 (inr (
-      k % 64,
-      omega arith,
-      ap (λ w. is_set w (k % 64)) (sym here ∙ ap (λ q. get_or places q 0) (sym e)) ∙ h,
-      ap (λ q. has_place (row_at table q) v) (let whole : at * 64 + k % 64 ≡ k = omega (arith, e) in whole) ∙ has,
-    ))
-    | inr ne ↦ (step v).1 (inl (is.added k v (omega arith) h has))
+  added = λ k v l h first has. elim (cases_eq (k / 64) at) [
+    | inl e ↦
+        let whole : at * 64 + k % 64 ≡ k = omega (arith, e) in
+        (step v).1 (inr (
+          k % 64,
+          omega arith,
+          bits (k % 64) (omega arith) ∙ and_from (is_set word (k % 64)) (leads places twins (at * 64 + k % 64))
+              (ap (λ w. is_set w (k % 64)) (sym here ∙ ap (λ q. get_or places q 0) (sym e)) ∙ h)
+              (ap (λ q. leads places twins q) whole ∙ first),
+          ap (λ q. has_place (row_at table q) v) whole ∙ has,
+        ))
+    | inr ne ↦ (step v).1 (inl (is.added k v (omega arith) h first has))
   ];
   only = λ v h. ⊎_elim
       (λ o. is.only v o)
-      (λ q. (at * 64 + q.0, has_at places at q.0 q.1 ∙ ap (λ w. is_set w q.0) here ∙ q.2, q.3))
+      (λ q. (at * 64 + q.0, has_at places at q.0 q.1 ∙ ap (λ w. is_set w q.0) here ∙ (and_parts (is_set word q.0) (leads places twins (at * 64 + q.0)) (sym (bits q.0 q.1) ∙ q.2)).0, q.3))
       ((step v).0 h);
 }
 
-pub union_end : (table : List (List ℕ)) (places union : List ℕ) (at : ℕ) → length places ≤ at → IsUnion table places union at
+neither : (a b : Bool) → (a || not b) ≡ false → (a ≡ false) × (b ≡ true)
+neither true b e = absurd (true≢false e)
+neither false true e = (refl, refl)
+neither false false e = absurd (true≢false e)
+
+pub union_end : (table : List (List ℕ)) (twins places union : List ℕ) (at : ℕ) → length places ≤ at → AreTwins table twins → ((k : ℕ) → has_place places k ≡ true → k < length table) → IsUnion table twins places union at
     → (v : ℕ) → has_place union v ≡ true ↔ ((k : ℕ) × (has_place places k ≡ true) × (has_place (row_at table k) v ≡ true))
-union_end table places union at all is v = (is.only v, λ h. is.added h.0 v (let l = within_words places h.0 h.1 in omega (arith, l, all)) h.1 h.2)
+union_end table twins places union at all are inside is v = (is.only v, λ h. reached (h.0 + 1) h.0 (omega arith) h.1 h.2)
+  where
+    -- the twin of a place that does not lead is a lower place with the same row
+    reached : (fuel k : ℕ) → k < fuel → has_place places k ≡ true → has_place (row_at table k) v ≡ true → has_place union v ≡ true
+    reached zero k l h has = absurd (omega arith)
+    reached (suc fuel) k l h has = elim (cases_Bool (leads places twins k)) [
+      | inl first ↦ is.added k v (let w = within_words places k h in omega (arith, w, all)) h first has
+      | inr follows ↦
+          let parts = neither (get_or twins k 0 == k) (has_place places (get_or twins k 0)) follows in
+          let back = are.back k (inside k h) in
+          let other = ne_of parts.0 in
+          reached fuel (get_or twins k 0) (omega (arith, back, other, l)) parts.1 (ap (λ r. has_place r v) (are.same k (inside k h)) ∙ has)
+    ]
+      where
+        ne_of : (get_or twins k 0 == k) ≡ false → get_or twins k 0 ≡ k → ⊥
+        ne_of apart e = true≢false (sym (eq-eqb (get_or twins k 0) k e) ∙ apart)
+
+-- ---- the bits of a word that lead
+
+-- of the word's bits that are not left those that lead, and all that are left
+pub record IsLeading (row twins : List ℕ) (start word leading left : ℕ) : Type 0 where
+  pub part : (p : ℕ) → is_set left p ≡ true → is_set word p ≡ true
+  pub waiting : (p : ℕ) → is_set left p ≡ true → is_set leading p ≡ true
+  pub told : (p : ℕ) → is_set left p ≡ false → is_set leading p ≡ (is_set word p && leads row twins (start + p))
+
+pub leading_start : (row twins : List ℕ) (start word : ℕ) → IsLeading row twins start word word word
+leading_start row twins start word = record {
+  part = λ p h. h;
+  waiting = λ p h. h;
+  told = λ p none. none ∙ sym (ap (λ b. b && leads row twins (start + p)) none);
+}
+
+module _ (row twins : List ℕ) (start word leading left less p : ℕ) (is : IsLeading row twins start word leading left) (at : is_set left p ≡ true) (bits : (k : ℕ) → is_set less k ≡ (not (k == p) && is_set left k)) where
+  was_left : (q : ℕ) → is_set less q ≡ true → is_set left q ≡ true
+  was_left q h = (and_parts (not (q == p)) (is_set left q) (sym (bits q) ∙ h)).1
+
+  other_than : (q : ℕ) → is_set less q ≡ true → (q ≡ p → ⊥)
+  other_than q h e = true≢false (sym (and_parts (not (q == p)) (is_set left q) (sym (bits q) ∙ h)).0 ∙ ap not (eq-eqb q p e))
+
+  before : (q : ℕ) → (q ≡ p → ⊥) → is_set less q ≡ false → is_set left q ≡ false
+  before q ne none = sym (bits q ∙ ap (λ b. not b && is_set left q) (ne_eqb q p ne)) ∙ none
+
+  -- the place leads
+  pub leading_kept : leads row twins (start + p) ≡ true → IsLeading row twins start word leading less
+  leading_kept first = record {
+    part = λ q h. is.part q (was_left q h);
+    waiting = λ q h. is.waiting q (was_left q h);
+    told = λ q none. elim (cases_eq q p) [
+      | inl e ↦
+          ap (is_set leading) e ∙ is.waiting p at ∙ sym (and_from (is_set word q) (leads row twins (start + q)) (ap (is_set word) e ∙ is.part p at) (ap (λ i. leads row twins (start + i)) e ∙ first))
+      | inr ne ↦ is.told q (before q ne none)
+    ];
+  }
+
+  -- its twin is another that is in the row
+  pub leading_dropped : (fewer : ℕ) → ((k : ℕ) → is_set fewer k ≡ (not (k == p) && is_set leading k)) → leads row twins (start + p) ≡ false → IsLeading row twins start word fewer less
+  leading_dropped fewer drops follows = record {
+    part = λ q h. is.part q (was_left q h);
+    waiting = λ q h. kept q (other_than q h) ∙ is.waiting q (was_left q h);
+    told = λ q none. elim (cases_eq q p) [
+      | inl e ↦
+          drops q ∙ ap (λ b. not b && is_set leading q) (eq-eqb q p e)
+          ∙ sym (ap (λ b. is_set word q && b) (ap (λ i. leads row twins (start + i)) e ∙ follows) ∙ and-false (is_set word q))
+      | inr ne ↦ kept q ne ∙ is.told q (before q ne none)
+    ];
+  }
+    where
+      kept : (q : ℕ) → (q ≡ p → ⊥) → is_set fewer q ≡ is_set leading q
+      kept q ne = drops q ∙ ap (λ b. not b && is_set leading q) (ne_eqb q p ne)
+
+pub leading_end : (row twins : List ℕ) (start word leading left : ℕ) → left ≡ 0 → IsLeading row twins start word leading left
+    → (p : ℕ) → is_set leading p ≡ (is_set word p && leads row twins (start + p))
+leading_end row twins start word leading left none is p = is.told p (ap (λ w. is_set w p) none ∙ no_bit p)

@@ -9,7 +9,7 @@ ghost use Rattle.cmh_audit.specs.Inner.FoundCycles.{IsCycleIn};
 ghost use Rattle.cmh_audit.specs.Cycles.{ComesFirst, IsFirstCycleOf};
 ghost use Rattle.cmh_audit.specs.Inner.Graphs.{IsGraph, WaitsAt};
 ghost use Rattle.cmh_audit.specs.Inner.Levels.{LeadBack};
-ghost use Rattle.cmh_audit.specs.Inner.Rows.{has_place, row_at};
+ghost use Rattle.cmh_audit.specs.Inner.Rows.{AreTwins, has_place, row_at};
 ghost use Rattle.cmh_model.specs.Paths.{IsCycleOf};
 
 use crate::graph::{Graph, place_of};
@@ -62,7 +62,13 @@ fn levels_to(alloc: Global, graph: &Graph, to: usize) -> Result<Option<Vec<Row>>
     levels.push(first)?;
     let mut met = levels[0].first_common(&graph.holders[to]).is_some();
     while !met {
-        let next = next_level(alloc, &graph.askers, &levels[levels.len() - 1], &seen)?;
+        let next = next_level(
+            alloc,
+            &graph.askers,
+            &graph.twins,
+            &levels[levels.len() - 1],
+            &seen,
+        )?;
         if next.is_empty() {
             return Ok(None);
         }
@@ -74,7 +80,14 @@ fn levels_to(alloc: Global, graph: &Graph, to: usize) -> Result<Option<Vec<Row>>
 }
 
 /// The askers of the level that were not seen yet.
-fn next_level(alloc: Global, askers: &[Row], level: &Row, seen: &Row) -> Result<Row, AllocError>
+fn next_level(
+    alloc: Global,
+    askers: &[Row],
+    twins: &[usize],
+    level: &Row,
+    seen: &Row,
+) -> Result<Row, AllocError>
+    requires twins { AreTwins askers.now twins.now }
     requires inside { (k : ℕ) → has_place level.now k ≡ true → (k < length askers.now)
         × (length (row_at askers.now k) ≡ length level.now) }
     requires words { length seen.now ≡ length level.now }
@@ -84,7 +97,7 @@ fn next_level(alloc: Global, askers: &[Row], level: &Row, seen: &Row) -> Result<
         ↔ (((k : ℕ) × (has_place level.now k ≡ true) × (has_place (row_at askers.now k) v ≡ true))
         × (has_place seen.now v ≡ false))) }
 {
-    let mut next = level.union_of(alloc, askers)?;
+    let mut next = level.union_of(alloc, askers, twins)?;
     next.remove_all(seen);
     Ok(next)
 }

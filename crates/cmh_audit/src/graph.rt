@@ -1,10 +1,10 @@
 //! Waits as tables of rows: at the place of each process that waits, the places of its holders and of its askers.
 
-ghost use Rattle.std.specs.Prelude.{◌≡◌, ◌⊎◌, ℕ, ◌+◌, ◌<◌, ◌/◌, ◌==◌, ◌||◌, ◌&&◌, length, slice_index, Contains, IfOk, MatchOption};
+ghost use Rattle.std.specs.Prelude.{◌≡◌, ◌⊎◌, ℕ, ◌+◌, ◌<◌, ◌≤◌, ◌/◌, ◌^◌, ◌==◌, ◌||◌, ◌&&◌, length, slice_index, Contains, IfOk, MatchOption};
 ghost use Rattle.std.specs.List.Sorted.{IsStrictlyIncreasing, IsStrictlySortedBy};
 ghost use Rattle.cmh_model.specs.Relation.{pair_cmp};
 ghost use Rattle.cmh_audit.specs.Inner.Graphs.{AreAskers, IsGraph};
-ghost use Rattle.cmh_audit.specs.Inner.Rows.{IsTable, has_place, row_at};
+ghost use Rattle.cmh_audit.specs.Inner.Rows.{AreTwins, IsTable, has_place, row_at};
 
 use crate::row::Row;
 use cmh_frames::ProcId;
@@ -21,6 +21,8 @@ pub struct Graph {
     pub holders: Vec<Row>,
     /// At the place of each of them, the places of its askers.
     pub askers: Vec<Row>,
+    /// At the place of each of them, a place with the same askers: a lower one, or its own.
+    pub twins: Vec<usize>,
 }
 
 impl Graph {
@@ -39,11 +41,13 @@ impl Graph {
                 }
             }
         }
+        let twins = twins_of(alloc, &holders, &askers)?;
         Ok(Graph {
             waits,
             processes,
             holders,
             askers,
+            twins,
         })
     }
 }
@@ -97,4 +101,38 @@ fn relate(table: &mut Vec<Row>, a: usize, b: usize)
         ≡ (((k == a) && (v == b)) || has_place (row_at table.old.items k) v) }
 {
     table[a].insert(b);
+}
+
+/// A twin for each place.
+fn twins_of(alloc: Global, holders: &[Row], askers: &[Row]) -> Result<Vec<usize>, AllocError>
+    requires holders { (k : ℕ) → length (row_at holders.now k) ≤ 2 ^ 57 }
+    requires askers { (k : ℕ) → length (row_at askers.now k) ≤ 2 ^ 57 }
+    ensures { IfOk result (λ twins. AreTwins askers.now twins.items) }
+{
+    let mut twins = Vec::new(alloc);
+    for place in 0..askers.len() {
+        twins.push(twin_of(holders, askers, place))?;
+    }
+    Ok(twins)
+}
+
+/// A place with the same askers: who asks, asks for several at once, so the least holder of an asker often has the
+/// same askers as its others.
+fn twin_of(holders: &[Row], askers: &[Row], place: usize) -> usize
+    requires place { place < length askers.now }
+    requires holders { (k : ℕ) → length (row_at holders.now k) ≤ 2 ^ 57 }
+    requires askers { (k : ℕ) → length (row_at askers.now k) ≤ 2 ^ 57 }
+    ensures back { result ≤ place }
+    ensures same { row_at askers.now result ≡ row_at askers.now place }
+{
+    let Some(asker) = askers[place].first() else {
+        return place;
+    };
+    let Some(held) = holders.get(asker) else {
+        return place;
+    };
+    match held.first() {
+        Some(twin) if twin < place && askers[twin].is(&askers[place]) => twin,
+        _ => place,
+    }
 }

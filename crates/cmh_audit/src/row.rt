@@ -1,7 +1,7 @@
 //! Places as the bits of a row of words, so that a search looks at 64 of them at once.
 
-ghost use Rattle.std.specs.Prelude.{◌≡◌, ◌↔◌, ◌⊎◌, ℕ, ◌+◌, ◌<◌, ◌≤◌, ◌/◌, ◌^◌, ◌==◌, ◌||◌, ◌&&◌, not, true, false, length, IfOk, IfSome, IfNone, IsTrue};
-ghost use Rattle.cmh_audit.specs.Inner.Rows.{has_place, row_at};
+ghost use Rattle.std.specs.Prelude.{◌≡◌, ◌↔◌, ◌⊎◌, ℕ, ◌+◌, ◌<◌, ◌≤◌, ◌/◌, ◌^◌, ◌==◌, ◌||◌, ◌&&◌, not, true, false, length, slice_index, IfOk, IfSome, IfNone, IsTrue};
+ghost use Rattle.cmh_audit.specs.Inner.Rows.{AreTwins, has_place, leads, row_at};
 ghost use Rattle.cmh_waits.specs.Rows.{is_set};
 
 use std::alloc::{AllocError, Global};
@@ -47,9 +47,7 @@ impl Row {
         ensures words { length self.new ≡ length self.old }
         ensures places { (k : ℕ) → has_place self.new k ≡ (has_place self.old k || has_place other.now k) }
     {
-        for at in 0..self.words.len() {
-            self.words[at] |= other.words[at];
-        }
+        add_words(&mut self.words, &other.words);
     }
 
     /// Takes the places of another row away.
@@ -58,9 +56,22 @@ impl Row {
         ensures words { length self.new ≡ length self.old }
         ensures places { (k : ℕ) → has_place self.new k ≡ (has_place self.old k && not (has_place other.now k)) }
     {
-        for at in 0..self.words.len() {
-            self.words[at] = beyond(self.words[at], other.words[at]);
-        }
+        remove_words(&mut self.words, &other.words);
+    }
+
+    /// Whether it has the place.
+    fn has(&self, place: usize) -> bool
+        requires { place / 64 < length self.now }
+        ensures { result ≡ has_place self.now place }
+    {
+        self.words[place / 64] >> (place % 64) & 1 == 1
+    }
+
+    /// Whether the other row has the same words.
+    pub fn is(&self, other: &Row) -> bool
+        ensures { result ≡ true ↔ self.now ≡ other.now }
+    {
+        self.words == other.words
     }
 
     /// Whether it has no place.
@@ -69,7 +80,17 @@ impl Row {
         ensures none { result ≡ true → (k : ℕ) → has_place self.now k ≡ false }
         ensures some { result ≡ false → (k : ℕ) × (has_place self.now k ≡ true) }
     {
-        self.first_common(self).is_none()
+        self.first().is_none()
+    }
+
+    /// Its least place.
+    pub fn first(&self) -> Option<usize>
+        requires { length self.now ≤ 2 ^ 57 }
+        ensures some { IfSome result (λ place. has_place self.now place ≡ true) }
+        ensures least { IfSome result (λ place. (k : ℕ) → has_place self.now k ≡ true → place ≤ k) }
+        ensures none { IfNone result ((k : ℕ) → has_place self.now k ≡ false) }
+    {
+        self.first_common(self)
     }
 
     /// The least place that both rows have.
@@ -90,8 +111,10 @@ impl Row {
         None
     }
 
-    /// All places of those rows of a table that stand at the places of this row.
-    pub fn union_of(&self, alloc: Global, table: &[Row]) -> Result<Row, AllocError>
+    /// All places of those rows of a table that stand at the places of this row. Of rows that are the same one is looked
+    /// at, as far as the twins tell: at each place of the table a lower one with the same row, or the place itself.
+    pub fn union_of(&self, alloc: Global, table: &[Row], twins: &[usize]) -> Result<Row, AllocError>
+        requires twins { AreTwins table.now twins.now }
         requires inside { (k : ℕ) → has_place self.now k ≡ true → (k < length table.now)
             × (length (row_at table.now k) ≡ length self.now) }
         requires small { length self.now ≤ 2 ^ 57 }
@@ -101,9 +124,30 @@ impl Row {
     {
         let mut union = Row::new(alloc, self.words.len())?;
         for at in 0..self.words.len() {
-            union.add_some(table, self.words[at], at * 64);
+            let leading = self.leading(twins, self.words[at], at * 64);
+            union.add_some(table, leading, at * 64);
         }
         Ok(union)
+    }
+
+    /// Those bits of the word whose places have no other twin in this row. The first bit stands for the place `start`.
+    fn leading(&self, twins: &[usize], word: u64, start: usize) -> u64
+        requires inside { (p : ℕ) → p < 64 → is_set word p ≡ true → (start + p < length twins.now)
+            × (slice_index twins.now (start + p) / 64 < length self.now) }
+        requires small { start ≤ 2 ^ 63 }
+        ensures { (p : ℕ) → p < 64 → is_set result p ≡ (is_set word p && leads self.now twins.now (start + p)) }
+    {
+        let mut leading = word;
+        let mut left = word;
+        while left != 0 {
+            let place = lowest(left);
+            left = without(left, place);
+            let twin = twins[start + place];
+            if twin != start + place && self.has(twin) {
+                leading = without(leading, place);
+            }
+        }
+        leading
     }
 
     /// Adds the rows of the table that stand at the bits of the word, the first of which stands for the row `start`.
@@ -123,6 +167,30 @@ impl Row {
             left = without(left, place);
             self.add_all(&table[start + place]);
         }
+    }
+}
+
+/// Adds the bits of other words, each to that at its place. Where the words stand is read once, not at each of them.
+fn add_words(words: &mut [u64], others: &[u64])
+    requires { length others.now ≡ length words.old }
+    ensures long { length words.new ≡ length words.old }
+    ensures bits { (q k : ℕ) → is_set (slice_index words.new q) k
+        ≡ (is_set (slice_index words.old q) k || is_set (slice_index others.now q) k) }
+{
+    for at in 0..words.len() {
+        words[at] |= others[at];
+    }
+}
+
+/// Takes the bits of other words away, each from that at its place.
+fn remove_words(words: &mut [u64], others: &[u64])
+    requires { length others.now ≡ length words.old }
+    ensures long { length words.new ≡ length words.old }
+    ensures bits { (q k : ℕ) → is_set (slice_index words.new q) k
+        ≡ (is_set (slice_index words.old q) k && not (is_set (slice_index others.now q) k)) }
+{
+    for at in 0..words.len() {
+        words[at] = beyond(words[at], others[at]);
     }
 }
 

@@ -63,6 +63,7 @@ impl Totals {
     }
 
     /// Takes an entry: an event, and what came of it. After an error nothing is said of the totals.
+    #[inline(always)]
     pub fn add(&mut self, event: &Event, outcome: &Outcome) -> Result<(), AllocError>
         ensures { OnOk result (AddsEntry self.old self.new
             (record { event = event.now; sent = outcome.now.sent; declared = outcome.now.declared })) }

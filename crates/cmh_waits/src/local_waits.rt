@@ -114,6 +114,7 @@ impl LocalWaits {
     }
 
     /// Whether the process waits for some process.
+    #[inline(always)]
     pub fn is_blocked(&self, process: ProcId) -> bool
         ensures { result ≡ has_some self.now.waits process }
     {
@@ -121,6 +122,7 @@ impl LocalWaits {
     }
 
     /// Whether the process waits for this holder.
+    #[inline(always)]
     pub fn waits(&self, asker: ProcId, holder: ProcId) -> bool
         ensures { result ≡ has self.now.waits asker holder }
     {
@@ -134,6 +136,7 @@ impl LocalWaits {
     }
 
     /// Whether the holder has not yet answered a request of the asker.
+    #[inline(always)]
     pub fn owes(&self, holder: ProcId, asker: ProcId) -> bool
         ensures { result ≡ has self.now.owed holder asker }
     {
@@ -177,6 +180,7 @@ impl LocalWaits {
     /// A member grants what it holds to a process that it owes a reply, which may be at another site.
     ///
     /// True where the asker is a member that waited for this holder last, and so is active now.
+    #[inline(always)]
     pub fn reply(&mut self, holder: ProcId, asker: ProcId) -> bool
         requires member { IsMember self.old holder }
         requires active { has_some self.old.waits holder ≡ false }
@@ -196,6 +200,7 @@ impl LocalWaits {
     }
 
     /// The request of a process of another site came to a member.
+    #[inline(always)]
     pub fn got_request(&mut self, holder: ProcId, asker: ProcId) -> Result<(), AllocError>
         requires member { IsMember self.old holder }
         requires elsewhere { is_member self.old asker ≡ false }
@@ -225,6 +230,7 @@ impl LocalWaits {
     /// The reply of a process of another site came to a member that waits for it.
     ///
     /// True where it was the last that the member waited for, so that it is active now.
+    #[inline(always)]
     pub fn got_reply(&mut self, asker: ProcId, holder: ProcId) -> bool
         requires member { IsMember self.old asker }
         requires elsewhere { is_member self.old holder ≡ false }

@@ -1,7 +1,7 @@
 -- Waits as tables of rows, over the places of the processes that wait.
 use Rattle.std.specs.Prelude.{◌≡◌, ℕ, ◌+◌, ◌/◌, ◌<◌, List, length, slice_index, Contains}
 use Rattle.std.specs.List.Sorted.{IsStrictlyIncreasing}
-use Rattle.cmh_audit.specs.Inner.Rows.{IsTable}
+use Rattle.cmh_audit.specs.Inner.Rows.{AreTwins, IsTable}
 use Rattle.cmh_audit.specs.declared.graph.Graph.{Graph}
 
 -- the process at one place waits for that at another
@@ -15,7 +15,7 @@ pub record AreAskers (waits : List (ℕ × ℕ)) (processes : List ℕ) : Type 0
   pub ascending : IsStrictlyIncreasing processes
   pub all : (j k : ℕ) → Contains waits (j, k) → Contains processes j
 
--- at each place the rows have the places of its holders, and of its askers
+-- at each place the rows have the places of its holders, and of its askers; twins have the same askers
 pub record IsGraph (graph : Graph) (waits : List (ℕ × ℕ)) : Type 0 where
   pub waits_are : graph.waits.items ≡ waits
   pub processes : AreAskers waits graph.processes.items
@@ -23,3 +23,4 @@ pub record IsGraph (graph : Graph) (waits : List (ℕ × ℕ)) : Type 0 where
       (λ a b. WaitsAt graph.processes.items waits a b)
   pub askers : IsTable graph.askers.items (length graph.processes.items) (length graph.processes.items / 64 + 1)
       (λ b a. WaitsAt graph.processes.items waits a b)
+  pub twins : AreTwins graph.askers.items graph.twins.items

@@ -1,5 +1,5 @@
 -- Rows of bits: the bit k % 64 of the word k / 64 of a row stands for the place k.
-use Rattle.std.specs.Prelude.{◌≡◌, ℕ, ◌/◌, ◌%◌, ◌<◌, ◌↔◌, Bool, true, List, [], length, slice_index, slice_index_or}
+use Rattle.std.specs.Prelude.{◌≡◌, ℕ, ◌/◌, ◌%◌, ◌<◌, ◌≤◌, ◌↔◌, ◌==◌, ◌||◌, not, Bool, true, List, [], length, slice_index, slice_index_or}
 use Rattle.cmh_waits.specs.Rows.{is_set}
 
 -- whether the row has the place
@@ -15,3 +15,13 @@ pub record IsTable (rows : List (List ℕ)) (n words : ℕ) (Related : ℕ → �
   pub long : length rows ≡ n
   pub wide : (a : ℕ) → a < n → length (row_at rows a) ≡ words
   pub are : (a b : ℕ) → has_place (row_at rows a) b ≡ true ↔ Related a b
+
+-- at each place of a table a place with the same row: a lower one, or its own
+pub record AreTwins (table : List (List ℕ)) (twins : List ℕ) : Type 0 where
+  pub long : length twins ≡ length table
+  pub back : (k : ℕ) → k < length table → slice_index twins k ≤ k
+  pub same : (k : ℕ) → k < length table → row_at table (slice_index twins k) ≡ row_at table k
+
+-- whether the twin of the place is the place itself, or is not in the row
+abbrev pub leads : List ℕ → List ℕ → ℕ → Bool
+leads row twins k = (slice_index twins k == k) || not (has_place row (slice_index twins k))

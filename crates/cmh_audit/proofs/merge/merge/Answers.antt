@@ -1,4 +1,4 @@
-use Rattle.std.proofs.Common.{◌≡◌, ◌<◌, ◌+◌, ℕ, List, [], ◌∷◌, set, length, replicate, None, Some, subst, subst₂, sym, ap, ◌∙◌, arith, length-append, rules}
+use Rattle.std.proofs.Common.{◌≡◌, ◌+◌, ℕ, List, [], ◌∷◌, set, length, replicate, None, Some, subst, subst₂, sym, ap, ◌∙◌, arith, length-append, rules}
 use Rattle.cmh_journal.specs.Journal.{Journal}
 use Rattle.cmh_audit.specs.declared.step.Step.{Step}
 use Rattle.cmh_audit.specs.Journals.{OneEach}
@@ -8,7 +8,7 @@ use Rattle.std.specs.Prelude.{IfNone}
 use Rattle.cmh_audit.proofs.CountLemmas.{length-limits}
 use Rattle.cmh_audit.proofs.LookLemmas.{place_in, looked_past, looked_done, looked_parked, looked_took, turn_is, took_left, took_less, took_order}
 use Rattle.cmh_audit.proofs.OrderLemmas.{IsKept, kept_start, kept_took}
-use Rattle.cmh_audit.proofs.ReadyLemmas.{Listed, listed_start, listed_end, listed_tries, work}
+use Rattle.cmh_audit.proofs.ReadyLemmas.{Listed, listed_start, listed_end, listed_tries}
 use Rattle.cmh_audit.proofs.WalkLemmas.{left_start}
 use Rattle.cmh_audit.proofs.merge.merge.Goals as goal
 

@@ -2,6 +2,7 @@ use Rattle.std.proofs.Common.{◌≡◌, ℕ, ◌+◌, ◌<◌, ◌≤◌, ◌�
 use Rattle.std.specs.Global.{Global}
 use Rattle.std.specs.Prelude.{Contains}
 use Rattle.cmh_audit.specs.Inner.Graphs.{AreAskers}
+use Rattle.cmh_audit.specs.Inner.Rows.{AreTwins}
 use Rattle.cmh_audit.proofs.GraphLemmas.{AreTables, tables_start, tables_pass, tables_more, tables_end}
 use Rattle.cmh_audit.proofs.graph.Graph.new.Goals as goal
 use Rattle.cmh_audit.proofs.graph.Graph.new.Goals.{in-Some+in-Some-place_of, in-Some+in_default-place_of, in_default}
@@ -47,4 +48,4 @@ returns c =
     let L : List (ℕ × ℕ) → Type 0 = λ xs. length xs ≤ c.loop-asker.asker-index in
     let askers = subst (λ ws. AreAskers ws c.in_ok-processes.processes.items) c.deref.ensures.value c.in_ok-processes.ensures in
     let tables = tables_end c.in_ok-processes.processes.items c.args.waits.items c.loop-asker.asker-index c.loop-asker.holders.items c.loop-asker.askers.items (subst L c.deref-asker-items.ensures.value c.loop-asker-test.false) c.loop-asker.invariant in
-    record { waits_are = refl; processes = askers; holders = tables.holders; askers = tables.askers }
+    record { waits_are = refl; processes = askers; holders = tables.holders; askers = tables.askers; twins = subst (λ table. AreTwins table c.in_ok-twins.twins.items) c.deref-3.ensures.value c.in_ok-twins.ensures }
