@@ -45,6 +45,7 @@ impl OpenWaits {
     }
 
     /// Opens the wait, or ends it where it is open. Where memory is refused, all stay as they were.
+    #[inline(always)]
     pub fn turn(&mut self, asker: ProcId, holder: ProcId) -> Result<(), AllocError>
         ensures ok { OnOk result (Turns self.old self.new (one_at asker holder)) }
         ensures err { OnErr result (SameOpen self.old self.new) }

@@ -45,6 +45,7 @@ impl Queue {
         self.frames.len()
     }
 
+    #[inline(always)]
     fn send(&mut self, frame: Frame) -> Result<(), AllocError>
         ensures ok { OnOk result (self.new ≡ self.old ++ frame ∷ []) }
         ensures err { OnErr result (self.new ≡ self.old) }
@@ -122,6 +123,7 @@ impl Row {
         }
     }
 
+    #[inline(always)]
     fn send(&mut self, alloc: Global, to: SiteId, frame: Frame) -> Result<(), AllocError>
         ensures ok { OnOk result ((b : ℕ) → queue_at self.new b ≡ queue_at self.old b ++ only_to to frame b) }
         ensures err { OnErr result (SameRow self.old self.new) }
@@ -228,6 +230,7 @@ impl Links {
     }
 
     /// Puts a frame behind those that are under way. Where memory is refused, all stay as they were.
+    #[inline(always)]
     pub fn send(&mut self, from: SiteId, to: SiteId, frame: Frame) -> Result<(), AllocError>
         ensures ok { OnOk result ((a b : ℕ) → waiting self.new a b
             ≡ waiting self.old a b ++ only_at from to frame a b) }
