@@ -19,6 +19,7 @@ use std::alloc::{AllocError, Global};
 
 /// Starts a probe computation: adds its probes to those that go out, or declares the process. It answers the process
 /// where that was not declared before. On an error nothing is declared.
+#[inline(always)]
 pub fn begin(
     alloc: Global,
     topology: &Topology,

@@ -16,7 +16,9 @@ use cmh_files::Fault;
 use cmh_frames::{Edition, ProcId, SiteId, SiteRow};
 use cmh_model::Event;
 use cmh_playground::{Draft, Playground};
-use cmh_script::{Ahead, Command, Input, Line, NextLine, Output, WriteFault, parse, read_line};
+use cmh_script::{
+    Ahead, Command, Input, Line, NextLine, Output, WriteFault, parse_into, read_line,
+};
 use std::alloc::{AllocError, Global};
 use std::io::{BufRead, Write};
 
@@ -113,12 +115,13 @@ fn answer_all<R: BufRead + Ahead, W: Write, K: Keeper>(
         out.new.has_failed) }
 {
     let mut buffer = Vec::new(alloc);
+    let mut room = Vec::new(alloc);
     for turn in 0..u64::MAX {
         let next = read_line(input, &mut buffer)?;
         if next.is_end() {
             return Ok(());
         }
-        game.answer_line(alloc, next, input.has_line(), out, keeper)?;
+        game.answer_line(alloc, next, &mut room, input.has_line(), out, keeper)?;
     }
     Err(Fault::Input)
 }
@@ -135,11 +138,11 @@ fn flush_awaited<W: Write>(out: &mut Output<W>, has_line: bool) -> Result<(), Wr
 
 /// What a line says; one that is too long is a bad one.
 #[inline(always)]
-fn said_by(alloc: Global, next: NextLine<'_>) -> Result<Line, AllocError>
+fn said_by(alloc: Global, next: NextLine<'_>, room: &mut Vec<ProcId>) -> Result<Line, AllocError>
     ensures { IfOk result (IsSaidBy next.entry) }
 {
     match next {
-        NextLine::Line(line) => parse(alloc, line),
+        NextLine::Line(line) => parse_into(alloc, line, room),
         NextLine::TooLong | NextLine::End => Ok(Line::Bad),
     }
 }
@@ -210,11 +213,12 @@ impl Game {
     }
 
     /// Answers what was read of a script, behind which a whole line is at hand or not. The journals are kept before a
-    /// report is written.
+    /// report is written. The targets of an ask take the memory of `room`, which has it back where nobody keeps them.
     fn answer_line<W: Write, K: Keeper>(
         &mut self,
         alloc: Global,
         next: NextLine<'_>,
+        room: &mut Vec<ProcId>,
         has_line: bool,
         out: &mut Output<W>,
         keeper: &mut K,
@@ -224,8 +228,8 @@ impl Game {
         ensures fault { IfErr result (IsUnanswered K.fails (W.contents out.old.inner)
             (W.contents out.new.inner) out.new.has_failed) }
     {
-        let said = said_by(alloc, next)?;
-        let reply = self.answer(alloc, said, keeper.wants_journals())?;
+        let said = said_by(alloc, next, room)?;
+        let reply = self.answer(alloc, said, room, keeper.wants_journals())?;
         self.keep_for(alloc, &reply, keeper)?;
         write_reply(out, &reply)?;
         flush_awaited(out, has_line)?;
@@ -234,7 +238,13 @@ impl Game {
 
     /// What a line does, and its reply. What is done seldom is never inlined: each line would pay for its large values.
     #[inline(always)]
-    fn answer(&mut self, alloc: Global, line: Line, keeps: bool) -> Result<Reply, AllocError>
+    fn answer(
+        &mut self,
+        alloc: Global,
+        line: Line,
+        room: &mut Vec<ProcId>,
+        keeps: bool,
+    ) -> Result<Reply, AllocError>
         ensures { IfOk result (λ reply. LeadsOn keeps (λ old new. Replies old new line reply) self.old self.new) }
     {
         match line {
@@ -242,7 +252,7 @@ impl Game {
             Line::Bad => Ok(Reply::BadLine),
             Line::Edition(edition) => self.set_edition(edition),
             Line::Site(row) => self.add(row),
-            Line::Command(command) => self.command(alloc, command, keeps),
+            Line::Command(command) => self.command(alloc, command, room, keeps),
         }
     }
 
@@ -277,12 +287,18 @@ impl Game {
     }
 
     #[inline(always)]
-    fn command(&mut self, alloc: Global, command: Command, keeps: bool) -> Result<Reply, AllocError>
+    fn command(
+        &mut self,
+        alloc: Global,
+        command: Command,
+        room: &mut Vec<ProcId>,
+        keeps: bool,
+    ) -> Result<Reply, AllocError>
         ensures { IfOk result (λ reply. LeadsOn keeps (λ old new. Commands old new command reply) self.old self.new) }
     {
         match self {
-            Game::Played(world) => carry_out(alloc, world, command),
-            Game::Named(_) => self.first_command(alloc, command, keeps),
+            Game::Played(world) => carry_out(alloc, world, command, room),
+            Game::Named(_) => self.first_command(alloc, command, room, keeps),
         }
     }
 
@@ -293,15 +309,16 @@ impl Game {
         &mut self,
         alloc: Global,
         command: Command,
+        room: &mut Vec<ProcId>,
         keeps: bool,
     ) -> Result<Reply, AllocError>
         ensures { IfOk result (λ reply. LeadsOn keeps (λ old new. Commands old new command reply) self.old self.new) }
     {
         match self {
-            Game::Played(world) => carry_out(alloc, world, command),
+            Game::Played(world) => carry_out(alloc, world, command, room),
             Game::Named(draft) => {
                 let mut world = Playground::new(alloc, draft.topology(), keeps)?;
-                let reply = carry_out(alloc, &mut world, command)?;
+                let reply = carry_out(alloc, &mut world, command, room)?;
                 *self = Game::Played(world);
                 Ok(reply)
             }
@@ -309,29 +326,41 @@ impl Game {
     }
 }
 
-/// Each command that is usual has a function of its own, which is never inlined: in one function their replies would be
-/// copied from place to place.
+/// What is usual is inlined whole, from the line that is read to the reply that is written: what a call takes or hands
+/// back is copied from place to place.
 #[inline(always)]
-fn carry_out(alloc: Global, world: &mut Playground, command: Command) -> Result<Reply, AllocError>
+fn carry_out(
+    alloc: Global,
+    world: &mut Playground,
+    command: Command,
+    room: &mut Vec<ProcId>,
+) -> Result<Reply, AllocError>
     ensures { IfOk result (λ reply. LeadsPlayed (λ old new. CarriesOut old new command reply) world.old world.new) }
 {
     match command {
-        Command::Act { process, event } => act(world, process, event),
+        Command::Act { process, event } => act(world, process, event, room),
         Command::Deliver { from, to } => deliver(world, from, to),
         Command::Cut { from, to } => Ok(Reply::Severance(world.cut(from, to)?)),
         Command::Report => report(alloc, world),
     }
 }
 
-#[inline(never)]
-fn act(world: &mut Playground, process: ProcId, event: Event) -> Result<Reply, AllocError>
+#[inline(always)]
+fn act(
+    world: &mut Playground,
+    process: ProcId,
+    event: Event,
+    room: &mut Vec<ProcId>,
+) -> Result<Reply, AllocError>
     ensures { IfOk result (λ reply. LeadsPlayed (λ old new. CarriesOut old new (Command.Act process event) reply)
         world.old world.new) }
 {
-    Ok(Reply::Step(world.act(process, event)?))
+    let step = world.act(process, event)?;
+    world.give_room(room);
+    Ok(Reply::Step(step))
 }
 
-#[inline(never)]
+#[inline(always)]
 fn deliver(world: &mut Playground, from: SiteId, to: SiteId) -> Result<Reply, AllocError>
     ensures { IfOk result (λ reply. LeadsPlayed (λ old new. CarriesOut old new (Command.Deliver from to) reply)
         world.old world.new) }

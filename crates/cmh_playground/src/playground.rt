@@ -137,6 +137,7 @@ impl Playground {
 
     /// Gives an event to the controller of its process's home. Where memory runs out after the step, an error is
     /// answered, and nothing is said of the world from then on.
+    #[inline(always)]
     pub fn act(&mut self, process: ProcId, event: Event) -> Result<Step, AllocError>
         ensures { IfOk result (λ step. Leads (λ old new. IsStepOf old new process event step) self.old self.new) }
     {
@@ -146,7 +147,16 @@ impl Playground {
         }
     }
 
+    /// Gives memory of targets that nobody keeps to a list that has none, for those of a later ask.
+    #[inline(always)]
+    pub fn give_room(&mut self, room: &mut Vec<ProcId>)
+        ensures { self.new ≡ self.old }
+    {
+        self.books.give_room(room);
+    }
+
     /// Hands over the oldest frame of a link. Where the receiver refuses it, it stays there. An error is as in `act`.
+    #[inline(always)]
     pub fn deliver(&mut self, from: SiteId, to: SiteId) -> Result<Delivery, AllocError>
         ensures { IfOk result (λ delivery. Leads (λ old new. IsDelivery old new from to delivery) self.old self.new) }
     {
@@ -190,7 +200,9 @@ impl Playground {
         from != to && self.topology.has_site(from) && self.topology.has_site(to)
     }
 
-    /// Gives an event to a site's controller; `take` says what comes of it.
+    /// Gives an event to a site's controller; `take` says what comes of it. It is inlined, and so are its callers and
+    /// `take`: each call would copy the event.
+    #[inline(always)]
     fn step(&mut self, site: SiteId, event: Event) -> Result<Step, AllocError>
         requires { is_site self.old.topology site ≡ true }
         ensures { IfOk result (λ step. Leads (λ old new. IsWorldStep old new site event step) self.old self.new) }

@@ -93,6 +93,7 @@ impl<R: BufRead> Input<R> {
     ///
     /// - [`LineFault::Input`]: the reader failed, or signals interrupted 2^64 - 1 reads.
     /// - [`LineFault::Memory`]: memory for the line was refused.
+    #[inline(always)]
     pub fn next_piece(&mut self, line: &mut Vec<u8>, most: usize) -> Result<Piece, LineFault>
         ensures piece { IfOk result (λ piece. IfSome (R.remaining self.old.inner)
             (λ bytes. IsPiece most bytes line.old.items line.new.items piece (R.remaining self.new.inner))) }
@@ -143,6 +144,7 @@ fn fed_len(bytes: &[u8]) -> usize
 }
 
 /// One read of a piece. What it takes is no longer ahead.
+#[inline(always)]
 fn take_piece<R: BufRead>(
     reader: &mut R,
     fed: &mut usize,

@@ -8,5 +8,5 @@ mod words;
 
 pub use crate::device::{Ahead, Input, Output, Piece, WriteFault};
 pub use crate::lines::{LineFault, MAX_LINE, NextLine, read_line};
-pub use crate::script::{Command, Line, parse};
+pub use crate::script::{Command, Line, parse, parse_into};
 pub use crate::words::{Words, number};

@@ -88,6 +88,7 @@ fn judged_at_end(line: &[u8]) -> NextLine<'_>
 ///
 /// A line ends with a line feed; one carriage return before it is dropped. The last line may lack its end. Of a line
 /// that is too long the buffer keeps two bytes more than the limit: with a carriage return dropped it is too long still.
+#[inline(always)]
 pub fn read_line<'a, R: BufRead>(
     input: &mut Input<R>,
     buffer: &'a mut Vec<u8>,

@@ -9,6 +9,7 @@ use crate::words::Words;
 use cmh_frames::{Edition, ProcId, SiteId, SiteRow};
 use cmh_model::{Event, Targets};
 use std::alloc::{AllocError, Global};
+use std::mem::replace;
 
 /// A line of a script.
 #[derive(Debug, Drop)]
@@ -52,10 +53,20 @@ enum Form {
 pub fn parse(alloc: Global, line: &[u8]) -> Result<Line, AllocError>
     ensures { IfOk result (Says line.now) }
 {
+    let mut room = Vec::new(alloc);
+    parse_into(alloc, line, &mut room)
+}
+
+/// The same. The targets of an ask take the memory of `room`, in place of what stands there, and leave it without any.
+/// It is inlined with all that it calls: a line that a call hands back is copied part by part.
+#[inline(always)]
+pub fn parse_into(alloc: Global, line: &[u8], room: &mut Vec<ProcId>) -> Result<Line, AllocError>
+    ensures { IfOk result (Says line.now) }
+{
     let Some((form, words)) = front(line) else {
         return Ok(said_without_form(line));
     };
-    match line_of(alloc, form, words)? {
+    match line_of(alloc, form, words, room)? {
         Some(line) => Ok(line),
         None => Ok(Line::Bad),
     }
@@ -90,8 +101,7 @@ fn form_in_front(line: &[u8]) -> Option<(Form, &[u8])>
 }
 
 /// The same by the words of a line.
-#[cold]
-#[inline(never)]
+#[inline(always)]
 fn front_word(line: &[u8]) -> Option<(Form, Words<'_>)>
     ensures { IsFormOf (words_of line.now) result }
 {
@@ -101,8 +111,7 @@ fn front_word(line: &[u8]) -> Option<(Form, Words<'_>)>
 }
 
 /// What a line says whose first word names no form: nothing, if it has no word or is a comment.
-#[cold]
-#[inline(never)]
+#[inline(always)]
 fn said_without_form(line: &[u8]) -> Line
     requires { IsFormOf (words_of line.now) None }
     ensures { Says line.now result }
@@ -142,13 +151,19 @@ fn form_of(name: &[u8]) -> Option<Form>
 }
 
 /// The line of this form with the numbers that the words spell.
-fn line_of(alloc: Global, form: Form, words: Words<'_>) -> Result<Option<Line>, AllocError>
+#[inline(always)]
+fn line_of(
+    alloc: Global,
+    form: Form,
+    words: Words<'_>,
+    room: &mut Vec<ProcId>,
+) -> Result<Option<Line>, AllocError>
     ensures { IfOk result (ReadsAll (Fits form) words.entry) }
 {
     match form {
         Form::Edition => Ok(edition(words)),
         Form::Site => site(alloc, words),
-        Form::Ask => ask(alloc, words),
+        Form::Ask => ask(alloc, words, room),
         Form::Reply => Ok(reply(words)),
         Form::Start => Ok(start(words)),
         Form::Deliver => Ok(deliver(words)),
@@ -157,6 +172,7 @@ fn line_of(alloc: Global, form: Form, words: Words<'_>) -> Result<Option<Line>, 
     }
 }
 
+#[inline(always)]
 fn edition(mut words: Words<'_>) -> Option<Line>
     ensures { ReadsAll (Fits Form.Edition) words.entry result }
 {
@@ -165,6 +181,7 @@ fn edition(mut words: Words<'_>) -> Option<Line>
     Some(Line::Edition(edition))
 }
 
+#[inline(always)]
 fn site(alloc: Global, mut words: Words<'_>) -> Result<Option<Line>, AllocError>
     ensures { IfOk result (ReadsAll (Fits Form.Site) words.entry) }
 {
@@ -193,7 +210,12 @@ fn numbers(alloc: Global, mut words: Words<'_>) -> Result<Option<Vec<u16>>, Allo
 }
 
 /// An ask names at least one target.
-fn ask(alloc: Global, mut words: Words<'_>) -> Result<Option<Line>, AllocError>
+#[inline(always)]
+fn ask(
+    alloc: Global,
+    mut words: Words<'_>,
+    room: &mut Vec<ProcId>,
+) -> Result<Option<Line>, AllocError>
     ensures { IfOk result (ReadsAll (Fits Form.Ask) words.entry) }
 {
     let Some(asker) = words.process() else {
@@ -202,7 +224,7 @@ fn ask(alloc: Global, mut words: Words<'_>) -> Result<Option<Line>, AllocError>
     if words.is_empty() {
         return Ok(None);
     }
-    let Some(targets) = targets(alloc, words)? else {
+    let Some(targets) = targets(alloc, words, room)? else {
         return Ok(None);
     };
     Ok(Some(Line::Command(Command::Act {
@@ -212,11 +234,17 @@ fn ask(alloc: Global, mut words: Words<'_>) -> Result<Option<Line>, AllocError>
 }
 
 /// The processes that the words name, if each of them names one.
-fn targets(alloc: Global, mut words: Words<'_>) -> Result<Option<Targets>, AllocError>
+#[inline(always)]
+fn targets(
+    alloc: Global,
+    mut words: Words<'_>,
+    room: &mut Vec<ProcId>,
+) -> Result<Option<Targets>, AllocError>
     ensures { IfOk result (λ targets. MatchOption targets ((ns : List ℕ) → Spell words.entry ns → ⊥)
         (λ targets. Spell words.entry targets)) }
 {
-    let mut processes = Vec::new(alloc);
+    let mut processes = replace(room, Vec::new(alloc));
+    processes.clear();
     while !words.is_empty() {
         let Some(process) = words.process() else {
             return Ok(None);
@@ -226,6 +254,7 @@ fn targets(alloc: Global, mut words: Words<'_>) -> Result<Option<Targets>, Alloc
     Ok(Some(Targets::new(processes)))
 }
 
+#[inline(always)]
 fn reply(mut words: Words<'_>) -> Option<Line>
     ensures { ReadsAll (Fits Form.Reply) words.entry result }
 {
@@ -238,6 +267,7 @@ fn reply(mut words: Words<'_>) -> Option<Line>
     }))
 }
 
+#[inline(always)]
 fn start(mut words: Words<'_>) -> Option<Line>
     ensures { ReadsAll (Fits Form.Start) words.entry result }
 {
@@ -249,6 +279,7 @@ fn start(mut words: Words<'_>) -> Option<Line>
     }))
 }
 
+#[inline(always)]
 fn deliver(words: Words<'_>) -> Option<Line>
     ensures { ReadsAll (Fits Form.Deliver) words.entry result }
 {
@@ -256,6 +287,7 @@ fn deliver(words: Words<'_>) -> Option<Line>
     Some(Line::Command(Command::Deliver { from, to }))
 }
 
+#[inline(always)]
 fn cut(words: Words<'_>) -> Option<Line>
     ensures { ReadsAll (Fits Form.Cut) words.entry result }
 {
@@ -264,6 +296,7 @@ fn cut(words: Words<'_>) -> Option<Line>
 }
 
 /// It stands alone on its line.
+#[inline(always)]
 fn report(words: Words<'_>) -> Option<Line>
     ensures { ReadsAll (Fits Form.Report) words.entry result }
 {

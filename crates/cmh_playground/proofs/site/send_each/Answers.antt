@@ -3,7 +3,7 @@ use Rattle.std.specs.Prelude.{if◌then◌else◌}
 use Rattle.std.proofs.lemmas.List.{take_all, take_more}
 use Rattle.cmh_playground.specs.Links.{with_last, link_after}
 use Rattle.cmh_playground.proofs.Sendings.{link_after-none, link_after-more}
-use Rattle.cmh_playground.proofs.site.send_all.Goals as goal
+use Rattle.cmh_playground.proofs.site.send_each.Goals as goal
 
 pub loop-to-init : goal.loop-to-init
 loop-to-init c = λ a b. link_after-none c.args.links.now c.args.from a b

@@ -1,7 +1,7 @@
 use Rattle.std.proofs.Common.{subst}
 use Rattle.cmh_script.specs.Script.{Fits, ReadsAll}
 use Rattle.cmh_script.proofs.Forms.{said_bad}
-use Rattle.cmh_script.proofs.script.parse.Goals as goal
+use Rattle.cmh_script.proofs.script.parse_into.Goals as goal
 
 pub returns-in-None : goal.returns-in-None
 returns-in-None c =
