@@ -74,3 +74,15 @@ module _ (js : List Journal) (counts : List ℕ) (walks : List (List Entry)) (i 
         (λ (ne : k ≢ i). get_or-set_other walks i k rest [] ne ∙ a.left k x lk there ∙ ap (λ n. drop n x.entries) (sym (get_or-set_other counts i k (at + 1) 0 ne)))
         (cases_eq k i);
   }
+
+-- ---- an entry is read at a place, and then taken there
+
+module _ (walks : List (List Entry)) (i : ℕ) (v w : List Entry) (l : i < length walks) (now : v ≡ get_or walks i v) (read : w ≡ get_or walks i w) (e : Entry) (is : w ≡ e ∷ drop 1 w) where
+  same_left : v ≡ w
+  same_left = get_or_read walks i v l now [] ∙ sym (get_or_read walks i w l read [])
+
+  pub some_left : v ≡ [] → ⊥
+  some_left none = let h : [] ≡ e ∷ drop 1 w = sym none ∙ same_left ∙ is in absurd (cc)
+
+  pub behind_it : (rest : List Entry) → rest ≡ drop 1 v → drop 1 w ≡ rest
+  behind_it rest drops = ap (λ (es : List Entry). drop 1 es) (sym same_left) ∙ sym drops

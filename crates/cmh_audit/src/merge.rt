@@ -56,8 +56,7 @@ pub fn merge(
     while let Some(i) = turn {
         let site = journals[i].site();
         let at = taken[i];
-        let mut ahead = walks[i].copy();
-        let Some(entry) = ahead.next_entry() else {
+        let Some(entry) = walks[i].first() else {
             turn = last_of(&mut ready);
             continue;
         };
@@ -78,7 +77,7 @@ pub fn merge(
         };
         keep(&mut steps, keeps_order, step)?;
         taken[i] = at + 1;
-        walks[i] = ahead;
+        walks[i].drop_first();
     }
     Ok(Merged {
         taken,

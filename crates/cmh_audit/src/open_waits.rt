@@ -50,7 +50,9 @@ impl OpenWaits {
         ensures ok { OnOk result (Turns self.old self.new (one_at asker holder)) }
         ensures err { OnErr result (SameOpen self.old self.new) }
     {
-        self.lengthen(asker)?;
+        if self.rows.len() <= asker.get() as usize {
+            self.lengthen(asker)?;
+        }
         self.rows[asker.get() as usize].turn(holder)
     }
 
@@ -70,7 +72,8 @@ impl OpenWaits {
         Ok(pairs)
     }
 
-    /// Adds empty lists, up to that of this asker.
+    /// Adds empty lists, up to that of this asker. They lack so seldom that it stands apart from the wait that is turned.
+    #[inline(never)]
     fn lengthen(&mut self, asker: ProcId) -> Result<(), AllocError>
         ensures room { OnOk result (asker < length self.new) }
         ensures same { SameOpen self.old self.new }

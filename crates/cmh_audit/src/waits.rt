@@ -12,6 +12,7 @@ use cmh_model::Event;
 use std::alloc::AllocError;
 
 /// Turns the wait of the asker for each target.
+#[inline(always)]
 fn turn_all(waits: &mut OpenWaits, asker: ProcId, targets: &[ProcId]) -> Result<(), AllocError>
     ensures { OnOk result (Turns waits.old waits.new
         (λ j k. if asker == j then count_of (λ q. q == k) targets.now else 0)) }
@@ -23,6 +24,7 @@ fn turn_all(waits: &mut OpenWaits, asker: ProcId, targets: &[ProcId]) -> Result<
 }
 
 /// Turns the waits that an event begins or ends.
+#[inline(always)]
 pub fn turn_event(waits: &mut OpenWaits, event: &Event) -> Result<(), AllocError>
     ensures { OnOk result (Turns waits.old waits.new (λ j k. turns_of j k event.now)) }
 {

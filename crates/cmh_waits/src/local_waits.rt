@@ -17,6 +17,7 @@ use crate::proc_list::ProcList;
 use cmh_frames::ProcId;
 use std::alloc::{AllocError, Global};
 use std::marker::Model;
+use std::mem::replace;
 
 /// For whom each member of a site waits, and to whom each owes a reply.
 ///
@@ -37,6 +38,8 @@ pub struct LocalWaits {
     remote_waits: Vec<ProcList>,
     /// The processes of other sites to which each member owes a reply.
     remote_owed: Vec<ProcBits>,
+    /// A list that is done with, whose memory the next ask takes.
+    room: Vec<ProcId>,
 }
 
 impl Model for LocalWaits {
@@ -68,6 +71,7 @@ impl LocalWaits {
             owed: vec![in alloc; 0; count]?,
             remote_waits: empty_lists(alloc, count)?,
             remote_owed: empty_sets(alloc, count)?,
+            room: Vec::new(alloc),
         })
     }
 
@@ -153,10 +157,12 @@ impl LocalWaits {
         ensures undone { OnOk result (before_ask self.new asker targets.now ≡ self.old) }
         ensures err { OnErr result (self.new ≡ self.old) }
     {
-        let others = others_among(self.alloc, &self.members, targets)?;
+        let room = replace(&mut self.room, Vec::new(self.alloc));
+        let others = others_among(room, &self.members, targets)?;
         if let Some(place) = self.members.place_of(asker) {
             self.waits[place] = row_of(&self.members, targets);
-            self.remote_waits[place] = ProcList::new(others);
+            let list = ProcList::new(others);
+            self.room = replace(&mut self.remote_waits[place], list).into_processes();
             owe_each(&mut self.owed, &self.members, place, targets);
         }
         Ok(())
@@ -292,6 +298,7 @@ impl LocalWaits {
             owed: self.owed.to_vec(alloc)?,
             remote_waits: ProcList::copy_all(alloc, &self.remote_waits)?,
             remote_owed: ProcBits::copy_all(alloc, &self.remote_owed)?,
+            room: Vec::new(alloc),
         })
     }
 }
@@ -352,20 +359,23 @@ fn has_first(members: &MemberTable, rows: &[u64], lists: &[ProcList], first: Pro
     }
 }
 
-/// The processes of other sites among the targets.
+/// The processes of other sites among the targets, in place of what stands in `room`.
 fn others_among(
-    alloc: Global,
+    room: Vec<ProcId>,
     members: &MemberTable,
     targets: &[ProcId],
 ) -> Result<Vec<ProcId>, AllocError>
     requires { IsStrictlyIncreasing members.now }
     ensures { IfOk result (λ others. others.items ≡ filter (λ k. not (is_in members.now k)) targets.now) }
 {
-    targets
-        .iter()
-        .filter(|target| !is_among(members, **target))
-        .map(|target| *target)
-        .collect(alloc)
+    let mut others = room;
+    others.clear();
+    for target in targets {
+        if !is_among(members, *target) {
+            others.push(*target)?;
+        }
+    }
+    Ok(others)
 }
 
 /// Whether the process is one of the members.

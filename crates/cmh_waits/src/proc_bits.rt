@@ -1,6 +1,6 @@
 //! Processes as the bits of words.
 
-ghost use Rattle.std.specs.Prelude.{◌≡◌, ℕ, [], ◌+◌, ◌-◌, ◌/◌, ◌<◌, ◌++◌, ◌==◌, true, not, ◌||◌, if◌then◌else◌, IfOk, OnOk, OnErr, length, filter};
+ghost use Rattle.std.specs.Prelude.{◌≡◌, ℕ, [], ◌+◌, ◌-◌, ◌/◌, ◌<◌, ◌≤◌, ◌++◌, ◌==◌, true, not, ◌||◌, if◌then◌else◌, IfOk, OnOk, OnErr, length, filter};
 ghost use Rattle.std.specs.List.{range_with_len};
 ghost use Rattle.std.specs.List.Sorted.{IsStrictlyIncreasing};
 ghost use Rattle.cmh_frames.specs.Number.{IsNumber};
@@ -55,6 +55,7 @@ impl ProcBits {
     }
 
     /// Adds a process.
+    #[inline(always)]
     pub fn insert(&mut self, process: ProcId) -> Result<(), AllocError>
         ensures ok { OnOk result ((q : ℕ) → is_in self.new q ≡ ((q == process) || is_in self.old q)) }
         ensures err { OnErr result (self.new ≡ self.old) }
@@ -66,6 +67,7 @@ impl ProcBits {
     }
 
     /// Adds a process, or takes it out where it is there.
+    #[inline(always)]
     pub fn turn(&mut self, process: ProcId) -> Result<(), AllocError>
         ensures ok { OnOk result ((q : ℕ) → is_in self.new q
             ≡ if q == process then not (is_in self.old q) else is_in self.old q) }
@@ -127,6 +129,7 @@ impl ProcBits {
 }
 
 /// Adds zeros, up to the word of a process's number.
+#[inline(always)]
 fn lengthen(words: &mut Vec<u64>, number: usize) -> Result<(), AllocError>
     requires number { IsNumber number }
     requires are { AreNumbers words.old.items }
@@ -136,8 +139,23 @@ fn lengthen(words: &mut Vec<u64>, number: usize) -> Result<(), AllocError>
     ensures err { OnErr result (words.new.items ≡ words.old.items) }
 {
     if words.len() <= number / 64 {
-        words.resize(number / 64 + 1, 0)?;
+        grow(words, number)?;
     }
+    Ok(())
+}
+
+/// The same where zeros are lacking. That is seldom, so it stands apart from the bit that is turned.
+#[inline(never)]
+fn grow(words: &mut Vec<u64>, number: usize) -> Result<(), AllocError>
+    requires number { IsNumber number }
+    requires are { AreNumbers words.old.items }
+    requires lacking { length words.old.items ≤ number / 64 }
+    ensures are { AreNumbers words.new.items }
+    ensures room { OnOk result (number / 64 < length words.new.items) }
+    ensures same { (k : ℕ) → has_number words.new.items k ≡ has_number words.old.items k }
+    ensures err { OnErr result (words.new.items ≡ words.old.items) }
+{
+    words.resize(number / 64 + 1, 0)?;
     Ok(())
 }
 

@@ -1,4 +1,4 @@
-use Rattle.std.proofs.Common.{◌≡◌, ◌+◌, ℕ, List, [], ◌∷◌, set, length, replicate, None, Some, subst, subst₂, sym, ap, ◌∙◌, arith, length-append, rules}
+use Rattle.std.proofs.Common.{◌≡◌, ◌+◌, ℕ, List, [], ◌∷◌, set, drop, length, replicate, None, Some, subst, subst₂, sym, ap, ◌∙◌, arith, length-append, rules}
 use Rattle.cmh_journal.specs.Journal.{Journal}
 use Rattle.cmh_audit.specs.declared.step.Step.{Step}
 use Rattle.cmh_audit.specs.Journals.{OneEach}
@@ -9,7 +9,7 @@ use Rattle.cmh_audit.proofs.CountLemmas.{length-limits}
 use Rattle.cmh_audit.proofs.LookLemmas.{place_in, looked_past, looked_done, looked_parked, looked_took, turn_is, took_left, took_less, took_order}
 use Rattle.cmh_audit.proofs.OrderLemmas.{IsKept, kept_start, kept_took}
 use Rattle.cmh_audit.proofs.ReadyLemmas.{Listed, listed_start, listed_end, listed_tries}
-use Rattle.cmh_audit.proofs.WalkLemmas.{left_start}
+use Rattle.cmh_audit.proofs.WalkLemmas.{behind_it, left_start, some_left}
 use Rattle.cmh_audit.proofs.merge.merge.Goals as goal
 
 pub loop-turn-init : goal.loop-turn-init
@@ -74,14 +74,17 @@ send_all-requires-clause-long c = c.loop-turn.invariant.listed.long ∙ sym (ap 
 pub send_all-requires-clause-once : goal.send_all-requires-clause-once
 send_all-requires-clause-once c = subst OneEach (sym c.in_ok-places.ensures) c.requires.once
 
+pub drop_first-requires : goal.drop_first-requires
+drop_first-requires c = some_left c.loop-turn.walks.items c.in-Some.i c.index_mut-in-Some-2.result.now c.index.result.now (let h = place_in c.loop-turn.invariant.listed c.loop-turn.ready.items c.in-Some.i (turn_is c.loop-turn.turn c.loop-turn.ready.items c.in-Some.i c.in-Some.is) in let n = c.loop-turn.invariant.left.one_each in omega (arith, h, n)) c.index_mut-in-Some-2.ensures.value c.index.ensures c.in-Some-first.entry c.in-Some-first.ensures
+
 -- ---- a look
 
-pub loop-turn-preserved-in_default-next_entry : goal.loop-turn-preserved-in_default-next_entry
-loop-turn-preserved-in_default-next_entry c =
-    let next = c.last_of-turn-in_default-next_entry.ensures in
+pub loop-turn-preserved-in_default-first : goal.loop-turn-preserved-in_default-first
+loop-turn-preserved-in_default-first c =
+    let next = c.last_of-turn-in_default-first.ensures in
     record {
       listed = subst (λ r. Listed c.args.topology.now c.args.journals.now c.args.limits.now c.loop-turn.taken.items c.loop-turn.links c.loop-turn.lacks.items r c.loop-turn.tries) (sym next.list)
-          (looked_past c.loop-turn.invariant.listed c.loop-turn.ready.items c.in-Some.i (turn_is c.loop-turn.turn c.loop-turn.ready.items c.in-Some.i c.in-Some.is) c.loop-turn.invariant.left c.index-at.result.now c.index-journals-i.result c.index.result.now c.index-at.ensures c.index-journals-i.is c.index.ensures c.requires.lawful (sym c.copy-ahead.ensures ∙ c.in_default-next_entry.ensures.0));
+          (looked_past c.loop-turn.invariant.listed c.loop-turn.ready.items c.in-Some.i (turn_is c.loop-turn.turn c.loop-turn.ready.items c.in-Some.i c.in-Some.is) c.loop-turn.invariant.left c.index-at.result.now c.index-journals-i.result c.index.result.now c.index-at.ensures c.index-journals-i.is c.index.ensures c.requires.lawful c.in_default-first.ensures);
       last = next.none;
       left = c.loop-turn.invariant.left;
       kept = c.loop-turn.invariant.kept;
@@ -93,7 +96,7 @@ loop-turn-preserved-then-at-limits c =
     record {
       listed = subst (λ r. Listed c.args.topology.now c.args.journals.now c.args.limits.now c.loop-turn.taken.items c.loop-turn.links c.loop-turn.lacks.items r (c.loop-turn.tries + 1)) (sym next.list)
           (looked_done c.loop-turn.invariant.listed c.loop-turn.ready.items c.in-Some.i (turn_is c.loop-turn.turn c.loop-turn.ready.items c.in-Some.i c.in-Some.is) c.loop-turn.invariant.left c.index-at.result.now c.index-journals-i.result c.index.result.now c.index-at.ensures c.index-journals-i.is c.index.ensures c.requires.lawful
-          c.in-Some-next_entry.entry c.next_entry.new.self (sym c.copy-ahead.ensures ∙ c.in-Some-next_entry.ensures) c.if-at-limits.true);
+          c.in-Some-first.entry (drop 1 c.index.result.now) c.in-Some-first.ensures c.if-at-limits.true);
       last = next.none;
       left = c.loop-turn.invariant.left;
       kept = c.loop-turn.invariant.kept;
@@ -106,7 +109,7 @@ loop-turn-preserved-in-Some-receive c =
     record {
       listed = subst₂ (λ links r. Listed c.args.topology.now c.args.journals.now c.args.limits.now c.loop-turn.taken.items links lacks r (c.loop-turn.tries + 1)) (sym c.in-Some-receive.ensures.0) (sym next.list)
           (looked_parked c.loop-turn.invariant.listed c.loop-turn.ready.items c.in-Some.i (turn_is c.loop-turn.turn c.loop-turn.ready.items c.in-Some.i c.in-Some.is) c.loop-turn.invariant.left c.index-at.result.now c.index-journals-i.result c.index.result.now c.index-at.ensures c.index-journals-i.is c.index.ensures c.requires.lawful
-          c.in-Some-next_entry.entry c.next_entry.new.self (sym c.copy-ahead.ensures ∙ c.in-Some-next_entry.ensures) c.site-site.result c.in-Some-receive.from c.site-site.ensures c.if-at-limits.false c.in-Some-receive.ensures.1);
+          c.in-Some-first.entry (drop 1 c.index.result.now) c.in-Some-first.ensures c.site-site.result c.in-Some-receive.from c.site-site.ensures c.if-at-limits.false c.in-Some-receive.ensures.1);
       last = next.none;
       left = c.loop-turn.invariant.left;
       kept = c.loop-turn.invariant.kept;
@@ -115,25 +118,26 @@ loop-turn-preserved-in-Some-receive c =
 pub loop-turn-preserved : goal.loop-turn-preserved
 loop-turn-preserved c =
     let counts = set c.loop-turn.taken.items c.in-Some.i (c.index-at.result.now + 1) in
-    let W : List Journal → Type 0 = λ js. Wakes js c.in-Some-next_entry.entry.sent c.loop-turn.ready.items c.send_all.new.ready.items c.loop-turn.lacks.items c.send_all.new.lacks.items c.site-site.result in
+    let W : List Journal → Type 0 = λ js. Wakes js c.in-Some-first.entry.sent c.loop-turn.ready.items c.send_all.new.ready.items c.loop-turn.lacks.items c.send_all.new.lacks.items c.site-site.result in
     let woken = subst W c.in_ok-places.ensures c.in_ok-send_all.ensures.wakes in
     record {
       listed = looked_took c.loop-turn.invariant.listed c.loop-turn.ready.items c.in-Some.i (turn_is c.loop-turn.turn c.loop-turn.ready.items c.in-Some.i c.in-Some.is) c.loop-turn.invariant.left c.index-at.result.now c.index-journals-i.result c.index.result.now c.index-at.ensures c.index-journals-i.is c.index.ensures c.requires.lawful
-          c.in-Some-next_entry.entry c.next_entry.new.self (sym c.copy-ahead.ensures ∙ c.in-Some-next_entry.ensures) c.receive.new.links c.send_all.new.links c.send_all.new.lacks.items c.send_all.new.ready.items c.site-site.result c.requires.once c.site-site.ensures c.if-at-limits.false c.in_default-receive.ensures c.in_ok-send_all.ensures.sends woken;
+          c.in-Some-first.entry (drop 1 c.index.result.now) c.in-Some-first.ensures c.receive.new.links c.send_all.new.links c.send_all.new.lacks.items c.send_all.new.ready.items c.site-site.result c.requires.once c.site-site.ensures c.if-at-limits.false c.in_default-receive.ensures c.in_ok-send_all.ensures.sends woken;
       last = tt;
-      left = took_left c.loop-turn.invariant.listed c.loop-turn.ready.items c.in-Some.i (turn_is c.loop-turn.turn c.loop-turn.ready.items c.in-Some.i c.in-Some.is) c.loop-turn.invariant.left c.index-at.result.now c.index-journals-i.result c.index.result.now c.index-at.ensures c.index-journals-i.is c.index.ensures c.requires.lawful
-          c.in-Some-next_entry.entry c.next_entry.new.self (sym c.copy-ahead.ensures ∙ c.in-Some-next_entry.ensures) c.receive.new.links c.send_all.new.links c.send_all.new.lacks.items c.send_all.new.ready.items c.site-site.result c.requires.once c.site-site.ensures c.if-at-limits.false c.in_default-receive.ensures c.in_ok-send_all.ensures.sends woken;
+      left = subst (λ rest. AreLeftAt c.args.journals.now counts (set c.loop-turn.walks.items c.in-Some.i rest)) (behind_it c.loop-turn.walks.items c.in-Some.i c.index_mut-in-Some-2.result.now c.index.result.now (let h = place_in c.loop-turn.invariant.listed c.loop-turn.ready.items c.in-Some.i (turn_is c.loop-turn.turn c.loop-turn.ready.items c.in-Some.i c.in-Some.is) in let n = c.loop-turn.invariant.left.one_each in omega (arith, h, n)) c.index_mut-in-Some-2.ensures.value c.index.ensures c.in-Some-first.entry c.in-Some-first.ensures c.drop_first.new.self c.drop_first.ensures)
+          (took_left c.loop-turn.invariant.listed c.loop-turn.ready.items c.in-Some.i (turn_is c.loop-turn.turn c.loop-turn.ready.items c.in-Some.i c.in-Some.is) c.loop-turn.invariant.left c.index-at.result.now c.index-journals-i.result c.index.result.now c.index-at.ensures c.index-journals-i.is c.index.ensures c.requires.lawful
+          c.in-Some-first.entry (drop 1 c.index.result.now) c.in-Some-first.ensures c.receive.new.links c.send_all.new.links c.send_all.new.lacks.items c.send_all.new.ready.items c.site-site.result c.requires.once c.site-site.ensures c.if-at-limits.false c.in_default-receive.ensures c.in_ok-send_all.ensures.sends woken);
       kept = kept_took c.args.keeps_order c.args.topology.now c.args.journals.now c.loop-turn.taken.items counts c.loop-turn.steps.items c.keep.new.steps.items (record { journal = c.in-Some.i; entry = c.index-at.result.now }) c.in_ok-keep.ensures
           (took_order c.loop-turn.invariant.listed c.loop-turn.ready.items c.in-Some.i (turn_is c.loop-turn.turn c.loop-turn.ready.items c.in-Some.i c.in-Some.is) c.loop-turn.invariant.left c.index-at.result.now c.index-journals-i.result c.index.result.now c.index-at.ensures c.index-journals-i.is c.index.ensures c.requires.lawful
-          c.in-Some-next_entry.entry c.next_entry.new.self (sym c.copy-ahead.ensures ∙ c.in-Some-next_entry.ensures) c.receive.new.links c.send_all.new.links c.send_all.new.lacks.items c.send_all.new.ready.items c.site-site.result c.requires.once c.site-site.ensures c.if-at-limits.false c.in_default-receive.ensures c.in_ok-send_all.ensures.sends woken c.loop-turn.steps.items) c.loop-turn.invariant.kept;
+          c.in-Some-first.entry (drop 1 c.index.result.now) c.in-Some-first.ensures c.receive.new.links c.send_all.new.links c.send_all.new.lacks.items c.send_all.new.ready.items c.site-site.result c.requires.once c.site-site.ensures c.if-at-limits.false c.in_default-receive.ensures c.in_ok-send_all.ensures.sends woken c.loop-turn.steps.items) c.loop-turn.invariant.kept;
     }
 
 pub loop-turn-smaller : goal.loop-turn-smaller
 loop-turn-smaller c =
-    let W : List Journal → Type 0 = λ js. Wakes js c.in-Some-next_entry.entry.sent c.loop-turn.ready.items c.send_all.new.ready.items c.loop-turn.lacks.items c.send_all.new.lacks.items c.site-site.result in
+    let W : List Journal → Type 0 = λ js. Wakes js c.in-Some-first.entry.sent c.loop-turn.ready.items c.send_all.new.ready.items c.loop-turn.lacks.items c.send_all.new.lacks.items c.site-site.result in
     let woken = subst W c.in_ok-places.ensures c.in_ok-send_all.ensures.wakes in
     took_less c.loop-turn.invariant.listed c.loop-turn.ready.items c.in-Some.i (turn_is c.loop-turn.turn c.loop-turn.ready.items c.in-Some.i c.in-Some.is) c.loop-turn.invariant.left c.index-at.result.now c.index-journals-i.result c.index.result.now c.index-at.ensures c.index-journals-i.is c.index.ensures c.requires.lawful
-    c.in-Some-next_entry.entry c.next_entry.new.self (sym c.copy-ahead.ensures ∙ c.in-Some-next_entry.ensures) c.receive.new.links c.send_all.new.links c.send_all.new.lacks.items c.send_all.new.ready.items c.site-site.result c.requires.once c.site-site.ensures c.if-at-limits.false c.in_default-receive.ensures c.in_ok-send_all.ensures.sends woken
+    c.in-Some-first.entry (drop 1 c.index.result.now) c.in-Some-first.ensures c.receive.new.links c.send_all.new.links c.send_all.new.lacks.items c.send_all.new.ready.items c.site-site.result c.requires.once c.site-site.ensures c.if-at-limits.false c.in_default-receive.ensures c.in_ok-send_all.ensures.sends woken
 
 -- ---- the end
 
