@@ -551,6 +551,8 @@ def main(program, names):
     unknown = set(names) - {trial.__name__ for trial in TRIALS + [small_disk]}
     if unknown:
         sys.exit('no such trial: %s' % ' '.join(sorted(unknown)))
+    # A job in the background of a shell ignores Ctrl-C, and so would each site that it starts.
+    signal.signal(signal.SIGINT, signal.default_int_handler)
     trials = TRIALS + ([small_disk] if has_small_disks() else [])
     passed = failed = 0
     for trial in trials:
