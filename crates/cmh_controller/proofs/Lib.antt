@@ -2,6 +2,7 @@ pub mod Asking
 pub mod Changes
 pub mod Deduped
 pub mod Fewer
+pub mod Joined
 pub mod OfSite
 pub mod Probing
 pub mod Replaying

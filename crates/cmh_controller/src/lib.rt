@@ -3,6 +3,7 @@
 
 mod beginning;
 mod controller;
+mod joining;
 mod laws;
 mod prepared;
 mod proc_set;

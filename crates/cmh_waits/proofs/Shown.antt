@@ -110,6 +110,19 @@ module _ (v : Held) (ms rows : List ℕ) (lists : List (List ℕ)) (o : Relation
       remote_all (Ok all) shown is_list h = λ k. subst (λ xs. Contains xs k ↔ ((has v.waits x k ≡ true) × (is_member v k ≡ false))) (sym (h (λ a b e. e) ∙ is_list)) (remote_are k)
       remote_all (Err f) shown is_list h = tt
 
+-- ---- of what is owed, which is held as the waits are
+
+-- the owed replies in the place of the waits
+abbrev pub turned : Held → Held
+turned v = record { members = v.members; waits = v.owed; owed = v.waits }
+
+pub turned_is : (v : Held) (ms : List ℕ) (w o : Relation) → ◌≡◌ {A = Held} (record { members = ms; waits = w; owed = o }) v → ◌≡◌ {A = Held} (record { members = ms; waits = o; owed = w }) (turned v)
+turned_is v ms w o is = ap turned is
+
+pub plainly : {A E : Type 0} (r : Result (Vec ℕ A) E) (shown : List ℕ) → IfOk r (λ all. all.items ≡ shown) → IfOk r (λ all. ((a b : ℕ) → b ≡ a → b ≡ a) → all.items ≡ shown)
+plainly (Ok all) shown h = λ same. h
+plainly (Err f) shown h = tt
+
 pub local_up : {A E : Type 0} (r : Result (Vec ℕ A) E) (ms : List ℕ) (test : ℕ → Bool) → IsStrictlyIncreasing ms → IfOk r (λ all. all.items ≡ filter test ms) → IfOk r (λ holders. IsStrictlyIncreasing holders.items)
 local_up (Ok all) ms test up h = subst IsStrictlyIncreasing (sym h) (IsStrictlyIncreasing-filter test ms up)
 local_up (Err f) ms test up h = tt

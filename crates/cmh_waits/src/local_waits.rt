@@ -287,6 +287,30 @@ impl LocalWaits {
         }
     }
 
+    /// The members whose requests the process has not answered, ascending.
+    pub fn local_owed(&self, alloc: Global, holder: ProcId) -> Result<Vec<ProcId>, AllocError>
+        ensures ascending { IfOk result (λ askers. IsStrictlyIncreasing askers.items) }
+        ensures all { IfOk result (λ askers. (j : ℕ) →
+            Contains askers.items j ↔ ((has self.now.owed holder j ≡ true) × IsMember self.now j)) }
+    {
+        match self.members.place_of(holder) {
+            Some(place) => members_of(alloc, self.members.as_slice(), self.owed[place]),
+            None => Ok(Vec::new(alloc)),
+        }
+    }
+
+    /// The processes of other sites whose requests the process has not answered, ascending.
+    pub fn remote_owed(&self, alloc: Global, holder: ProcId) -> Result<Vec<ProcId>, AllocError>
+        ensures ascending { IfOk result (λ askers. IsStrictlyIncreasing askers.items) }
+        ensures all { IfOk result (λ askers. (j : ℕ) →
+            Contains askers.items j ↔ ((has self.now.owed holder j ≡ true) × (is_member self.now j ≡ false))) }
+    {
+        match self.members.place_of(holder) {
+            Some(place) => self.remote_owed[place].to_vec(alloc),
+            None => Ok(Vec::new(alloc)),
+        }
+    }
+
     /// Another record of the same waits and requests.
     pub fn copy(&self, alloc: Global) -> Result<Self, AllocError>
         ensures { IfOk result (λ other. other ≡ self.now) }
