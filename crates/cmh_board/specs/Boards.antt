@@ -1,5 +1,5 @@
 -- What contracts see of the writer's side of a board, and what it keeps.
-use Rattle.std.specs.Prelude.{ℕ, ◌≡◌, List, [], length, fold, Option, Some, None, IfSome}
+use Rattle.std.specs.Prelude.{ℕ, ◌≡◌, Bool, List, [], length, fold, Option, Some, None, IfSome}
 use Rattle.cmh_model.specs.Runs.{IsBeginningOf}
 use Rattle.logbook.specs.Pages.{Book}
 use Rattle.logbook.specs.declared.tokens.Seen.{Seen}
@@ -10,11 +10,13 @@ use Rattle.cmh_board.specs.Fronts.{Front}
 use Rattle.cmh_board.specs.Lists.{added}
 use Rattle.cmh_board.specs.Rule.{named}
 
--- the writer's side: which board it is, all that was added, and what of it is published
+-- The writer's side: which board it is, all that was added, what of it is published, and whether the last call that added
+-- or published was refused memory.
 pub record Listed : Type 0 where
   pub book : Book
   pub list : List ℕ
   pub shown : List ℕ
+  pub out_of_memory : Bool
 
 -- a reader of this board that read and learnt nothing
 pub record IsEmptyFront (book : Book) (front : Front) : Type 0 where

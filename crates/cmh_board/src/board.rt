@@ -1,6 +1,6 @@
 //! The writer's side of the board.
 
-ghost use Rattle.std.specs.Prelude.{◌≡◌, ◌↔◌, ◌<◌, ◌≤◌, ◌++◌, [], ◌∷◌, All, IsTrue, length, IfOk, OnOk, OnErr};
+ghost use Rattle.std.specs.Prelude.{◌≡◌, ◌↔◌, ◌<◌, ◌≤◌, ◌++◌, [], ◌∷◌, All, IsTrue, true, false, length, IfOk, OnOk, OnErr};
 ghost use Rattle.std.specs.Vec.{vec_len};
 ghost use Rattle.cmh_board.specs.Boards.{IsEmptyFront};
 
@@ -24,6 +24,8 @@ pub struct Board {
     writer: PublishedWriter,
     // An operation for which the writer had no memory.
     stuck: Option<Add>,
+    // The last call of `add` or `publish` was refused memory.
+    out_of_memory: bool,
 }
 
 impl Model for Board {
@@ -38,6 +40,7 @@ impl Model for Board {
       book = b.seen.book;
       list = with_stuck (final b.writer.desk.shown.value (drop b.writer.behind b.writer.log.items)).0 b.stuck;
       shown = b.writer.desk.shown.value.list;
+      out_of_memory = b.out_of_memory;
     } };
 
     ghost invariant = { λ b. (b.head ≡ head_of b.seen.book)
@@ -54,6 +57,7 @@ impl Board {
     ) -> Result<(Board, Vec<BoardReader>), AllocError>
         requires { readers ≤ 4 }
         ensures list { IfOk result (λ r. (r.0.list ≡ []) × (r.0.shown ≡ [])) }
+        ensures memory { IfOk result (λ r. r.0.out_of_memory ≡ false) }
         ensures count { IfOk result (λ r. vec_len r.1 ≡ readers) }
         ensures readers { IfOk result (λ r. All (λ reader. IsEmptyFront r.0.book reader) r.1.items) }
     {
@@ -75,6 +79,7 @@ impl Board {
             count: 0,
             writer,
             stuck: None,
+            out_of_memory: false,
         };
         Ok((board, made))
     }
@@ -88,6 +93,7 @@ impl Board {
             count: _,
             writer,
             stuck: _stuck,
+            out_of_memory: _,
         } = self;
         drop(writer.take(rt));
     }
@@ -106,6 +112,13 @@ impl Board {
         self.writer.published().list.len() == self.count
     }
 
+    /// Whether the last call of `add` or `publish` was refused memory.
+    pub fn is_out_of_memory(&self) -> bool
+        ensures { result ≡ self.now.out_of_memory }
+    {
+        self.out_of_memory
+    }
+
     /// Adds a process, which is not published yet. Where memory is refused nothing is added.
     pub fn add(&mut self, process: ProcId) -> Result<(), AllocError>
         requires { length self.old.list < 64 }
@@ -113,7 +126,10 @@ impl Board {
         ensures shown { self.new.shown ≡ self.old.shown }
         ensures ok { OnOk result (self.new.list ≡ self.old.list ++ process ∷ []) }
         ensures err { OnErr result (self.new.list ≡ self.old.list) }
+        ensures had_memory { OnOk result (self.new.out_of_memory ≡ false) }
+        ensures had_none { OnErr result (self.new.out_of_memory ≡ true) }
     {
+        self.out_of_memory = true;
         match unstick(&mut self.writer, &mut self.stuck) {
             Ok(()) => {}
             Err(_) => return Err(AllocError),
@@ -135,21 +151,31 @@ impl Board {
             process,
             seen: self.seen.again(),
         });
+        self.out_of_memory = false;
         Ok(())
     }
 
-    /// Publishes all that was added, or nothing where memory is refused. It may wait for a `read` that is under way.
+    /// Publishes all that was added, or nothing where memory is refused. It may wait for a `read` that is under way, but
+    /// not where all is published already.
     pub fn publish<R: Wait>(&mut self, rt: &R) -> Result<(), AllocError>
         ensures book { self.new.book ≡ self.old.book }
         ensures list { self.new.list ≡ self.old.list }
         ensures ok { OnOk result (self.new.shown ≡ self.new.list) }
         ensures err { OnErr result (self.new.shown ≡ self.old.shown) }
+        ensures had_memory { OnOk result (self.new.out_of_memory ≡ false) }
+        ensures had_none { OnErr result (self.new.out_of_memory ≡ true) }
     {
+        if self.is_shown() {
+            self.out_of_memory = false;
+            return Ok(());
+        }
+        self.out_of_memory = true;
         match unstick(&mut self.writer, &mut self.stuck) {
             Ok(()) => {}
             Err(_) => return Err(AllocError),
         }
         publish_in(rt, &mut self.writer);
+        self.out_of_memory = false;
         Ok(())
     }
 

@@ -1,6 +1,6 @@
 //! Boards that can be dropped: by what a station calls, and with the handle by which a board's end waits.
 
-ghost use Rattle.std.specs.Prelude.{◌≡◌, ◌↔◌, ◌<◌, ◌++◌, ◌∷◌, [], length, OnOk, OnErr, IsTrue};
+ghost use Rattle.std.specs.Prelude.{◌≡◌, ◌↔◌, ◌<◌, ◌++◌, ◌∷◌, [], length, OnOk, OnErr, IsTrue, true, false};
 ghost use Rattle.cmh_board.specs.KeptBoard.{kept_board};
 
 use crate::board::Board;
@@ -21,18 +21,25 @@ pub trait Listing: Drop {
     fn is_shown(&self) -> bool
         ensures { IsTrue result ↔ ((listed self.now).shown ≡ (listed self.now).list) };
 
+    fn is_out_of_memory(&self) -> bool
+        ensures { result ≡ (listed self.now).out_of_memory };
+
     fn add(&mut self, process: ProcId) -> Result<(), AllocError>
         requires { length (listed self.old).list < 64 }
         ensures book { (listed self.new).book ≡ (listed self.old).book }
         ensures shown { (listed self.new).shown ≡ (listed self.old).shown }
         ensures ok { OnOk result ((listed self.new).list ≡ (listed self.old).list ++ process ∷ []) }
-        ensures err { OnErr result ((listed self.new).list ≡ (listed self.old).list) };
+        ensures err { OnErr result ((listed self.new).list ≡ (listed self.old).list) }
+        ensures had_memory { OnOk result ((listed self.new).out_of_memory ≡ false) }
+        ensures had_none { OnErr result ((listed self.new).out_of_memory ≡ true) };
 
     fn publish<W: Wait>(&mut self, rt: &W) -> Result<(), AllocError>
         ensures book { (listed self.new).book ≡ (listed self.old).book }
         ensures list { (listed self.new).list ≡ (listed self.old).list }
         ensures ok { OnOk result ((listed self.new).shown ≡ (listed self.new).list) }
-        ensures err { OnErr result ((listed self.new).shown ≡ (listed self.old).shown) };
+        ensures err { OnErr result ((listed self.new).shown ≡ (listed self.old).shown) }
+        ensures had_memory { OnOk result ((listed self.new).out_of_memory ≡ false) }
+        ensures had_none { OnErr result ((listed self.new).out_of_memory ≡ true) };
 
     fn tell(&self) -> Told
         ensures book { result.book ≡ (listed self.now).book }
@@ -62,6 +69,10 @@ impl<R: Wait + Drop> Listing for KeptBoard<R> {
 
     fn is_shown(&self) -> bool {
         self.board.is_shown()
+    }
+
+    fn is_out_of_memory(&self) -> bool {
+        self.board.is_out_of_memory()
     }
 
     fn add(&mut self, process: ProcId) -> Result<(), AllocError> {

@@ -9,8 +9,6 @@ mod kept_board;
 mod published;
 mod reader;
 mod rule;
-#[cfg(test)]
-mod tests;
 mod writer;
 
 pub use crate::board::Board;

@@ -4,3 +4,5 @@ pub mod Stops
 pub mod Ends
 pub mod Declarations
 pub mod Stepping
+pub mod Arriving
+pub mod Refused

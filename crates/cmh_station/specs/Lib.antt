@@ -3,3 +3,5 @@ pub mod Steps
 pub mod Batches
 pub mod Stopped
 pub mod Stations
+pub mod Appends
+pub mod Arrivals

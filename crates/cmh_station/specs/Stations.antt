@@ -1,14 +1,15 @@
--- What a contract sees of a station: a controller with its journal, and a board of what the journal declares.
-use Rattle.std.specs.Prelude.{ℕ, ◌≡◌, ◌≤◌, List, length, take}
+-- What a contract sees of a station: a controller with its journal, a board of what the journal declares, and the sink.
+use Rattle.std.specs.Prelude.{ℕ, ◌≡◌, ◌≤◌, false, List, length, take}
 use Rattle.cmh_model.specs.declared.journal.Entry.{Entry}
 use Rattle.cmh_model.specs.Declarations.{declarations}
 use Rattle.cmh_model.specs.Runs.{IsBeginningOf}
 use Rattle.cmh_board.specs.Boards.{Listed}
 use Rattle.cmh_station.specs.Journaled.{Journaled}
 
-pub record Station : Type 0 where
+pub record Station (S : Type 0) : Type 0 where
   pub core : Journaled
   pub board : Listed
+  pub sink : S
 
 -- The board lists what the first so many entries declare, and what it has published begins its list.
 pub record IsFed (entries' : List Entry) (count : ℕ) (board : Listed) : Type 0 where
@@ -16,12 +17,22 @@ pub record IsFed (entries' : List Entry) (count : ℕ) (board : Listed) : Type 0
   pub listed : board.list ≡ declarations (take count entries')
   pub shown : IsBeginningOf board.shown board.list
 
+-- What was published begins what the entries declare, and it is all of that unless the board was out of memory.
+pub record IsPublished (entries' : List Entry) (board : Listed) : Type 0 where
+  pub begins : IsBeginningOf board.shown (declarations entries')
+  pub all : board.out_of_memory ≡ false → board.shown ≡ declarations entries'
+
+-- the board takes in what the entries declare, and publishes it unless it was out of memory
+pub record IsUpToDate (entries' : List Entry) (count : ℕ) (board : Listed) : Type 0 where
+  pub fed : IsFed entries' count board
+  pub all : board.out_of_memory ≡ false → board.shown ≡ declarations entries'
+
 -- the same board, which has published no less
 pub record GoesOn (a b : Listed) : Type 0 where
   pub book : b.book ≡ a.book
   pub shown : IsBeginningOf a.shown b.shown
 
--- what the entries declare is listed, or a beginning of it, and nothing that was published is gone
+-- what the entries declare is listed and published, or a beginning of it, and nothing that was published is gone
 pub record KeepsUp (entries' : List Entry) (count : ℕ) (a b : Listed) : Type 0 where
-  pub fed : IsFed entries' count b
+  pub up_to_date : IsUpToDate entries' count b
   pub goes_on : GoesOn a b

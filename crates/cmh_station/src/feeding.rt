@@ -1,6 +1,6 @@
 //! A board takes in what a journal declares.
 
-ghost use Rattle.std.specs.Prelude.{◌≡◌, ◌≤◌, length, OnOk};
+ghost use Rattle.std.specs.Prelude.{◌≡◌, ◌≤◌, length, true, false, OnOk, OnErr};
 ghost use Rattle.cmh_model.specs.Declarations.{declarations};
 ghost use Rattle.cmh_station.specs.Stations.{IsFed, KeepsUp};
 
@@ -18,6 +18,7 @@ fn feed<B: Listing>(board: &mut B, entries: &[Entry], fed: &mut usize) -> Result
     ensures book { (B.listed board.new).book ≡ (B.listed board.old).book }
     ensures shown { (B.listed board.new).shown ≡ (B.listed board.old).shown }
     ensures ok { OnOk result (fed.new ≡ length entries.now) }
+    ensures memory { OnErr result ((B.listed board.new).out_of_memory ≡ true) }
 {
     while *fed < entries.len() {
         let entry = &entries[*fed];
@@ -43,13 +44,12 @@ pub(crate) fn show<R: Wait, B: Listing>(
     requires few { length (declarations entries.now) ≤ 64 }
     ensures keeps_up { KeepsUp entries.now fed.new (B.listed board.old) (B.listed board.new) }
     ensures ok { OnOk result ((B.listed board.new).shown ≡ declarations entries.now) }
+    ensures had_memory { OnOk result ((B.listed board.new).out_of_memory ≡ false) }
+    ensures had_none { OnErr result ((B.listed board.new).out_of_memory ≡ true) }
 {
     match feed(board, entries, fed) {
         Ok(()) => {}
         Err(_) => return Err(AllocError),
-    }
-    if board.is_shown() {
-        return Ok(());
     }
     match board.publish(rt) {
         Ok(()) => Ok(()),

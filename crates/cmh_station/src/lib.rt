@@ -2,6 +2,7 @@
 //! board of what it has declared; and the lock under which threads share it.
 #![tactic(auto)]
 
+mod arrivals;
 mod batch;
 mod feeding;
 mod journaled;
