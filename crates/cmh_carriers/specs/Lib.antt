@@ -1,2 +1,2 @@
 pub mod Memory
-pub mod Sockets
+pub mod Streams

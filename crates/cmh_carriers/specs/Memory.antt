@@ -17,11 +17,11 @@ pub record CountedRead (old new : MemIncoming) : Type 0 where
   pub fuse : new.fuse.0 ≡ left_after false old.fuse.0
 
 -- A call that is due fails and gives nothing, and no other call fails.
-abbrev pub AnswersRead : MemIncoming → ℕ → Result ℕ IoFault → MemIncoming → Type 0
-AnswersRead old room (Ok count) new =
-    CountedRead old new × (is_due old.fuse.0 ≡ false) × (count ≡ next_count old room)
+abbrev pub AnswersRead : MemIncoming → List ℕ → Result ℕ IoFault → MemIncoming → Type 0
+AnswersRead old buffer (Ok count) new =
+    CountedRead old new × (is_due old.fuse.0 ≡ false) × (count ≡ next_count old (length buffer))
     × (new.at ≡ old.at + count) × (new.faults ≡ old.faults)
-AnswersRead old room (Err fault) new =
+AnswersRead old buffer (Err fault) new =
     CountedRead old new × (is_due old.fuse.0 ≡ true) × (new.at ≡ old.at) × (new.faults ≡ old.faults + 1)
 
 -- of a piece, what one call takes

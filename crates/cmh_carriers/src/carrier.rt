@@ -30,9 +30,9 @@ pub trait Incoming {
     /// Whether it told its end.
     ghost is_over: { Self → Bool };
 
-    /// What a connection of this kind says beyond that of a read: of the connection before, the length of the buffer,
+    /// What a connection of this kind says beyond that of a read: of the connection before, the buffer as it was filled,
     /// the answer, and the connection after.
-    ghost read_gives: { Self → ℕ → Result ℕ IoFault → Self → Type 0 } = { λ _ _ _ _. ⊤ };
+    ghost read_gives: { Self → List ℕ → Result ℕ IoFault → Self → Type 0 } = { λ _ _ _ _. ⊤ };
 
     /// Gives the next bytes, and answers how many. Where the buffer isn't empty, 0 is the end. It may wait.
     fn read(&mut self, buffer: &mut [u8]) -> Result<usize, IoFault>
@@ -43,7 +43,7 @@ pub trait Incoming {
         ensures ok { OnOk result (failures self.new ≡ failures self.old) }
         ensures none { OnErr result (given self.new ≡ given self.old) }
         ensures err { OnErr result (failures self.new ≡ failures self.old + 1) }
-        ensures gives { read_gives self.old (length buffer.new) result self.new };
+        ensures gives { read_gives self.old buffer.new result self.new };
 
     /// How many calls have failed.
     fn faults(&self) -> u64

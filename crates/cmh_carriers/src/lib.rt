@@ -4,9 +4,11 @@
 mod carrier;
 mod gate;
 mod memory;
+mod stream;
 mod tcp;
 
 pub use crate::carrier::{Dial, Incoming, IoFault, Line, Listen, Outgoing};
 pub use crate::gate::Gate;
 pub use crate::memory::{MemIncoming, MemOutgoing};
-pub use crate::tcp::{TcpDial, TcpIncoming, TcpLine, TcpListen, TcpOutgoing};
+pub use crate::stream::{Accept, StreamIncoming, StreamListen, StreamOutgoing};
+pub use crate::tcp::{TcpDial, TcpIncoming, TcpLine, TcpListen, TcpOutgoing, TcpPort};

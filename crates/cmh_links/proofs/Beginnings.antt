@@ -1,17 +1,16 @@
 -- What is known of the frames of a stream.
-use Rattle.std.proofs.Common.{◌≡◌, ℕ, ◌+◌, ◌<◌, List, [], ◌∷◌, ◌++◌, length, drop, Option, Some, None, refl, ap, append_assoc, append-nil, sym, ◌∙◌, subst, arith}
+use Rattle.std.proofs.Common.{◌≡◌, ℕ, List, [], ◌∷◌, ◌++◌, Some, None, ap, append_assoc, sym, ◌∙◌, subst}
 use Rattle.std.specs.Prelude.{Contains}
 use Rattle.std.specs.List.{AllByRecursion}
 use Rattle.std.proofs.lemmas.List.{append_cancel_left}
 use Rattle.cmh_frames.specs.declared.edition.Edition.{Edition}
 use Rattle.cmh_frames.specs.declared.frame.Frame.{Frame}
-use Rattle.cmh_frames.specs.declared.frame.Front.TheVariants.{Short, Bad}
-use Rattle.cmh_frames.specs.Wire.{IsFrame, IsFront, BeginsNoFrame, spelling, spelled, hello, link_bytes}
+use Rattle.cmh_frames.specs.Wire.{IsFrame, BeginsNoFrame, spelling, spelled}
 use Rattle.cmh_frames.proofs.Fronts.{one_begins}
 use Rattle.cmh_reader.specs.declared.standing.Standing.{Standing}
 use Rattle.cmh_reader.specs.declared.standing.Standing.TheVariants.{Greeting, NoHello, Stranger, Open, Broken}
 use Rattle.cmh_reader.specs.Reader.{Reader, StandsFor, BeginsLink, ExpectsSame}
-use Rattle.cmh_reader.specs.Stream.{Splits, Reads, HasMore, BeginsNoHello, BeginsStrange, fault_of, sender_of}
+use Rattle.cmh_reader.specs.Stream.{Splits, Reads, sender_of}
 use Rattle.cmh_reader.proofs.Fronts.{short_begins_none}
 use Rattle.cmh_reader.proofs.Hellos.{one_hello}
 use Rattle.cmh_reader.proofs.Links.{link_reads}

@@ -1,6 +1,6 @@
 -- A journal's receipts.
 use Rattle.std.proofs.lemmas.Grind.{common_steps}
-use Rattle.std.proofs.Common.{◌≡◌, ◌≢◌, ℕ, Bool, true, false, arith, eq-eqb, List, [], ◌∷◌, ◌++◌, Option, Some, None, refl, ap, sym, ◌∙◌, append_assoc, append-nil}
+use Rattle.std.proofs.Common.{◌≡◌, ◌≢◌, ℕ, true, false, arith, eq-eqb, List, [], ◌∷◌, ◌++◌, Option, Some, refl, ap, sym, ◌∙◌, append_assoc, append-nil}
 use Rattle.cmh_frames.specs.declared.frame.Frame.{Frame}
 use Rattle.cmh_model.specs.declared.event.Event.{Event}
 use Rattle.cmh_model.specs.declared.event.Event.TheVariants.{Ask, Reply, Start, Got}
@@ -8,9 +8,7 @@ use Rattle.cmh_model.specs.declared.journal.Entry.{Entry}
 use Rattle.std.specs.Prelude.{if◌then◌else◌, ◌==◌}
 use Rattle.cmh_model.specs.Journals.{receipts_of, frame_from}
 use Rattle.cmh_station.specs.Journaled.{Journaled}
-use Rattle.cmh_station.specs.Steps.{NotStepped, Stepped}
-use Rattle.cmh_station.specs.declared.refusal.StationRefusal.{StationRefusal}
-use Rattle.cmh_station.specs.declared.refusal.StationRefusal.TheVariants.{Rule, Sealed, Disk, Full}
+use Rattle.cmh_station.specs.Steps.{Stepped}
 use Rattle.cmh_journal.specs.Sink.{known_and}
 use Rattle.cmh_links.specs.Lent.{receipt, all_receipts, on_link}
 use Rattle.cmh_links.specs.Reading.{from_site}
@@ -19,13 +17,6 @@ use Rattle.cmh_links.specs.Reading.{from_site}
 pub all_receipts-push : (es : List Entry) (e : Entry) → all_receipts (es ++ e ∷ []) ≡ all_receipts es ++ receipt e.event
 all_receipts-push [] e = append-nil (receipt e.event)
 all_receipts-push (x ∷ es) e = ap (λ v. receipt x.event ++ v) (all_receipts-push es e) ∙ sym (append_assoc (receipt x.event) (all_receipts es) (receipt e.event))
-
--- a refused step leaves the entries
-pub refused_entries : (a : Journaled) (e : Event) (b : Journaled) (r : StationRefusal) → NotStepped a e r b → b.entries ≡ a.entries
-refused_entries a e b (Rule refusal) is = ap (λ (p : Journaled). p.entries) is.3
-refused_entries a e b Sealed is = ap (λ (p : Journaled). p.entries) is.1
-refused_entries a e b Full is = ap (λ (p : Journaled). p.entries) is.2
-refused_entries a e b Disk is = is.2.entries
 
 -- a step that takes a frame
 pub grew_receipts : (a : Journaled) (from : ℕ) (frame : Frame) (sent : List (ℕ × Frame)) (declared : Option ℕ) (b : Journaled) → Stepped a (Got from frame) sent declared b → all_receipts b.entries ≡ all_receipts a.entries ++ (from, frame) ∷ []

@@ -1,28 +1,26 @@
 -- How reading ends.
-use Rattle.std.proofs.Common.{◌≡◌, ◌≢◌, ℕ, ◌+◌, Bool, true, false, List, [], ◌∷◌, ◌++◌, Option, Some, None, IsSome, IfSome, IfNone, ◌⊎◌, inl, inr, refl, ap, append_assoc, append-nil, sym, ◌∙◌, subst, arith}
+use Rattle.std.proofs.Common.{◌≡◌, ◌≢◌, ℕ, ◌+◌, Bool, true, false, List, [], ◌∷◌, ◌++◌, Option, Some, None, IsSome, IfSome, IfNone, ◌⊎◌, inl, inr, refl, ap, append-nil, sym, ◌∙◌, subst, arith}
 use Rattle.std.proofs.lemmas.List.{append_cancel_left, map-append}
-use Rattle.cmh_frames.specs.declared.edition.Edition.{Edition}
 use Rattle.cmh_frames.specs.declared.frame.Frame.{Frame}
-use Rattle.cmh_controller.specs.declared.refusal.Refusal.{Refusal}
 use Rattle.cmh_controller.specs.declared.refusal.Refusal.TheVariants.{UnknownProcess, NotHere, BadTargets, Blocked, NotBlocked, NotOwed, AlreadyDeclared, Unlawful, Memory as NoMemory}
 use Rattle.cmh_reader.specs.declared.fault.ReadFault.{ReadFault}
 use Rattle.cmh_reader.specs.declared.fault.ReadFault.TheVariants.{BadHello, BadFrame, WrongSite, Memory as Starved}
 use Rattle.cmh_reader.specs.declared.standing.Standing.{Standing}
-use Rattle.cmh_reader.specs.declared.standing.Standing.TheVariants.{Greeting, NoHello, Stranger, Open, Broken}
-use Rattle.cmh_reader.specs.Reader.{Reader, StandsFor, Takes, ExpectsSame, BeginsLink}
+use Rattle.cmh_reader.specs.declared.standing.Standing.TheVariants.{Greeting}
+use Rattle.cmh_reader.specs.Reader.{Reader, StandsFor, Takes, ExpectsSame}
 use Rattle.cmh_reader.specs.Stream.{Reads, HasMore, fault_of, sender_of}
 use Rattle.cmh_reader.proofs.OneReading.{reads_once}
 use Rattle.cmh_station.specs.declared.refusal.StationRefusal.{StationRefusal}
 use Rattle.cmh_station.specs.declared.refusal.StationRefusal.TheVariants.{Rule, Sealed, Disk, Full}
 use Rattle.cmh_links.specs.declared.table.LinkFault.{LinkFault}
-use Rattle.cmh_links.specs.declared.table.LinkFault.TheVariants.{Read, Bad, Ended, Memory}
+use Rattle.cmh_links.specs.declared.table.LinkFault.TheVariants.{Bad, Memory}
 use Rattle.cmh_links.specs.declared.reading.ReaderEnd.{ReaderEnd}
-use Rattle.cmh_links.specs.declared.reading.ReaderEnd.TheVariants.{NoLink, Refused, Closed}
+use Rattle.cmh_links.specs.declared.reading.ReaderEnd.TheVariants.{Refused, Closed}
 use Rattle.cmh_journal.specs.Sink.{known_and}
 use Rattle.cmh_journal.proofs.Telling.{known_and_both, known_and_nothing}
 use Rattle.cmh_model.specs.Runs.{IsBeginningOf}
 use Rattle.cmh_model.proofs.Beginnings.{beginning_refl, beginning_nil, beginning_trans}
-use Rattle.cmh_links.specs.Reading.{Goes, Stopped, AreRead, ClosedBy, EndedBy, WasRefused, Faulted, FaultedBy, end_of, from_site, from_sender, link_fault_of}
+use Rattle.cmh_links.specs.Reading.{Goes, Stopped, AreRead, ClosedBy, EndedBy, Faulted, FaultedBy, end_of, from_site, from_sender, link_fault_of}
 use Rattle.cmh_links.proofs.Beginnings.{beginning_on, no_frames, reads_split, sent_begins, sender_stays}
 
 some_is : {A : Type 0} (o : Option A) (x : A) → o ≡ Some x → IsSome o

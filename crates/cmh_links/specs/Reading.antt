@@ -1,7 +1,6 @@
 -- What the loop of a reading thread did.
-use Rattle.std.specs.Prelude.{◌≡◌, ℕ, ◌+◌, Bool, true, false, List, [], ◌++◌, map, Option, Some, None, IsSome, ◌⊎◌}
+use Rattle.std.specs.Prelude.{◌≡◌, ℕ, ◌+◌, Bool, true, false, List, [], map, Option, Some, None, IsSome, ◌⊎◌}
 use Rattle.cmh_frames.specs.declared.frame.Frame.{Frame}
-use Rattle.cmh_controller.specs.declared.refusal.Refusal.{Refusal}
 use Rattle.cmh_controller.specs.declared.refusal.Refusal.TheVariants.{Memory as NoMemory}
 use Rattle.cmh_reader.specs.Reader.{Reader, StandsFor, BeginsLink}
 use Rattle.cmh_reader.specs.Stream.{HasMore, Reads, fault_of, sender_of}

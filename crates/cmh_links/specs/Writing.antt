@@ -1,5 +1,5 @@
 -- What the loop of a writing thread did.
-use Rattle.std.specs.Prelude.{◌≡◌, ℕ, ◌+◌, Bool, true, List, [], ◌∷◌, ◌++◌, Option, Some, None, MatchOption}
+use Rattle.std.specs.Prelude.{◌≡◌, ℕ, ◌+◌, Bool, true, List, ◌∷◌, Option, MatchOption}
 use Rattle.cmh_frames.specs.declared.edition.Edition.{Edition}
 use Rattle.cmh_frames.specs.declared.frame.Frame.{Frame}
 use Rattle.cmh_frames.specs.Wire.{link_bytes, spelled}

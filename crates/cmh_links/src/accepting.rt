@@ -115,7 +115,7 @@ where
     requires { I.failures incoming ≡ 0 }
 {
     if let (Ok(mine), Ok(mut reader)) = (Arc::try_clone(&hub), reader_of(alloc, &hub)) {
-        let mut entrance = Entrance::new(rt, alloc, mine);
+        let mut entrance = Entrance::new(rt, mine);
         let _ = run_reader(&rt, &mut incoming, &mut reader, &hub.links, &mut entrance);
     }
     // The accepting thread has another handle of it.

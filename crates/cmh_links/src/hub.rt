@@ -2,18 +2,14 @@
 
 ghost use Rattle.std.specs.Prelude.{◌≡◌, ◌==◌, ◌≤◌, [], ◌∷◌, ◌++◌, None, Some, filter, length, not, IfNone, IfOk, IfSome, OnOk};
 ghost use Rattle.std.specs.Arc.{arc_value};
-ghost use Rattle.cmh_station.specs.Batches.{batch_limit};
 ghost use Rattle.cmh_station.specs.Journaled.{others};
 
-use crate::batch::{arrivals, refusal_at_end};
 use crate::reading::Handover;
 use crate::table::{LinkTable, SharedLinks};
 use crate::writing::FrameSource;
-use cmh_controller::Refusal;
 use cmh_frames::{Edition, Frame, SiteId, Topology};
 use cmh_journal::Sink;
-use cmh_model::Event;
-use cmh_station::{BATCH_LIMIT, Listing, ParkingTap, SharedStation, StationRefusal};
+use cmh_station::{Listing, ParkingTap, SharedStation, StationRefusal};
 use std::alloc::{AllocError, Global};
 use std::sync::atomic::{AtomicBool, AtomicU16, Ordering};
 use std::sync::{Arc, Wait};
@@ -90,40 +86,19 @@ fn push_other(sites: &mut Vec<SiteId>, other: SiteId, site: SiteId) -> Result<()
 #[derive(Drop)]
 pub(crate) struct Entrance<R: Wait + Drop, S: Sink, B: Listing> {
     rt: R,
-    alloc: Global,
     hub: Arc<Hub<S, B>>,
     refused: Option<StationRefusal>,
 }
 
 impl<R: Wait + Drop, S: Sink, B: Listing> Entrance<R, S, B> {
     /// It has refused nothing.
-    pub fn new(rt: R, alloc: Global, hub: Arc<Hub<S, B>>) -> Self
+    pub fn new(rt: R, hub: Arc<Hub<S, B>>) -> Self
         ensures { result.refused ≡ None }
     {
         Entrance {
             rt,
-            alloc,
             hub,
             refused: None,
-        }
-    }
-
-    /// Takes a batch in one step of the lock, and then wakes the writing threads.
-    fn take(&self, from: SiteId, frames: &[Frame]) -> Result<(), StationRefusal>
-        requires { length frames.now ≤ batch_limit }
-    {
-        let Ok(events) = arrivals(self.alloc, from, frames) else {
-            return Err(StationRefusal::Rule(Refusal::Memory));
-        };
-        let answers = self
-            .hub
-            .station
-            .lock(&self.rt)
-            .step_until(&self.rt, &events);
-        self.hub.station.wake();
-        match refusal_at_end(&answers?) {
-            None => Ok(()),
-            Some(refusal) => Err(refusal),
         }
     }
 }
@@ -134,33 +109,25 @@ impl<R: Wait + Drop, S: Sink, B: Listing> Handover for Entrance<R, S, B> {
     ghost refused = { λ s. s.refused };
 
     fn hand(&mut self, from: SiteId, frame: Frame) -> Result<(), StationRefusal> {
+        self.hand_all(from, &[frame])
+    }
+
+    /// The station, for as long as it is locked, takes the frames. The threads that write are woken then.
+    #[tactic(auto, using(crate::proofs::Batches::handed_untold, crate::proofs::Batches::some_left))]
+    fn hand_all(&mut self, from: SiteId, frames: &[Frame]) -> Result<(), StationRefusal> {
         let answer = self
             .hub
             .station
             .lock(&self.rt)
-            .step(&self.rt, &Event::Got { from, frame });
+            .take_frames(&self.rt, from, frames);
         self.hub.station.wake();
         match answer {
-            Ok(_) => Ok(()),
+            Ok(()) => Ok(()),
             Err(refusal) => {
                 self.refused = Some(refusal);
                 Err(refusal)
             }
         }
-    }
-
-    #[tactic(auto, using(crate::proofs::Batches::handed_untold, crate::proofs::Batches::has_members))]
-    fn hand_all(&mut self, from: SiteId, frames: &[Frame]) -> Result<(), StationRefusal> {
-        let mut rest = frames;
-        while !rest.is_empty() {
-            let (batch, behind) = rest.split_at(rest.len().min(BATCH_LIMIT));
-            if let Err(refusal) = self.take(from, batch) {
-                self.refused = Some(refusal);
-                return Err(refusal);
-            }
-            rest = behind;
-        }
-        Ok(())
     }
 }
 
@@ -199,7 +166,8 @@ impl<R: Wait + Drop, S: Sink, B: Listing> Exit<R, S, B> {
     }
 }
 
-/// The next frame of a link, for which it waits; `None` once the site is ending and nothing is left.
+/// The next frame of a link, for which it waits. `None` once the site is ending and the last look at the ring, after one
+/// more release of the backlog, showed nothing.
 fn next_of<R: Wait, S: Sink, B: Listing>(
     rt: &R,
     hub: &Hub<S, B>,
@@ -208,6 +176,8 @@ fn next_of<R: Wait, S: Sink, B: Listing>(
     ensures to { tap.new.to ≡ tap.old.to }
     ensures some { IfSome result (λ frame. tap.new.taken ≡ tap.old.taken ++ frame ∷ []) }
     ensures none { IfNone result (tap.new.taken ≡ tap.old.taken) }
+    ensures ring { tap.new.ring ≡ tap.old.ring }
+    ensures empty { IfNone result (tap.new.known ≡ []) }
 {
     for _ in rt.forever() {
         if let Some(frame) = tap.take() {

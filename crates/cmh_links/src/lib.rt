@@ -2,9 +2,10 @@
 #![tactic(auto)]
 
 mod accepting;
-mod batch;
+mod dialler;
 mod hub;
 mod lent;
+mod opening;
 mod reading;
 mod table;
 mod threads;

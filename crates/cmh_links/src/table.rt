@@ -9,23 +9,24 @@ use cmh_frames::{SiteId, Topology};
 use std::alloc::{AllocError, Global};
 use std::marker::Model;
 use std::sync::{Mutex, MutexGuard, Wait};
+use thiserror::Error;
 
 /// Why a link is closed.
-#[derive(Clone, Copy, Debug, PartialEq, Eq)]
+#[derive(Clone, Copy, Debug, PartialEq, Eq, Error)]
 pub enum LinkFault {
-    /// It could not be connected.
+    #[error("the other site could not be connected")]
     Connect,
-    /// A read failed.
+    #[error("a read failed")]
     Read,
-    /// A write failed.
+    #[error("a write failed")]
     Write,
-    /// Its bytes are no frames, or a frame was unlawful.
+    #[error("its bytes are no frames, or a frame was unlawful")]
     Bad,
-    /// Its carrier ended.
+    #[error("the connection ended")]
     Ended,
-    /// Memory or a thread was refused.
+    #[error("memory or a thread was refused")]
     Memory,
-    /// The station takes no more steps.
+    #[error("the station takes no more steps")]
     Station,
 }
 

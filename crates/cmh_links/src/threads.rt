@@ -1,14 +1,15 @@
 //! The running threads of a site.
 
-ghost use Rattle.std.specs.Prelude.{◌≡◌, ◌+◌, ◌<◌, ◌≤◌, [], ◌∷◌, ◌++◌, length, map, vec_len, IfOk, IfErr};
+ghost use Rattle.std.specs.Prelude.{◌≡◌, ◌+◌, ◌≤◌, [], length, map, vec_len, IfOk, IfErr};
 ghost use Rattle.std.specs.Vec.{vec_capacity};
-ghost use Rattle.cmh_links.specs.Threads.{connected_by, connected_in, failed_by, failed_in, is_connected, is_failed, leads_to, link_sites, site_of};
+ghost use Rattle.cmh_links.specs.Threads.{closed_with, connected_in, failed_in, link_sites, site_of};
 
 use crate::accepting::accept_all;
-use crate::hub::{Exit, Hub};
-use crate::table::{LinkFault, SharedLinks};
-use crate::writing::run_writer;
-use cmh_carriers::{Dial, Gate, IoFault, Listen, Outgoing};
+use crate::dialler::Dialler;
+use crate::hub::Hub;
+use crate::opening::{Place, open};
+use crate::table::SharedLinks;
+use cmh_carriers::{Dial, Gate, Listen};
 use cmh_frames::{SiteId, Topology};
 use cmh_journal::Sink;
 use cmh_station::{LinkTap, Listing, ParkingTap, SharedStation};
@@ -17,42 +18,13 @@ use std::alloc::{AllocError, Global};
 use std::sync::atomic::Ordering;
 use std::sync::{Arc, Wait};
 use std::thread;
-use std::thread::{JoinHandle, Promise, PromisedHandle, Threads};
-
-/// That a writing thread gives the tap of its link back.
-#[derive(Clone, Copy)]
-struct GivesBack {
-    to: SiteId,
-}
-
-impl Promise<LinkTap> for GivesBack {
-    ghost kept_by = { λ promise tap. tap.to ≡ promise.to };
-}
-
-/// Where the tap of a link is that was to be opened.
-#[derive(Drop)]
-enum Place {
-    /// With nobody: the link was not new.
-    Idle(LinkTap),
-    /// With nobody: the link could not be opened.
-    Closed(LinkTap),
-    Writing(PromisedHandle<LinkTap, GivesBack>),
-}
-
-/// How the opening of a link went.
-#[derive(Clone, Copy, PartialEq, Eq)]
-enum Opening {
-    /// It was not new.
-    Stale,
-    Failed,
-    Connected,
-}
+use std::thread::{JoinHandle, Threads};
 
 /// The running threads of a site. It isn't `Drop`: whoever starts it has to stop it.
 pub struct SiteThreads<R, S: Sink, B: Listing, D: Dial> {
     rt: R,
     hub: Arc<Hub<S, B>>,
-    dial: D,
+    dial: Dialler<D>,
     accepting: JoinHandle<()>,
     accepter: Unparker,
     gate: Gate,
@@ -65,6 +37,8 @@ pub struct SiteThreads<R, S: Sink, B: Listing, D: Dial> {
     ghost room: { vec_len places + vec_len waiting ≤ vec_capacity places },
     ghost room_at_end: { vec_len places + vec_len waiting ≤ vec_capacity taps },
     ghost none_back: { taps.items ≡ [] },
+    ghost unconnected: { length (closed_with 1 places.items) ≡ dial },
+    ghost causes: { failed_in places.items ≡ length (closed_with 1 places.items) + length (closed_with 6 places.items) },
 }
 
 /// What `start` needs memory for.
@@ -101,42 +75,6 @@ fn make_parts<S: Sink, B: Listing>(
     })
 }
 
-/// Opens a connection to a site, unless the carrier can't count one more failure.
-fn dial_site<D: Dial>(dial: &mut D, site: SiteId) -> Result<D::Out, IoFault>
-    ensures { IfOk result (λ outgoing. D.Out.failures outgoing ≡ 0) }
-{
-    if dial.faults() == u64::MAX {
-        return Err(IoFault);
-    }
-    dial.connect(site)
-}
-
-/// The writing thread of a link. The tap comes back.
-fn write_link<R, S, B, O>(rt: R, hub: Arc<Hub<S, B>>, tap: ParkingTap, mut out: O) -> LinkTap
-where
-    R: Wait + Copy + Drop,
-    S: Sink,
-    B: Listing,
-    O: Outgoing + Drop,
-    requires fresh { O.failures out ≡ 0 }
-    ensures { result.to ≡ tap.to }
-{
-    let to = tap.to();
-    if hub.abandoned.load(Ordering::SeqCst) == to.get() {
-        return tap.into_tap();
-    }
-    let Ok(mine) = Arc::try_clone(&hub) else {
-        hub.links.lock(&rt).close_out(to, LinkFault::Memory);
-        return tap.into_tap();
-    };
-    let mut exit = Exit::new(rt, mine, tap);
-    let fault = run_writer(&rt, &mut out, hub.edition, hub.site, &mut exit);
-    hub.links
-        .lock(&rt)
-        .close_out(to, fault.unwrap_or(LinkFault::Ended));
-    exit.into_tap().into_tap()
-}
-
 impl<R, S, B, D> SiteThreads<R, S, B, D>
 where
     R: Wait + Threads + Copy + Send + Drop + 'static,
@@ -159,6 +97,7 @@ where
     where
         D: Drop,
         requires listen { L.failures listen ≡ 0 }
+        requires dial { D.failures dial ≡ 0 }
         ensures waiting { IfOk result (λ threads. vec_len threads.waiting ≡ vec_len taps) }
         ensures none_open { IfOk result (λ threads. vec_len threads.places ≡ 0) }
         ensures links { IfOk result (λ threads. link_sites threads.places.items threads.waiting.items
@@ -193,7 +132,7 @@ where
         Ok(SiteThreads {
             rt,
             hub,
-            dial,
+            dial: Dialler::new(dial),
             accepting,
             accepter,
             gate,
@@ -209,7 +148,9 @@ where
     }
 
     /// Opens the outgoing links that are new, ascending, and starts a writing thread for each. Says how many have one,
-    /// and how many were new and have none: (0, 0) where none is new, as at each later call.
+    /// and how many were new and have none: (0, 0) where none is new, as at each later call. A link that has none is
+    /// closed: with 1 where its site could not be connected, and with 6 where memory or a thread was refused.
+    #[tactic(auto, using(crate::proofs::Places::links_push, crate::proofs::Places::connected_push, crate::proofs::Places::failed_push, crate::proofs::Places::closed_push))]
     pub fn connect(&mut self) -> (usize, usize)
     where
         D::Out: Send + Drop + 'static,
@@ -219,103 +160,25 @@ where
         ensures failed { failed_in self.new.places.items ≡ failed_in self.old.places.items + result.1 }
         ensures links { link_sites self.new.places.items self.new.waiting.items
             ≡ link_sites self.old.places.items self.old.waiting.items }
+
+        // As many links are closed with 1 as calls of the dial have failed.
+        ensures unconnected { length (closed_with 1 self.new.places.items) ≡ self.new.dial }
+        ensures causes { failed_in self.new.places.items
+            ≡ length (closed_with 1 self.new.places.items) + length (closed_with 6 self.new.places.items) }
     {
         let mut connected = 0;
         let mut failed = 0;
         while let Some(tap) = self.waiting.pop() {
-            match self.open(tap) {
-                Opening::Stale => {}
-                Opening::Failed => failed += 1,
-                Opening::Connected => connected += 1,
+            let is_new = self.hub.links.lock(&self.rt).open_out(tap.to());
+            let place = open(self.rt, &self.hub, &mut self.dial, tap, is_new);
+            match &place {
+                Place::Idle(_) => {}
+                Place::Closed { .. } => failed += 1,
+                Place::Writing(_) => connected += 1,
             }
+            self.places.push_reserved(place);
         }
         (connected, failed)
-    }
-
-    /// Opens the link of a tap.
-    fn open(&mut self, tap: ParkingTap) -> Opening
-    where
-        D::Out: Send + Drop + 'static,
-        requires room { vec_len self.old.places + vec_len self.old.waiting < vec_capacity self.old.places }
-        requires room_at_end { vec_len self.old.places + vec_len self.old.waiting < vec_capacity self.old.taps }
-        ensures waiting { self.new.waiting ≡ self.old.waiting }
-        ensures links { map leads_to self.new.places.items ≡ map leads_to self.old.places.items ++ tap.to ∷ [] }
-        ensures connected { connected_in self.new.places.items
-            ≡ connected_in self.old.places.items + connected_by result }
-        ensures failed { failed_in self.new.places.items ≡ failed_in self.old.places.items + failed_by result }
-    {
-        let to = tap.to();
-        if !self.hub.links.lock(&self.rt).open_out(to) {
-            self.keep(Place::Idle(tap.into_tap()));
-            return Opening::Stale;
-        }
-        match dial_site(&mut self.dial, to) {
-            Ok(out) => self.start_writer(tap, out),
-            Err(IoFault) => {
-                self.hub
-                    .links
-                    .lock(&self.rt)
-                    .close_out(to, LinkFault::Connect);
-                self.keep(Place::Closed(tap.into_tap()));
-                Opening::Failed
-            }
-        }
-    }
-
-    /// Starts the writing thread of a link, or closes the link.
-    fn start_writer(&mut self, tap: ParkingTap, out: D::Out) -> Opening
-    where
-        D::Out: Send + Drop + 'static,
-        requires fresh { D.Out.failures out ≡ 0 }
-        requires room { vec_len self.old.places + vec_len self.old.waiting < vec_capacity self.old.places }
-        requires room_at_end { vec_len self.old.places + vec_len self.old.waiting < vec_capacity self.old.taps }
-        ensures waiting { self.new.waiting ≡ self.old.waiting }
-        ensures links { map leads_to self.new.places.items ≡ map leads_to self.old.places.items ++ tap.to ∷ [] }
-        ensures connected { connected_in self.new.places.items
-            ≡ connected_in self.old.places.items + connected_by result }
-        ensures failed { failed_in self.new.places.items ≡ failed_in self.old.places.items + failed_by result }
-    {
-        let rt = self.rt;
-        let to = tap.to();
-        let tap = match Arc::try_clone(&self.hub) {
-            Ok(theirs) => {
-                let run = move || write_link(rt, theirs, tap, out);
-                match thread::spawn_with(&rt, GivesBack { to }, run) {
-                    Ok(writer) => {
-                        self.keep(Place::Writing(writer));
-                        return Opening::Connected;
-                    }
-                    Err(refused) => {
-                        // No thread: what it would have run gives the tap back, when it is called here and told so.
-                        self.hub.abandoned.store(to.get(), Ordering::SeqCst);
-                        let run = refused.value;
-                        let tap = run();
-                        self.hub.abandoned.store(0, Ordering::SeqCst);
-                        tap
-                    }
-                }
-            }
-            Err(_) => tap.into_tap(),
-        };
-        self.hub
-            .links
-            .lock(&self.rt)
-            .close_out(to, LinkFault::Memory);
-        self.keep(Place::Closed(tap));
-        Opening::Failed
-    }
-
-    /// Keeps where the tap of the next link is.
-    fn keep(&mut self, place: Place)
-        requires room { vec_len self.old.places + vec_len self.old.waiting < vec_capacity self.old.places }
-        requires room_at_end { vec_len self.old.places + vec_len self.old.waiting < vec_capacity self.old.taps }
-        ensures waiting { self.new.waiting ≡ self.old.waiting }
-        ensures links { map leads_to self.new.places.items ≡ map leads_to self.old.places.items ++ leads_to place ∷ [] }
-        ensures connected { connected_in self.new.places.items
-            ≡ connected_in self.old.places.items + is_connected place }
-        ensures failed { failed_in self.new.places.items ≡ failed_in self.old.places.items + is_failed place }
-    {
-        self.places.push_reserved(place);
     }
 
     /// Lets the writing threads end once they have nothing left. It waits for nobody.
@@ -356,7 +219,7 @@ where
         for place in places {
             let tap = match place {
                 Place::Idle(tap) => tap,
-                Place::Closed(tap) => tap,
+                Place::Closed { tap, fault: _ } => tap,
                 Place::Writing(writer) => writer.join(&rt),
             };
             taps.push_reserved(tap);

@@ -6,5 +6,6 @@ invariant-loop g l = record {
   can : (goal.iterator-loop g).can_next l.iterator';
   ends : (goal.iterator-loop g).is_finite l.iterator';
   link : l.tap.to ≡ l.fn.tap.to;
+  ring : l.tap.ring ≡ l.fn.tap.ring;
   taken : l.tap.taken ≡ l.fn.tap.taken;
 }

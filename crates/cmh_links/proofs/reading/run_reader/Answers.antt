@@ -1,4 +1,4 @@
-use Rattle.std.proofs.Common.{◌≡◌, ◌<◌, ◌+◌, Bool, true, length, Ok, rules, arith, inl, inr, List, [], ◌++◌, take, Option, Some, None, refl, sym, ap, ◌∙◌}
+use Rattle.std.proofs.Common.{◌≡◌, ◌+◌, true, Ok, rules, inl, inr, [], ◌++◌, take, refl, sym, ap, ◌∙◌}
 use Rattle.cmh_journal.specs.Sink.{known_and}
 use Rattle.cmh_links.specs.Reading.{end_of}
 use Rattle.cmh_links.specs.declared.table.LinkFault.TheVariants.{Read, Ended}

@@ -1,4 +1,4 @@
-use Rattle.std.proofs.Common.{◌≡◌, ℕ, List, Option, None}
+use Rattle.std.proofs.Common.{◌≡◌, ℕ, List, None}
 use Rattle.cmh_frames.specs.declared.frame.Frame.{Frame}
 use Rattle.cmh_reader.specs.Reader.{ExpectsSame}
 use Rattle.cmh_reader.specs.Stream.{fault_of}

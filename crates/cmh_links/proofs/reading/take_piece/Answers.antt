@@ -1,7 +1,4 @@
-use Rattle.std.proofs.Common.{◌≡◌, ◌≢◌, List, [], ◌++◌, Option, Some, None, Ok, Err, ap, sym, ◌∙◌, subst, refl}
-use Rattle.cmh_frames.specs.declared.frame.Frame.{Frame}
-use Rattle.cmh_reader.specs.declared.fault.ReadFault.{ReadFault}
-use Rattle.cmh_reader.specs.declared.fault.ReadFault.TheVariants.{Memory as Starved}
+use Rattle.std.proofs.Common.{◌≡◌, Err, ap, sym, ◌∙◌, subst}
 use Rattle.cmh_reader.specs.Stream.{sender_of}
 use Rattle.cmh_journal.specs.Sink.{known_and}
 use Rattle.cmh_model.specs.Runs.{IsBeginningOf}

@@ -1,6 +1,6 @@
-use Rattle.std.proofs.Common.{◌≡◌, ℕ, List, refl, ap, subst, sym, ◌∙◌}
+use Rattle.std.proofs.Common.{ℕ, List, refl, ap, subst, ◌∙◌}
 use Rattle.cmh_journal.specs.Sink.{TookPart, known_and}
-use Rattle.cmh_links.proofs.Writes.{goes_first, goes_on, ends, fails_first, fails_at}
+use Rattle.cmh_links.proofs.Writes.{goes_first, goes_on, fails_first, fails_at}
 use Rattle.cmh_links.proofs.writing.run_writer.Goals as goal
 
 pub returns-in-Err-clause-wrote : goal.returns-in-Err-clause-wrote

@@ -1,10 +1,8 @@
-use Rattle.std.proofs.Common.{◌≡◌, Some, ap, refl}
-use Rattle.cmh_links.specs.Lent.{all_receipts}
-use Rattle.cmh_links.proofs.Lents.{grew_receipts, refused_entries}
-use Rattle.cmh_model.specs.declared.event.Event.TheVariants.{Got}
+use Rattle.std.proofs.Common.{Some, ap}
+use Rattle.cmh_links.proofs.Lents.{grew_receipts}
 use Rattle.cmh_links.proofs.lent.LentHandover.hand.Goals as goal
 
 pub returns-in-Ok-clause-ok : goal.returns-in-Ok-clause-ok
 returns-in-Ok-clause-ok g c =
     let outcome = c.in-Ok.field-0 in
-    ap Some (grew_receipts c.args.self.now.station c.args.from c.args.frame outcome.sent outcome.declared c.step.new.self c.in-Ok.ensures.ok)
+    ap Some (grew_receipts c.args.self.now.station.core c.args.from c.args.frame outcome.sent outcome.declared c.step.new.self.core c.in-Ok.ensures.ok)

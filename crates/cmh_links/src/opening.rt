@@ -1,0 +1,174 @@
+//! The opening of a link to another site, and the thread that writes it.
+
+ghost use Rattle.std.specs.Prelude.{◌≡◌, ℕ, ◌+◌, ◌-◌, ◌<◌, ◌^◌, Bool, false, [], ◌∷◌, Option, Some, IfOk, OnOk, OnErr, length, not};
+ghost use Rattle.cmh_links.specs.Threads.{closed_with, is_failed, is_idle, leads_to};
+ghost use Rattle.cmh_links.specs.Writing.{Wrote};
+ghost use Rattle.cmh_links.specs.declared.table.LinkFault.{LinkFault};
+
+use crate::dialler::Dialler;
+use crate::hub::{Exit, Hub};
+use crate::table::LinkFault;
+use crate::writing::run_writer;
+use cmh_carriers::{Dial, IoFault, Outgoing};
+use cmh_frames::SiteId;
+use cmh_journal::Sink;
+use cmh_station::{LinkTap, Listing, ParkingTap};
+use std::sync::atomic::Ordering;
+use std::sync::{Arc, Wait};
+use std::thread;
+use std::thread::{Promise, PromisedHandle, Threads};
+
+/// That a writing thread gives the tap of its link back.
+#[derive(Clone, Copy)]
+pub(crate) struct GivesBack {
+    to: SiteId,
+}
+
+impl Promise<LinkTap> for GivesBack {
+    ghost kept_by = { λ promise tap. tap.to ≡ promise.to };
+}
+
+/// Where the tap of a link is that was to be opened.
+#[derive(Drop)]
+pub(crate) enum Place {
+    /// With nobody: the link was not new.
+    Idle(LinkTap),
+    /// With nobody: the link was new, and was closed with this fault.
+    Closed { tap: LinkTap, fault: LinkFault },
+    Writing(PromisedHandle<LinkTap, GivesBack>),
+}
+
+/// Connects the link of a tap and starts its writing thread, or closes it; unless it was not new.
+pub(crate) fn open<R, S, B, D>(
+    rt: R,
+    hub: &Arc<Hub<S, B>>,
+    dial: &mut Dialler<D>,
+    tap: ParkingTap,
+    is_new: bool,
+) -> Place
+where
+    R: Wait + Threads + Copy + Send + Drop + 'static,
+    S: Sink + Send + 'static,
+    B: Listing + Send + 'static,
+    D: Dial,
+    D::Out: Send + Drop + 'static,
+    requires countable { dial.old < 2 ^ 64 - 1 }
+    ensures to { leads_to result ≡ tap.to }
+    ensures idle { is_idle result ≡ not is_new }
+    ensures unconnected { dial.new ≡ dial.old + length (closed_with 1 (result ∷ [])) }
+    ensures causes { is_failed result ≡ length (closed_with 1 (result ∷ [])) + length (closed_with 6 (result ∷ [])) }
+{
+    if !is_new {
+        return Place::Idle(tap.into_tap());
+    }
+    match dial.connect(tap.to()) {
+        Ok(out) => start_writer(rt, hub, tap, out),
+        Err(IoFault) => closed(&rt, hub, tap.into_tap(), LinkFault::Connect),
+    }
+}
+
+/// Closes the link of a tap.
+fn closed<R: Wait, S: Sink, B: Listing>(
+    rt: &R,
+    hub: &Hub<S, B>,
+    tap: LinkTap,
+    fault: LinkFault,
+) -> Place
+    ensures { result ≡ Place.Closed tap fault }
+{
+    hub.links.lock(rt).close_out(tap.to(), fault);
+    Place::Closed { tap, fault }
+}
+
+/// Starts the writing thread of a link, or closes the link.
+fn start_writer<R, S, B, O>(rt: R, hub: &Arc<Hub<S, B>>, tap: ParkingTap, out: O) -> Place
+where
+    R: Wait + Threads + Copy + Send + Drop + 'static,
+    S: Sink + Send + 'static,
+    B: Listing + Send + 'static,
+    O: Outgoing + Send + Drop + 'static,
+    requires fresh { O.failures out ≡ 0 }
+    ensures to { leads_to result ≡ tap.to }
+    ensures new { is_idle result ≡ false }
+    ensures causes { is_failed result ≡ length (closed_with 6 (result ∷ [])) }
+    ensures unconnected { closed_with 1 (result ∷ []) ≡ [] }
+{
+    let to = tap.to();
+    let (Ok(theirs), Ok(own)) = (Arc::try_clone(hub), Arc::try_clone(hub)) else {
+        return closed(&rt, hub, tap.into_tap(), LinkFault::Memory);
+    };
+    let run = move || write_unless_abandoned(rt, theirs, own, tap, out);
+    match thread::spawn_with(&rt, GivesBack { to }, run) {
+        Ok(writer) => Place::Writing(writer),
+        Err(refused) => {
+            let tap = abandon(hub, to, refused.value);
+            closed(&rt, hub, tap, LinkFault::Memory)
+        }
+    }
+}
+
+/// Has the tap of a link given back by what its thread would have run, where no thread can be had. To be called it must
+/// be told that nobody wants it to write.
+fn abandon<S: Sink, B: Listing, F: FnOnce() -> LinkTap>(
+    hub: &Hub<S, B>,
+    to: SiteId,
+    run: F,
+) -> LinkTap
+    requires runs { F.pre run }
+    ensures ran { F.post run result }
+{
+    hub.abandoned.store(to.get(), Ordering::SeqCst);
+    let tap = run();
+    hub.abandoned.store(0, Ordering::SeqCst);
+    tap
+}
+
+/// What the writing thread of a link runs. The tap comes back.
+fn write_unless_abandoned<R, S, B, O>(
+    rt: R,
+    hub: Arc<Hub<S, B>>,
+    own: Arc<Hub<S, B>>,
+    tap: ParkingTap,
+    mut out: O,
+) -> LinkTap
+where
+    R: Wait + Copy + Drop,
+    S: Sink,
+    B: Listing,
+    O: Outgoing + Drop,
+    requires fresh { O.failures out ≡ 0 }
+    ensures { result.to ≡ tap.to }
+{
+    if hub.abandoned.load(Ordering::SeqCst) == tap.to().get() {
+        return tap.into_tap();
+    }
+    write_link(rt, &hub, own, tap, &mut out)
+}
+
+/// Writes the frames of a tap until the site ends or a write fails, and closes the link.
+fn write_link<R, S, B, O>(
+    rt: R,
+    hub: &Hub<S, B>,
+    own: Arc<Hub<S, B>>,
+    tap: ParkingTap,
+    out: &mut O,
+) -> LinkTap
+where
+    R: Wait + Copy + Drop,
+    S: Sink,
+    B: Listing,
+    O: Outgoing,
+    requires fresh { O.failures out.old ≡ 0 }
+    ensures to { result.to ≡ tap.to }
+    ensures wrote { (over : Bool) × ((fault : Option LinkFault)
+        × Wrote hub.now.edition hub.now.site (Some tap.taken) (Some result.taken) over
+        (O.taken out.old) (O.taken out.new) (O.failures out.old) (O.failures out.new) fault) }
+{
+    let to = tap.to();
+    let mut exit = Exit::new(rt, own, tap);
+    let fault = run_writer(&rt, out, hub.edition, hub.site, &mut exit);
+    hub.links
+        .lock(&rt)
+        .close_out(to, fault.unwrap_or(LinkFault::Ended));
+    exit.into_tap().into_tap()
+}
