@@ -118,6 +118,7 @@ kept_at_end Kept (Some bytes) old out new has_failed game before after (Ok x) pl
     plays = played.plays;
     wrote = inr (appends-kept old out new played.text played.wrote flushed);
     all = λ _. refl;
+    all_written = λ _. appends-kept old out new played.text played.wrote flushed;
   };
   kept = λ _. (before, kept);
 }
@@ -129,6 +130,7 @@ kept_at_end Kept (Some bytes) old out new has_failed game before after (Err faul
     plays = played.plays;
     wrote = inr (appends-kept old out new played.text played.wrote flushed);
     all = λ _. refl;
+    all_written = λ _. appends-kept old out new played.text played.wrote flushed;
   };
   kept = λ zero. absurd (fault_not_0 fault zero);
 }

@@ -96,6 +96,7 @@ answered_none (Some bytes) out alloc has_failed fault = record {
   plays = begin (Named (record { edition = One; rows = [] })) refl;
   wrote = inr (appends-none out);
   all = λ zero. absurd (fault_not_0 fault zero);
+  all_written = λ zero. absurd (fault_not_0 fault zero);
 }
 
 -- the same by the result of the call
@@ -163,6 +164,7 @@ module _ (start now old out : Option (List ℕ)) (game : Game) (n : ℕ) (so_far
         plays = s.plays;
         wrote = inr s.wrote;
         all = λ _. subst (IsNextLine s.rest) ends (at_some now (λ bytes. IsNextLine bytes next) s.rest s.now_is is);
+        all_written = λ _. s.wrote;
       })
 
   -- a fault comes after these lines
@@ -176,6 +178,7 @@ module _ (start now old out : Option (List ℕ)) (game : Game) (n : ℕ) (so_far
         plays = s.plays;
         wrote = inr s.wrote;
         all = λ zero. absurd (fault_not_0 fault zero);
+        all_written = λ zero. absurd (fault_not_0 fault zero);
       })
 
   -- the writer fails after these lines
@@ -189,6 +192,7 @@ module _ (start now old out : Option (List ℕ)) (game : Game) (n : ℕ) (so_far
         plays = s.plays;
         wrote = inl failed;
         all = λ zero. absurd (fault_not_0 fault zero);
+        all_written = λ zero. absurd (fault_not_0 fault zero);
       })
 
   -- the same by the result of the call
@@ -290,6 +294,7 @@ answered_flushed (Some bytes) old out new before after status a kept same = reco
   plays = a.plays;
   wrote = tells_kept old out new before after a.text a.wrote kept same;
   all = a.all;
+  all_written = λ zero. appends-kept old out new a.text (a.all_written zero) kept;
 }
 
 pub answered_unflushed : (start old out new : Option (List ℕ)) (before after : Bool) (status : ℕ) (fault : Fault) → IfSome start (λ bytes. Answered bytes old out before status) → after ≡ true
@@ -302,6 +307,7 @@ answered_unflushed (Some bytes) old out new before after status fault a failed =
   plays = a.plays;
   wrote = inl failed;
   all = λ zero. absurd (fault_not_0 fault zero);
+  all_written = λ zero. absurd (fault_not_0 fault zero);
 }
 
 restated : (bytes : List ℕ) (old out : Option (List ℕ)) (has_failed : Bool) (status : ℕ) (fault : Fault) → Answered bytes old out has_failed status → Answered bytes old out has_failed (status_of fault)
@@ -312,6 +318,7 @@ restated bytes old out has_failed status fault a = record {
   plays = a.plays;
   wrote = a.wrote;
   all = λ zero. absurd (fault_not_0 fault zero);
+  all_written = λ zero. absurd (fault_not_0 fault zero);
 }
 
 -- a fault, whether what was answered before it was flushed or not

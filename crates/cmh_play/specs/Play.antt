@@ -139,7 +139,7 @@ pub data Plays (bytes : List ℕ) : List ℕ → List ℕ → Game → Type 0 wh
       → 0 < length rest → FirstSays rest line → Replies old new line reply
       → IsOfHonestSites reply → IsOfRun new → Plays bytes (drop_through 10 rest) (text ++ reply_text reply) new
 
--- lines of a script were answered, where the reader tells its bytes: all of them at status 0
+-- lines of a script were answered, where the reader tells its bytes: at status 0 all of them, and each answer was written
 pub record Answered (bytes : List ℕ) (old new : Option (List ℕ)) (has_failed : Bool) (status : ℕ) : Type 0 where
   pub rest : List ℕ
   pub text : List ℕ
@@ -147,6 +147,7 @@ pub record Answered (bytes : List ℕ) (old new : Option (List ℕ)) (has_failed
   pub plays : Plays bytes rest text game
   pub wrote : Tells old new has_failed text
   pub all : status ≡ 0 → rest ≡ []
+  pub all_written : status ≡ 0 → Appends old new text
 
 -- the status of a script's end, or of a fault
 abbrev pub status_after : Result (Unit {0}) Fault → ℕ

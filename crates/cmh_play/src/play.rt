@@ -34,13 +34,14 @@ pub fn run_play<R: BufRead + Ahead, W: Write, E: Write>(
 ) -> u8
     ensures status { IsStatus result }
 
-    // What is written answers the script line by line: all of it where the status is 0.
+    // What is written answers the script line by line. Where the status is 0, all answers were written, and no write failed.
     ensures answers { IfSome (R.remaining input.old.inner) (λ bytes. Answered bytes (W.contents out.old.inner)
         (W.contents out.new.inner) out.new.has_failed result) }
     ensures silent { result ≡ 0 → err.new ≡ err.old }
 
     // What was written is flushed, also before a fault.
     ensures flushed { result ≡ 0 → out.new.is_flushed ≡ true }
+    ensures unfailed { result ≡ 0 → out.new.has_failed ≡ out.old.has_failed }
     ensures left { out.new.has_failed ≡ false → (out.new.is_flushed ≡ true) ⊎ (out.new ≡ out.old) }
     ensures fault { result ≢ 0 → NamesFault (IsPlayFault (R.remaining input.old.inner) input.new.has_failed
         out.new.has_failed) result (E.contents err.old.inner) (E.contents err.new.inner) err.new.has_failed }
@@ -66,6 +67,7 @@ pub fn run_play_keeping<R: BufRead + Ahead, W: Write, E: Write, K: Keeper>(
 
     // What was written is flushed, also before a fault.
     ensures flushed { result ≡ 0 → out.new.is_flushed ≡ true }
+    ensures unfailed { result ≡ 0 → out.new.has_failed ≡ out.old.has_failed }
     ensures left { out.new.has_failed ≡ false → (out.new.is_flushed ≡ true) ⊎ (out.new ≡ out.old) }
     ensures fault { result ≢ 0 → NamesFault (IsKeptPlayFault K.fails (R.remaining input.old.inner)
         input.new.has_failed out.new.has_failed) result (E.contents err.old.inner) (E.contents err.new.inner)
@@ -88,6 +90,7 @@ fn play<R: BufRead + Ahead, W: Write, K: Keeper>(
     ensures fault { IfErr result (IsKeptPlayFault K.fails (R.remaining input.old.inner) input.new.has_failed
         out.new.has_failed) }
     ensures flushed { OnOk result (out.new.is_flushed ≡ true) }
+    ensures unfailed { OnOk result (out.new.has_failed ≡ out.old.has_failed) }
     ensures left { out.new.has_failed ≡ false → (out.new.is_flushed ≡ true) ⊎ (out.new ≡ out.old) }
 {
     let mut game = Game::new(alloc)?;
@@ -111,6 +114,7 @@ fn answer_all<R: BufRead + Ahead, W: Write, K: Keeper>(
         (W.contents out.new.inner) out.new.has_failed (status_after result)) }
     ensures all { OnOk result (ShowsSome K.wants game.new (λ shown. IfSome (R.remaining input.old.inner)
         (λ bytes. PlayedToEnd bytes (W.contents out.old.inner) (W.contents out.new.inner) shown))) }
+    ensures unfailed { OnOk result (out.new.has_failed ≡ out.old.has_failed) }
     ensures fault { IfErr result (IsKeptPlayFault K.fails (R.remaining input.old.inner) input.new.has_failed
         out.new.has_failed) }
 {
@@ -225,6 +229,7 @@ impl Game {
     ) -> Result<(), Fault>
         ensures answers { OnOk result (LeadsOn K.wants (λ old new. AnswersAndKeeps K.keeps old new next.entry
             (W.contents out.old.inner) (W.contents out.new.inner) keeper.old keeper.new) self.old self.new) }
+        ensures unfailed { OnOk result (out.new.has_failed ≡ out.old.has_failed) }
         ensures fault { IfErr result (IsUnanswered K.fails (W.contents out.old.inner)
             (W.contents out.new.inner) out.new.has_failed) }
     {

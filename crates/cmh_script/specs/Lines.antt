@@ -1,5 +1,5 @@
 -- Lines of a script.
-use Rattle.std.specs.Prelude.{◌≡◌, ℕ, ◌-◌, ◌^◌, ◌<◌, ◌≤◌, ◌==◌, Bool, true, false, ◌⊎◌, List, [], ◌∷◌, ◌++◌, length, take, Option, None, Some, ⊤}
+use Rattle.std.specs.Prelude.{◌≡◌, ℕ, ◌-◌, ◌^◌, ◌<◌, ◌≤◌, ◌==◌, Bool, true, false, ◌⊎◌, List, [], ◌∷◌, ◌++◌, length, take, IfSome, Option, None, Some, ⊤}
 use Rattle.std.specs.Io.BufRead.{first_line}
 use Rattle.cmh_script.specs.declared.device.Piece.{Piece}
 use Rattle.cmh_script.specs.declared.device.Piece.TheVariants.{Fed, Unfed, End as End_piece}
@@ -21,6 +21,11 @@ IsPiece most bytes old new Fed left = (seen : List ℕ) × (rest : List ℕ) × 
 IsPiece most bytes old new Unfed left = (seen : List ℕ) × (rest : List ℕ) × NoFeed seen × (0 < length seen)
     × (bytes ≡ seen ++ rest) × (left ≡ Some rest) × (new ≡ old ++ take (most - length old) seen)
 IsPiece most bytes old new End_piece left = (bytes ≡ []) × (left ≡ Some []) × (new ≡ old)
+
+-- Of the bytes before a read and those that are left, where they are told: so many fewer stand ahead up to a line feed. A
+-- count that is too high would tell of a line where none is ahead.
+abbrev pub IsTakenOff : Option (List ℕ) → Option (List ℕ) → ℕ → ℕ → Type 0
+IsTakenOff old new before after = IfSome old (λ bytes. IfSome new (λ left. after ≤ before - (length bytes - length left)))
 
 -- whether a line is within the limit
 abbrev pub Judges : List ℕ → NextLine → Type 0

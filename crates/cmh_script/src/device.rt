@@ -3,7 +3,7 @@
 ghost use Rattle.std.specs.Prelude.{◌≡◌, ◌-◌, ◌<◌, ◌≤◌, true, false, IfOk, IfErr, IfSome, OnOk, OnErr, length, take, get_or};
 ghost use Rattle.std.specs.Fmt.{with_newline};
 ghost use Rattle.std.specs.Io.KnownBytes.{Appends, Keeps};
-ghost use Rattle.cmh_script.specs.Lines.{IsPiece, NoFeed};
+ghost use Rattle.cmh_script.specs.Lines.{IsPiece, IsTakenOff, NoFeed};
 
 use crate::lines::LineFault;
 use arrayvec::ArrayString;
@@ -97,6 +97,8 @@ impl<R: BufRead> Input<R> {
     pub fn next_piece(&mut self, line: &mut Vec<u8>, most: usize) -> Result<Piece, LineFault>
         ensures piece { IfOk result (λ piece. IfSome (R.remaining self.old.inner)
             (λ bytes. IsPiece most bytes line.old.items line.new.items piece (R.remaining self.new.inner))) }
+        ensures fed { OnOk result (IsTakenOff (R.remaining self.old.inner) (R.remaining self.new.inner)
+            self.old.fed self.new.fed) }
         ensures ok { OnOk result (self.new.has_failed ≡ self.old.has_failed) }
         ensures err { IfErr result (λ fault. fault ≡ LineFault.Input → self.new.has_failed ≡ true) }
     {
@@ -153,6 +155,8 @@ fn take_piece<R: BufRead>(
 ) -> Result<Piece, PieceFault>
     ensures piece { IfOk result (λ piece. IfSome (R.remaining reader.old)
         (λ bytes. IsPiece most bytes line.old.items line.new.items piece (R.remaining reader.new))) }
+    ensures fed { OnOk result (IsTakenOff (R.remaining reader.old) (R.remaining reader.new) fed.old fed.new) }
+    ensures unfed { OnErr result (fed.new ≡ fed.old) }
     ensures line { OnErr result (line.new.items ≡ line.old.items) }
     ensures reader { OnErr result (Keeps (R.remaining reader.old) (R.remaining reader.new)) }
 {

@@ -1,6 +1,9 @@
+use Rattle.std.proofs.Common.{◌≡◌}
 use Rattle.cmh_play.proofs.LinesLed.{HasLed}
 use Rattle.cmh_play.proofs.play.answer_all.Given as goal
 
 abbrev pub invariant-loop-turn : goal.invariant-loop-turn
-invariant-loop-turn g l =
-    HasLed g.K.Keeper.wants l.game (g.R.Read.remaining l.initial.input.inner) (g.R.Read.remaining l.input.inner) (g.W.Write.contents l.initial.out.inner) (g.W.Write.contents l.out.inner) l.turn
+invariant-loop-turn g l = record {
+  led : HasLed g.K.Keeper.wants l.game (g.R.Read.remaining l.initial.input.inner) (g.R.Read.remaining l.input.inner) (g.W.Write.contents l.initial.out.inner) (g.W.Write.contents l.out.inner) l.turn;
+  unfailed : l.out.has_failed ≡ l.initial.out.has_failed;
+}
