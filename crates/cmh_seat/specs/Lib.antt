@@ -1,0 +1,3 @@
+pub mod Inlet
+pub mod Inner
+pub mod Seat

@@ -1,0 +1,11 @@
+//! A step that waits.
+
+use cmh_model::Entry;
+
+/// A step that the controller has prepared, and that waits to be kept or dropped.
+#[derive(Debug, Drop)]
+pub(crate) struct Pending {
+    pub(crate) entry: Entry,
+    /// Whether it is the receipt of a probe that acted.
+    pub(crate) acted: bool,
+}
