@@ -1,0 +1,237 @@
+"""Judges what ended transactions by the clients' own log, and by nothing that the watcher or a server says.
+
+By the log a transaction holds a row from `got` to `end`, and waits from `want` to `got` or `end` for whoever holds the row.
+So each waits for at most one, and a cycle begins with the `want` that closes it, and is over with the first `end` on it.
+"""
+from __future__ import annotations
+
+from bisect import bisect_right
+from collections import Counter, defaultdict
+from collections.abc import Iterator
+from dataclasses import dataclass, field
+from pathlib import Path
+from statistics import median, quantiles
+from typing import Any
+
+from workload import Log, Note, Row
+from world import World
+
+LONGEST = 5.0    # seconds that a cycle may last
+SLACK = 1.0      # seconds after its end in which a cycle may still be declared: the cancel was under way
+NOTICED = 0.05   # seconds that may pass from the end of a wait to the client's note of it
+
+
+@dataclass
+class Cycle:
+    """Clients that waited for each other, and when."""
+    members: frozenset[int]
+    began: float
+    ended: float = float('inf')
+
+
+@dataclass
+class History:
+    """Who held and wanted what, as the notes go on."""
+    wants: dict[int, Row] = field(default_factory=dict)
+    holder: dict[Row, int] = field(default_factory=dict)
+    cycles: list[Cycle] = field(default_factory=list)
+    _open: dict[int, Cycle] = field(default_factory=dict)
+
+    def take(self, note: Note) -> None:
+        if note.what == 'want' and note.row:
+            self.wants[note.client] = note.row
+            self._look_for_cycle(note)
+        elif note.what == 'got' and note.row:
+            self.wants.pop(note.client, None)
+            self.holder[note.row] = note.client
+        elif note.what == 'end':
+            self._end(note)
+
+    def waits_for(self, client: int) -> int | None:
+        row = self.wants.get(client)
+        return None if row is None else self.holder.get(row)
+
+    def cycle_through(self, client: int) -> list[int] | None:
+        path, seen = [client], {client}
+        while (following := self.waits_for(path[-1])) is not None:
+            if following == client:
+                return path
+            if following in seen:
+                return None
+            path.append(following)
+            seen.add(following)
+        return None
+
+    def _look_for_cycle(self, note: Note) -> None:
+        members = self.cycle_through(note.client)
+        if members:
+            cycle = Cycle(frozenset(members), note.at)
+            self.cycles.append(cycle)
+            self._open.update(dict.fromkeys(members, cycle))
+
+    def _end(self, note: Note) -> None:
+        self.wants.pop(note.client, None)
+        for row in [row for row, holder in self.holder.items() if holder == note.client]:
+            del self.holder[row]
+        if cycle := self._open.get(note.client):
+            cycle.ended = note.at
+            for member in cycle.members:
+                self._open.pop(member, None)
+
+
+@dataclass
+class Verdict:
+    """What the judge found. `faults` says what must not be; nothing else does."""
+    commits_per_second: float
+    aborts: Counter[str]          # by the server's word
+    on_a_cycle: Counter[str]      # of these, those whose transaction lay on a cycle when its wait was ended, or just before
+    cycles: int
+    hung: int                     # clients that never came to an end
+    longest_cycle: float
+    lock_ms: dict[str, float]
+    cancels: int = 0
+    cancelled_bystanders: int = 0
+    dropped: int = 0
+    declarations: int = 0
+    latency_ms: dict[str, float] = field(default_factory=dict)
+    declare_ms: dict[str, float] = field(default_factory=dict)
+    audits: int = 0
+    events: int = 0
+    faults: list[str] = field(default_factory=list)
+
+
+def judge(log: Log, records: list[dict[str, Any]] | None = None, cycles_must_end: bool = True) -> Verdict:
+    """The verdict over a workload and what the watchers wrote into their logs, if any worked. Where nobody breaks cycles,
+    they may last."""
+    notes = sorted(log.notes, key=lambda note: note.at)
+    history = History()
+    for note in notes:
+        history.take(note)
+    verdict = _of_the_workload(log, notes, history.cycles)
+    if cycles_must_end:
+        if log.hung:
+            verdict.faults.append(f'{log.hung} transactions hang')
+        if verdict.longest_cycle > LONGEST:
+            verdict.faults.append(f'a cycle lasted {verdict.longest_cycle:.1f} s')
+    if records is not None:
+        _judge_cancels(verdict, notes, records)
+        _judge_declarations(verdict, history.cycles, records)
+        _judge_audits(verdict, records)
+    return verdict
+
+
+def _of_the_workload(log: Log, notes: list[Note], cycles: list[Cycle]) -> Verdict:
+    aborts = Counter(note.fault for note in notes if note.what == 'aborted')
+    return Verdict(
+        commits_per_second=sum(note.what == 'committed' for note in notes) / log.seconds,
+        aborts=aborts,
+        on_a_cycle=Counter(_aborted_on_cycles(notes, cycles)),
+        cycles=len(cycles),
+        hung=log.hung,
+        longest_cycle=max((min(cycle.ended, log.ended) - cycle.began for cycle in cycles), default=0.0),
+        lock_ms=_spread(_lock_times(notes)))
+
+
+def _aborted_on_cycles(notes: list[Note], cycles: list[Cycle]) -> Iterator[str]:
+    """Each abort of a transaction that lay on a cycle until it ended, or until so shortly before that whoever ended its wait
+    could not know: by the server's word."""
+    of_client = _by_client(cycles)
+    ends: dict[int, float] = {}
+    for note in notes:
+        if note.what == 'end':
+            ends[note.client] = note.at
+        elif note.what == 'aborted':
+            end = ends[note.client]
+            if any(cycle.began <= end <= cycle.ended + NOTICED for cycle in of_client[note.client]):
+                yield note.fault
+
+
+def _by_client(cycles: list[Cycle]) -> dict[int, list[Cycle]]:
+    of_client: dict[int, list[Cycle]] = defaultdict(list)
+    for cycle in cycles:
+        for member in cycle.members:
+            of_client[member].append(cycle)
+    return of_client
+
+
+def _histories_at(notes: list[Note], moments: list[float]) -> Iterator[History]:
+    """The history at each of these moments, which ascend. It goes on, so look at each before the next."""
+    history = History()
+    times = [note.at for note in notes]
+    done = 0
+    for moment in moments:
+        until = bisect_right(times, moment)
+        for note in notes[done:until]:
+            history.take(note)
+        done = until
+        yield history
+
+
+def _lock_times(notes: list[Note]) -> list[float]:
+    """How long each lock took, in ms."""
+    wanted: dict[int, float] = {}
+    times = []
+    for note in notes:
+        if note.what == 'want':
+            wanted[note.client] = note.at
+        elif note.what in ('got', 'end') and note.client in wanted:
+            times.append(1000 * (note.at - wanted.pop(note.client)))
+    return times
+
+
+def _spread(values: list[float]) -> dict[str, float]:
+    if len(values) < 2:
+        return {name: value for value in values for name in ('median', 'p95', 'max')}
+    return {'median': median(values), 'p95': quantiles(values, n=20, method='inclusive')[18], 'max': max(values)}
+
+
+def _client(agent: list[Any]) -> int | None:
+    """The client of an agent as the watcher's log names it, [server, name]."""
+    return int(agent[1]) if agent[1].isdigit() else None
+
+
+def _judge_cancels(verdict: Verdict, notes: list[Note], records: list[dict[str, Any]]) -> None:
+    """Each cancel, at the moment between the two looks: its victim lay on a cycle, else it is a phantom."""
+    cancels = sorted((record for record in records if record['what'] == 'cancelled'), key=lambda record: record['between'])
+    verdict.cancels = len(cancels)
+    verdict.dropped = sum(record['what'] == 'dropped' for record in records)
+    verdict.latency_ms = _spread([1000 * (record['done'] - record['closed']) for record in cancels])
+    verdict.declare_ms = _spread([1000 * (record['declared'] - record['told']) for record in cancels])
+    histories = _histories_at(notes, [record['between'] for record in cancels])
+    for record, history in zip(cancels, histories):
+        victim = _client(record['victim'])
+        if victim is not None and history.cycle_through(victim):
+            continue
+        members = [_client(agent) for agent in record['cycle']]
+        if any(member is not None and history.cycle_through(member) for member in members):
+            verdict.cancelled_bystanders += 1
+        else:
+            verdict.faults.append(f'a phantom was cancelled: {record}')
+    if verdict.cancelled_bystanders:
+        verdict.faults.append(f'{verdict.cancelled_bystanders} victims lay on no cycle, though another agent of theirs did')
+
+
+def _judge_declarations(verdict: Verdict, cycles: list[Cycle], records: list[dict[str, Any]]) -> None:
+    """Each declaration: a transaction of its cycle lay on a cycle by the clients, then or until just before."""
+    of_client = _by_client(cycles)
+    for record in records:
+        if record['what'] == 'declared':
+            verdict.declarations += 1
+            clients = [client for agent in record['cycle'] if (client := _client(agent)) is not None]
+            if not any(cycle.began <= record['at'] <= cycle.ended + SLACK
+                       for client in clients for cycle in of_client[client]):
+                verdict.faults.append(f'a declaration without a cycle: {record}')
+
+
+def _judge_audits(verdict: Verdict, records: list[dict[str, Any]]) -> None:
+    """The journals of each world that was in use. The auditor is asked here, so that a watcher's word is not needed, nor that
+    it came to its end."""
+    folders = [record['folder'] for record in records if record['what'] == 'world']
+    for folder in folders:
+        audit = World.of(Path(folder)).audit()
+        verdict.audits += 1
+        verdict.events += audit.events
+        if not audit.accepted:
+            verdict.faults.append(f'journals were not accepted: {folder}: {audit.text}')
+    if not folders:
+        verdict.faults.append('there was no world of sites')
