@@ -6,8 +6,6 @@ pub mod laws;
 mod reader;
 mod reading;
 mod standing;
-#[cfg(test)]
-mod tests;
 
 pub use crate::fault::ReadFault;
 pub use crate::reader::FrameReader;

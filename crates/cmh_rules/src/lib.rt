@@ -9,6 +9,3 @@ mod starts;
 
 pub use crate::receipts::{ProbeVerdict, on_probe};
 pub use crate::starts::{StartVerdict, start};
-
-#[cfg(test)]
-mod tests;

@@ -1,130 +1,154 @@
-//! What several tests use.
+//! Sites whose threads run, and what they tell a test.
 
-ghost use Rattle.std.specs.Prelude.{◌≡◌, [], IfOk, IfSome};
+ghost use Rattle.std.specs.Prelude.{◌≡◌, ◌≤◌, None};
 
-use cmh_carriers::TcpListen;
-use cmh_frames::{Edition, Frame, ProcId, SiteId, SiteRow, Topology};
-use cmh_journal::{MemSink, Sink};
-use cmh_model::{Entry, Event};
-use cmh_station::{KeptBoard, ParkingTap, SharedStation, Station};
+use cmh_carriers::{Listen, TcpDial};
+use cmh_frames::{Edition, ProcId, SiteId, SiteRow, Topology};
+use cmh_journal::{Sink, SinkFault};
+use cmh_links::SiteThreads;
+use cmh_station::{BoardReader, KeptBoard, ParkingTap, SharedStation, Station};
 use std::alloc::{AllocError, Global};
-use std::net::{Net, TcpListener, TcpStream};
+use std::net::{Net, TcpStream};
+use std::sync::atomic::{AtomicBool, AtomicU64, Ordering};
 use std::sync::{Arc, Wait};
 use std::test::Fail;
+use std::thread;
+use std::thread::Threads;
+use std::time::{Clock, Duration};
 
-/// The hello of site 1 in edition 1.
-pub const HELLO: [u8; 6] = [0x43, 0x4D, 0x48, 1, 0, 1];
+/// What the sink and the carriers of a site tell a test.
+#[derive(Drop)]
+pub struct Watch {
+    /// How many syncs its journal had. The first is that of the header.
+    pub syncs: AtomicU64,
+    /// How many reads its connections had.
+    pub reads: AtomicU64,
+    /// Whether it accepts no more connections.
+    pub has_shut: AtomicBool,
+}
 
-/// A hello of site 1 and request 101 201.
-pub const STREAM: [u8; 11] = [0x43, 0x4D, 0x48, 1, 0, 1, 1, 0, 101, 0, 201];
-
-pub fn site(number: u16) -> Result<SiteId, Fail> {
-    match SiteId::new(number) {
-        Some(site) => Ok(site),
-        None => Err(Fail::from("no site has this number")),
+impl Watch {
+    pub fn new(alloc: Global) -> Result<Arc<Watch>, AllocError> {
+        let watch = Watch {
+            syncs: AtomicU64::new(0),
+            reads: AtomicU64::new(0),
+            has_shut: AtomicBool::new(false),
+        };
+        Ok(Arc::new(alloc, watch)?)
     }
 }
 
-pub fn process(number: u16) -> Result<ProcId, Fail> {
-    match ProcId::new(number) {
-        Some(process) => Ok(process),
-        None => Err(Fail::from("no process has this number")),
+/// A sink that takes all, keeps nothing, and counts its syncs.
+#[derive(Drop)]
+pub struct Counting {
+    watch: Arc<Watch>,
+}
+
+impl Sink for Counting {
+    ghost failures = { λ _. 0 };
+
+    ghost known = { λ _. None };
+
+    ghost synced = { λ _. 0 };
+
+    fn write(&mut self, bytes: &[u8]) -> Result<usize, SinkFault> {
+        Ok(bytes.len())
     }
+
+    fn sync(&mut self) -> Result<(), SinkFault> {
+        self.watch.syncs.fetch_add(1, Ordering::SeqCst);
+        Ok(())
+    }
+
+    fn faults(&self) -> u64 {
+        0
+    }
+}
+
+pub fn site(number: u16) -> Result<SiteId, Fail> {
+    Ok(SiteId::new(number).ok_or("no site has this number")?)
+}
+
+pub fn process(number: u16) -> Result<ProcId, Fail> {
+    Ok(ProcId::new(number).ok_or("no process has this number")?)
 }
 
 /// Sites 1, 2 and so on, each with so many processes: at site 1 they are 101, 102 and so on.
 pub fn sites(alloc: Global, count: u16, processes: u16) -> Result<Topology, Fail> {
     let mut rows = Vec::with_capacity(alloc, count as usize)?;
     for site in 1..=count {
-        let mut each = Vec::with_capacity(alloc, processes as usize)?;
-        for i in 1..=processes {
-            each.push(site.saturating_mul(100).saturating_add(i))?;
-        }
-        rows.push(SiteRow {
-            site,
-            processes: each,
-        })?;
+        let number = |i| site.saturating_mul(100).saturating_add(i);
+        let processes = (1..=processes).map(number).collect(alloc)?;
+        rows.push(SiteRow { site, processes })?;
     }
-    match Topology::new(alloc, Edition::One, &rows) {
-        Ok(topology) => Ok(topology),
-        Err(_) => Err(Fail::from("no topology")),
-    }
+    Ok(Topology::new(alloc, Edition::One, &rows)?)
 }
 
 /// A station that threads share.
-pub type Shared<R, S> = Arc<SharedStation<S, KeptBoard<R>>>;
+pub type Shared<R> = SharedStation<Counting, KeptBoard<R>>;
 
-/// The station of a site, and the taps of its links.
-pub fn share<R: Wait + Copy + Drop, S: Sink + Drop>(
+/// The station of a site, the taps of its links, and so many readers of its board.
+pub fn share<R: Wait + Copy + Drop>(
     rt: R,
     alloc: Global,
     topology: &Topology,
     site: SiteId,
-    sink: S,
-) -> Result<(Shared<R, S>, Vec<ParkingTap>), Fail>
-    requires faults { S.failures sink ≡ 0 }
-    requires empty { IfSome (S.known sink) (λ bytes. bytes ≡ []) }
+    watch: &Arc<Watch>,
+    readers: usize,
+) -> Result<(Shared<R>, Vec<ParkingTap>, Vec<BoardReader>), AllocError>
+    requires { readers ≤ 4 }
 {
-    let Ok((station, taps, _)) = Station::new(rt, alloc, topology, site, sink, 0) else {
-        return Err(Fail::from("no station"));
+    let sink = Counting {
+        watch: Arc::try_clone(watch)?,
     };
-    let Ok((shared, taps)) = SharedStation::new(alloc, station, taps) else {
-        return Err(Fail::from("no shared station"));
+    let Ok((station, taps, readers)) = Station::new(rt, alloc, topology, site, sink, readers) else {
+        return Err(AllocError);
     };
-    Ok((Arc::new(alloc, shared)?, taps))
+    match SharedStation::new(alloc, station, taps) {
+        Ok((shared, taps)) => Ok((shared, taps, readers)),
+        Err(_) => Err(AllocError),
+    }
 }
 
-/// A listener on a free port.
-pub fn listen<R: Net<Listener = TcpListener, Stream = TcpStream>>(
-    rt: &R,
+/// The threads of a site.
+pub type Running<R> = SiteThreads<R, Counting, KeptBoard<R>, TcpDial<R>>;
+
+/// Starts the threads of a site that reaches these other sites at their ports. Its station comes back, too.
+pub fn start<R, L>(
+    rt: R,
     alloc: Global,
-) -> Result<(TcpListen, u16), Fail>
-    ensures { IfOk result (λ made. made.0.faults ≡ 0) }
+    topology: &Topology,
+    site: SiteId,
+    watch: &Arc<Watch>,
+    listen: L,
+    ports: &[(SiteId, u16)],
+) -> Result<(Running<R>, Arc<Shared<R>>), AllocError>
+where
+    R: Wait + Threads + Net<Stream = TcpStream> + Copy + Send + Drop + 'static,
+    L: Listen + Send + Drop + 'static,
+    requires { L.failures listen ≡ 0 }
 {
-    let Ok(listen) = TcpListen::bind(rt, alloc, 0) else {
-        return Err(Fail::from("no listener"));
-    };
-    match listen.port() {
-        Ok(port) => Ok((listen, port)),
-        Err(_) => Err(Fail::from("no port")),
+    let (shared, taps, _) = share(rt, alloc, topology, site, watch, 0)?;
+    let station = Arc::new(alloc, shared)?;
+    let theirs = Arc::try_clone(&station)?;
+    let dial = TcpDial::new(rt, ports.to_vec(alloc)?);
+    match SiteThreads::start(rt, alloc, topology, site, theirs, taps, listen, dial) {
+        Ok(threads) => Ok((threads, station)),
+        Err(_) => Err(AllocError),
     }
 }
 
-/// The frames that these entries sent to a site.
-pub fn sendings(alloc: Global, entries: &[Entry], to: SiteId) -> Result<Vec<Frame>, AllocError> {
-    let mut frames = Vec::new(alloc);
-    for entry in entries {
-        for (of, frame) in entry.sent.as_slice() {
-            if *of == to {
-                frames.push(*frame)?;
-            }
-        }
-    }
-    Ok(frames)
-}
+/// How many milliseconds a test waits for what threads do.
+const PATIENCE: u64 = 15_000;
 
-/// How many frames they got from a site.
-pub fn count_receipts(entries: &[Entry], from: SiteId) -> usize {
-    let mut count = 0usize;
-    for entry in entries {
-        if let Event::Got { from: of, frame: _ } = &entry.event {
-            if *of == from {
-                count = count.saturating_add(1);
-            }
+/// Looks each millisecond until it holds, for some seconds at most.
+pub fn wait_until<R: Clock, F: Fn() -> bool>(rt: &R, holds: F)
+    requires { F.IsAlwaysCallable holds }
+{
+    for _ in 0..PATIENCE {
+        if holds() {
+            return;
         }
+        thread::sleep(rt, Duration::from_millis(1));
     }
-    count
-}
-
-/// The frames that they got from a site.
-pub fn receipts(alloc: Global, entries: &[Entry], from: SiteId) -> Result<Vec<Frame>, AllocError> {
-    let mut frames = Vec::new(alloc);
-    for entry in entries {
-        if let Event::Got { from: of, frame } = &entry.event {
-            if *of == from {
-                frames.push(*frame)?;
-            }
-        }
-    }
-    Ok(frames)
 }

@@ -1,11 +1,12 @@
-//! Tests of sites whose threads carry frames: over sockets, and over carriers that fail or wait for each other.
+//! What only threads of one program show: a station that is locked while others take and read, links that are served at
+//! the same time, connections that are turned away, and thousands of frames over sockets.
 #![tactic(auto)]
 
 #[cfg(test)]
 mod fixture;
 #[cfg(test)]
-mod peers;
+mod links;
 #[cfg(test)]
-mod three_sites;
+mod locking;
 #[cfg(test)]
-mod two_links;
+mod sockets;

@@ -5,8 +5,6 @@
 
 mod laws;
 mod links;
-#[cfg(test)]
-mod tests;
 
 pub use crate::laws::{
     count_law, count_law_of_every_run, cut_law, cut_law_of_every_run, dark_path_law,

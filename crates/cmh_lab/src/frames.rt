@@ -1,0 +1,186 @@
+//! Numbers, topologies, frames, hellos and bytes.
+
+use crate::object::{
+    Called, Object, Objects, bytes, keep, process, put_or_none, put_processes, refused, site, word,
+};
+use cmh_frames::{
+    Front, HELLO_LEN, ProcId, SiteId, Topology, decode_front, decode_hello, encode_hello,
+};
+use cmh_journal::encode_header;
+use cmh_lab_lines::{Answer, Unanswered, bytes_of, edition, frame, number, rows, size};
+use cmh_script::Words;
+use std::alloc::Global;
+
+/// `limits EDITION`: how many sites, processes, members and targets, and whether an ask starts a computation.
+pub fn limits(words: &mut Words<'_>, answer: &mut Answer) -> Called {
+    let edition = edition(words)?;
+    let (sites, processes) = (edition.site_limit(), edition.process_limit());
+    let (members, targets) = (edition.member_limit(), edition.target_limit());
+    let starts = edition.starts_at_ask();
+    answer.word(format_args!("sites {sites} processes {processes} members {members}"))?;
+    answer.word(format_args!("targets {targets} starts {starts}"))
+}
+
+/// `number N`: the site and the process of the number, or `none`.
+pub fn numbers(words: &mut Words<'_>, answer: &mut Answer) -> Called {
+    let Ok(number) = u16::try_from(number(words)?) else {
+        return Err(Unanswered::BadLine);
+    };
+    match (SiteId::new(number), ProcId::new(number)) {
+        (Some(site), Some(process)) => answer.word(format_args!("site {site} process {process}")),
+        (None, None) => answer.word("none"),
+        _ => answer.word("one alone"),
+    }
+}
+
+/// `topology NAME EDITION SITE:PROCESS,..`: `ok`, or `fault` and its number.
+pub fn topology(objects: &mut Objects, words: &mut Words<'_>, answer: &mut Answer) -> Called {
+    let name = word(words)?;
+    let edition = edition(words)?;
+    let rows = rows(objects.alloc, words)?;
+    match Topology::new(objects.alloc, edition, &rows) {
+        Ok(topology) => keep(objects, name, Object::Topology(topology), answer),
+        Err(fault) => refused("fault", fault.number(), 5, answer),
+    }
+}
+
+/// `T sites`, `T edition`, `T members SITE`, `T home PROCESS`, `T has SITE`, `T place SITE`, `T copy NAME`.
+pub fn of_topology(
+    topology: &Topology,
+    objects: &mut Objects,
+    words: &mut Words<'_>,
+    answer: &mut Answer,
+) -> Called {
+    match word(words)? {
+        b"sites" => {
+            answer.word("sites")?;
+            for site in topology.sites() {
+                answer.word(*site)?;
+            }
+            Ok(())
+        }
+        b"edition" => answer.word(topology.edition()),
+        b"members" => {
+            answer.word("members")?;
+            put_processes(topology.members(site(words)?), answer)
+        }
+        b"home" => put_or_none(topology.home(process(words)?), answer),
+        b"has" => answer.word(topology.has_site(site(words)?)),
+        b"place" => put_or_none(topology.known_place(site(words)?), answer),
+        b"copy" => {
+            let name = word(words)?;
+            keep(
+                objects,
+                name,
+                Object::Topology(topology.copy(objects.alloc)?),
+                answer,
+            )
+        }
+        _ => Err(Unanswered::BadLine),
+    }
+}
+
+/// `encode FRAME`: the bytes.
+pub fn encode(words: &mut Words<'_>, answer: &mut Answer) -> Called {
+    let frame = frame(words)?;
+    answer.bytes(cmh_frames::encode(&frame).as_slice())?;
+    answer.word("of")?;
+    answer.word(frame.spelled_len())
+}
+
+/// `decode BYTES`: as `B front`.
+pub fn decode(alloc: Global, words: &mut Words<'_>, answer: &mut Answer) -> Called {
+    let bytes = bytes_of(alloc, words)?;
+    front(&bytes, answer)
+}
+
+/// The frame at the front of bytes, its length and its spelling, or `short`, or `bad`.
+fn front(bytes: &[u8], answer: &mut Answer) -> Called {
+    match decode_front(bytes) {
+        Front::Whole(frame, len) => {
+            answer.word(format_args!("{frame} of {len}"))?;
+            answer.bytes(cmh_frames::encode(&frame).as_slice())
+        }
+        Front::Short => answer.word("short"),
+        Front::Bad => answer.word("bad"),
+    }
+}
+
+/// `hello EDITION SITE` and `header EDITION SITE`: the bytes with which a link and a journal begin.
+pub fn beginning(is_link: bool, words: &mut Words<'_>, answer: &mut Answer) -> Called {
+    let edition = edition(words)?;
+    let site = site(words)?;
+    if is_link {
+        answer.bytes(&encode_hello(edition, site))
+    } else {
+        answer.bytes(&encode_header(edition, site))
+    }
+}
+
+/// `greet EDITION B`: the site whose hello the bytes begin with, or `none`.
+pub fn greet(objects: &Objects, words: &mut Words<'_>, answer: &mut Answer) -> Called {
+    let edition = edition(words)?;
+    let bytes = bytes(objects, words)?;
+    if bytes.len() < HELLO_LEN {
+        return Err(Unanswered::BadLine);
+    }
+    put_or_none(decode_hello(edition, bytes), answer)
+}
+
+/// `bytes NAME BYTES`.
+pub fn make_bytes(objects: &mut Objects, words: &mut Words<'_>, answer: &mut Answer) -> Called {
+    let name = word(words)?;
+    let bytes = bytes_of(objects.alloc, words)?;
+    keep(objects, name, Object::Bytes(bytes), answer)
+}
+
+/// `text NAME WORD..`: the words, a space between any two; a word `/` is a line feed.
+pub fn make_text(objects: &mut Objects, words: &mut Words<'_>, answer: &mut Answer) -> Called {
+    let name = word(words)?;
+    let mut text = Vec::new(objects.alloc);
+    let mut is_behind_word = false;
+    for _ in 0..u64::MAX {
+        let Some(next) = words.next_word() else {
+            break;
+        };
+        if next == b"/".as_slice() {
+            text.push(b'\n')?;
+            is_behind_word = false;
+        } else {
+            if is_behind_word {
+                text.push(b' ')?;
+            }
+            text.extend_from_slice(next)?;
+            is_behind_word = true;
+        }
+    }
+    keep(objects, name, Object::Bytes(text), answer)
+}
+
+/// `B front`, `B show`, `B len`, `B add BYTES`, `B repeat COUNT BYTES`, `B cut LEN`.
+pub fn of_bytes(
+    alloc: Global,
+    held: &mut Vec<u8>,
+    words: &mut Words<'_>,
+    answer: &mut Answer,
+) -> Called {
+    match word(words)? {
+        b"front" => return front(held, answer),
+        b"show" => return answer.bytes(held),
+        b"add" => {
+            let bytes = bytes_of(alloc, words)?;
+            held.extend_from_slice(&bytes)?;
+        }
+        b"repeat" => {
+            let count = size(words)?;
+            let bytes = bytes_of(alloc, words)?;
+            for _ in 0..count {
+                held.extend_from_slice(&bytes)?;
+            }
+        }
+        b"cut" => held.truncate(size(words)?),
+        b"len" => {}
+        _ => return Err(Unanswered::BadLine),
+    }
+    answer.word(held.len())
+}

@@ -1,0 +1,92 @@
+//! Taps and readers of a station that is locked, and threads that sleep.
+
+use crate::fixture::{Watch, process, share, site, sites};
+use cmh_frames::{Frame, ProcId, Request};
+use cmh_model::{Event, Targets};
+use cmh_station::{BoardReader, ParkingTap};
+use std::alloc::{AllocError, Global};
+use std::sync::Wait;
+use std::test::Fail;
+use std::thread;
+
+/// How often a thread looks before it gives up.
+const TURNS: u32 = 1_000_000;
+
+/// The first frame that comes within so many turns.
+fn take_soon(mut tap: ParkingTap) -> Option<Frame> {
+    for _ in 0..TURNS {
+        let frame = tap.take();
+        if frame.is_some() {
+            return frame;
+        }
+    }
+    None
+}
+
+/// The length of the first list that is read within so many turns.
+fn read_soon(mut reader: BoardReader) -> Option<usize> {
+    for _ in 0..TURNS {
+        if let Some(list) = reader.read() {
+            return Some(list.len());
+        }
+    }
+    None
+}
+
+/// The first frame, for which the thread sleeps.
+fn take_woken<R: Wait>(rt: &R, mut tap: ParkingTap) -> Option<Frame> {
+    for _ in 0..TURNS {
+        let frame = tap.take();
+        if frame.is_some() {
+            return frame;
+        }
+        tap.park(rt);
+    }
+    None
+}
+
+fn ask(alloc: Global, asker: ProcId, holder: ProcId) -> Result<Event, AllocError> {
+    let targets = Targets::new(vec![in alloc; holder]?);
+    Ok(Event::Ask { asker, targets })
+}
+
+#[test]
+fn take_while_locked(rt: HostRuntime) -> Result<(), Fail> {
+    let (asker, holder) = (process(101)?, process(201)?);
+    let event = ask(rt.alloc(), asker, holder)?;
+    let topology = sites(rt.alloc(), 2, 1)?;
+    let watch = Watch::new(rt.alloc())?;
+    let (shared, mut taps, mut readers) = share(rt, rt.alloc(), &topology, site(1)?, &watch, 1)?;
+    let tap = taps.pop().ok_or("no tap")?;
+    let reader = readers.pop().ok_or("no reader")?;
+    let mut guard = shared.lock(&rt);
+    let stepped = guard.step(&rt, &event).is_ok();
+    // Both threads end while the lock is held.
+    let taking = thread::spawn(&rt, move || take_soon(tap))?;
+    let taken = taking.join(&rt);
+    let reading = thread::spawn(&rt, move || read_soon(reader))?;
+    let read = reading.join(&rt);
+    drop(guard);
+    assert!(rt; stepped);
+    assert_eq!(rt; taken, Some(Frame::Request(Request { asker, holder })));
+    assert_eq!(rt; read, Some(0));
+    assert_eq!(rt; shared.into_station().journal().len(), 1);
+    Ok(())
+}
+
+#[test]
+fn a_thread_that_sleeps_is_woken(rt: HostRuntime) -> Result<(), Fail> {
+    let (asker, holder) = (process(101)?, process(201)?);
+    let event = ask(rt.alloc(), asker, holder)?;
+    let topology = sites(rt.alloc(), 2, 1)?;
+    let watch = Watch::new(rt.alloc())?;
+    let (shared, mut taps, _) = share(rt, rt.alloc(), &topology, site(1)?, &watch, 0)?;
+    let tap = taps.pop().ok_or("no tap")?;
+    let taking = thread::spawn(&rt, move || take_woken(&rt, tap))?;
+    let stepped = shared.lock(&rt).step(&rt, &event).is_ok();
+    shared.wake();
+    let taken = taking.join(&rt);
+    assert!(rt; stepped);
+    assert_eq!(rt; taken, Some(Frame::Request(Request { asker, holder })));
+    Ok(())
+}
