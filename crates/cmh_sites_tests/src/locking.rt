@@ -50,10 +50,18 @@ fn ask(alloc: Global, asker: ProcId, holder: ProcId) -> Result<Event, AllocError
     Ok(Event::Ask { asker, targets })
 }
 
+fn request(asker: ProcId, holder: ProcId) -> Result<Frame, Fail> {
+    if asker == holder {
+        return Err(Fail::from("a process asks for itself"));
+    }
+    Ok(Frame::Request(Request { asker, holder }))
+}
+
 #[test]
 fn take_while_locked(rt: HostRuntime) -> Result<(), Fail> {
     let (asker, holder) = (process(101)?, process(201)?);
     let event = ask(rt.alloc(), asker, holder)?;
+    let wanted = request(asker, holder)?;
     let topology = sites(rt.alloc(), 2, 1)?;
     let watch = Watch::new(rt.alloc())?;
     let (shared, mut taps, mut readers) = share(rt, rt.alloc(), &topology, site(1)?, &watch, 1)?;
@@ -68,7 +76,7 @@ fn take_while_locked(rt: HostRuntime) -> Result<(), Fail> {
     let read = reading.join(&rt);
     drop(guard);
     assert!(rt; stepped);
-    assert_eq!(rt; taken, Some(Frame::Request(Request { asker, holder })));
+    assert_eq!(rt; taken, Some(wanted));
     assert_eq!(rt; read, Some(0));
     assert_eq!(rt; shared.into_station().journal().len(), 1);
     Ok(())
@@ -78,6 +86,7 @@ fn take_while_locked(rt: HostRuntime) -> Result<(), Fail> {
 fn a_thread_that_sleeps_is_woken(rt: HostRuntime) -> Result<(), Fail> {
     let (asker, holder) = (process(101)?, process(201)?);
     let event = ask(rt.alloc(), asker, holder)?;
+    let wanted = request(asker, holder)?;
     let topology = sites(rt.alloc(), 2, 1)?;
     let watch = Watch::new(rt.alloc())?;
     let (shared, mut taps, _) = share(rt, rt.alloc(), &topology, site(1)?, &watch, 0)?;
@@ -87,6 +96,6 @@ fn a_thread_that_sleeps_is_woken(rt: HostRuntime) -> Result<(), Fail> {
     shared.wake();
     let taken = taking.join(&rt);
     assert!(rt; stepped);
-    assert_eq!(rt; taken, Some(Frame::Request(Request { asker, holder })));
+    assert_eq!(rt; taken, Some(wanted));
     Ok(())
 }
