@@ -1,10 +1,8 @@
 -- Processes that are named twice, found from the last row and its last process to the first.
-use Rattle.std.proofs.Common.{◌≡◌, ℕ, suc, zero, ◌+◌, ◌-◌, ◌<◌, Bool, true, false, ◌||◌, ◌==◌, List, [], ◌∷◌, length, drop, get_or, replicate, sym, ap, ◌∙◌, inl, inr, arith}
+use Rattle.std.proofs.Common.{◌≡◌, ℕ, suc, zero, ◌+◌, ◌-◌, ◌<◌, Bool, true, false, ◌||◌, ◌==◌, List, [], ◌∷◌, length, drop, get_or, sym, ap, ◌∙◌, inl, inr, arith}
 use Rattle.std.specs.List.{list_any}
-use Rattle.std.proofs.Math.ListN.{set}
 use Rattle.std.proofs.Math.Seq.{drop-cons}
-use Rattle.std.proofs.lemmas.Bool.{cases_eq, cases_lt, eq-eqb, ne_eqb, or_left, or_right}
-use Rattle.std.proofs.lemmas.List.{get_or-set_same, get_or-set_other, get_or-replicate, get_or_past, length-replicate}
+use Rattle.std.proofs.lemmas.Bool.{cases_eq, eq-eqb, ne_eqb, or_left, or_right}
 use Rattle.cmh_frames.specs.Rows.{Row, has_process, repeats_among, repeats_process}
 
 -- one item more of a list, from its last to its first
@@ -49,15 +47,15 @@ module _ (rows : List Row) (later : ℕ) (row : Row) (behind p : ℕ) (within : 
   pub named_once : (list_any (λ q. q == p) ps || has_process rest p) ≡ false → repeats_among rest ps ≡ false → repeats_among rest (drop (length row.1 - (behind + 1)) row.1) ≡ false
   named_once new none = ap (repeats_among rest) (drop_back row.1 behind p inside p_is) ∙ ap (λ b. b || repeats_among rest ps) new ∙ none
 
-  pub one_named : (named : List Bool) → p < length named → ((q : ℕ) → get_or named q false ≡ (list_any (λ r. r == q) ps || has_process rest q))
-      → (q : ℕ) → get_or (set named p true) q false ≡ (list_any (λ r. r == q) (drop (length row.1 - (behind + 1)) row.1) || has_process rest q)
-  one_named named long marks q = elim (cases_eq p q) [
+  pub one_named : (now next : ℕ → Bool) → ((q : ℕ) → now q ≡ (list_any (λ r. r == q) ps || has_process rest q)) → ((q : ℕ) → next q ≡ ((q == p) || now q))
+      → (q : ℕ) → next q ≡ (list_any (λ r. r == q) (drop (length row.1 - (behind + 1)) row.1) || has_process rest q)
+  one_named now next marks marked q = marked q ∙ elim (cases_eq p q) [
     | inl e ↦
-        ap (λ n. get_or (set named p true) n false) (sym e) ∙ get_or-set_same named p true false long
+        ap (λ b. b || now q) (eq-eqb q p (sym e))
         ∙ sym (ap (λ xs. list_any (λ r. r == q) xs || has_process rest q) (drop_back row.1 behind p inside p_is)
         ∙ or_left (list_any (λ r. r == q) (p ∷ ps)) (has_process rest q) (or_left (p == q) (list_any (λ r. r == q) ps) (eq-eqb p q e)))
     | inr n ↦
-        get_or-set_other named p q true false (λ e. n (sym e)) ∙ marks q
+        ap (λ b. b || now q) (ne_eqb q p (λ e. n (sym e))) ∙ marks q
         ∙ sym (ap (λ xs. list_any (λ r. r == q) xs || has_process rest q) (drop_back row.1 behind p inside p_is)
         ∙ ap (λ b. (b || list_any (λ r. r == q) ps) || has_process rest q) (ne_eqb p q n))
   ]
@@ -69,10 +67,3 @@ module _ (rows : List Row) (later : ℕ) (row : Row) (within : later < length ro
 
   pub row_named : (p : ℕ) → has_process (drop (length rows - (later + 1)) rows) p ≡ (list_any (λ q. q == p) row.1 || has_process (drop (length rows - later) rows) p)
   row_named p = ap (λ rs. has_process rs p) (drop_back rows later row within row_is)
-
--- before the last row nothing is marked
-pub unmarked : (n p : ℕ) → get_or (replicate n false) p false ≡ false
-unmarked n p = elim (cases_lt p n) [
-  | inl inside ↦ get_or-replicate n p false false inside
-  | inr past ↦ get_or_past (replicate n false) p false (let long = length-replicate n false in omega (arith, past, long))
-]

@@ -1,3 +1,4 @@
 -- This crate's own words. No contract of what it gives to its callers cites them.
 pub mod Kept
+pub mod Marks
 pub mod Pairs

@@ -1,19 +1,18 @@
 //! The rows that are given for a topology, and what can be wrong with them.
 
-ghost use Rattle.std.specs.Prelude.{◌≡◌, ℕ, false, IfErr, IfOk, length, nat_lt, slice_index_or, None};
+ghost use Rattle.std.specs.Prelude.{◌≡◌, ℕ, false, IfErr, IfOk, length, nat_lt, None};
 ghost use Rattle.std.specs.List.{list_any, sum_by};
 ghost use Rattle.cmh_frames.specs.Edition.{process_limit};
+ghost use Rattle.cmh_frames.specs.Inner.Marks.{has_mark};
 ghost use Rattle.cmh_frames.specs.Rows as spec;
 ghost use Rattle.cmh_frames.specs.Rows.{fault_of, IsFaultOf};
 ghost use Rattle.cmh_frames.specs.Topology.{members_in};
 
 use crate::edition::Edition;
+use crate::marks::{WORDS, is_marked, mark};
 use crate::number::is_number;
 use std::marker::Model;
 use thiserror::Error;
-
-/// How many numbers a row can give.
-const NUMBERS: usize = 65536;
 
 /// A site and its processes, as they are given: any numbers, in any order.
 #[derive(Debug, Drop)]
@@ -148,25 +147,25 @@ fn has_site(rows: &[SiteRow], site: u16) -> bool
 fn repeats_process(rows: &[SiteRow]) -> bool
     ensures { result ≡ spec.repeats_process rows.now }
 {
-    let mut named = [false; NUMBERS];
+    let mut named = [0; WORDS];
     names_twice(rows, &mut named)
 }
 
 /// Whether the rows name a process twice. It goes from the last row and its last process to the first, and marks each
 /// number that is named.
-fn names_twice(rows: &[SiteRow], named: &mut [bool]) -> bool
-    requires all { length named.old ≡ 65536 }
-    requires unmarked { (p : ℕ) → slice_index_or named.old p false ≡ false }
+fn names_twice(rows: &[SiteRow], named: &mut [u64]) -> bool
+    requires all { length named.old ≡ 1024 }
+    requires unmarked { (p : ℕ) → has_mark named.old p ≡ false }
     ensures { result ≡ spec.repeats_process rows.now }
 {
     for later in 0..rows.len() {
         let row = &rows[rows.len() - 1 - later];
         for behind in 0..row.processes.len() {
             let process = row.processes[row.processes.len() - 1 - behind];
-            if named[process as usize] {
+            if is_marked(named, process) {
                 return true;
             }
-            named[process as usize] = true;
+            mark(named, process);
         }
     }
     false
