@@ -1,6 +1,6 @@
 //! Three sites whose threads carry thousands of frames over sockets.
 
-use crate::fixture::{Shared, Watch, site, sites, start, wait_until};
+use crate::fixture::{Shared, Watch, await_entries, site, sites, start};
 use cmh_carriers::TcpListen;
 use cmh_frames::{Frame, SiteId, Topology};
 use cmh_model::{Entry, Event, Targets};
@@ -95,10 +95,7 @@ fn each_links_receipts_are_its_sendings(rt: HostRuntime) -> Result<(), Fail> {
         act(&rt, alloc, &topology, &at_3, three, one),
     ];
     for station in [&at_1, &at_2, &at_3] {
-        wait_until(
-            &rt,
-            || station.lock(&rt).journal().len() >= 1 + STARTS + FRAMES,
-        );
+        await_entries(&rt, station, 1 + STARTS + FRAMES);
     }
     site_1.end();
     site_2.end();
