@@ -1,9 +1,11 @@
 -- What the words of a command line name, and how the program ends.
 use Rattle.std.specs.Prelude.{◌≡◌, ℕ, ◌≤◌, ◌⊎◌, Bool, List, ⊤, codes, option_map, Option, None, Some}
+use Rattle.std.specs.Str.Parse.{IsNumeral, digits_value, without_leading_plus}
 use Rattle.clap.specs.declared.parser.matches.ArgMatches.{ArgMatches}
 use Rattle.clap.specs.Matches.{first_value, found_of, one_text, subcommand_name_of}
 use Rattle.clap.specs.Simple.{subcommand_rows_of}
 use Rattle.clap.specs.Walk.{rows_of}
+use Rattle.cmh_frames.specs.Number.{IsNumber}
 use Rattle.cmh_files.specs.Audits.{AuditEnds}
 use Rattle.cmh_files.specs.Explains.{ExplainEnds}
 use Rattle.cmh_files.specs.Faults.{NamesFault}
@@ -24,6 +26,14 @@ NamesShow matches = subcommand_name_of matches ≡ Some (codes "show")
 -- the command that is named is `draw`
 abbrev pub NamesDraw : ArgMatches → Type 0
 NamesDraw matches = subcommand_name_of matches ≡ Some (codes "draw")
+
+-- the command that is named is `site`
+abbrev pub NamesSite : ArgMatches → Type 0
+NamesSite matches = subcommand_name_of matches ≡ Some (codes "site")
+
+-- the command that is named is `cluster`
+abbrev pub NamesCluster : ArgMatches → Type 0
+NamesCluster matches = subcommand_name_of matches ≡ Some (codes "cluster")
 
 -- a command with this name is named
 abbrev pub Names : ArgMatches → List ℕ → Type 0
@@ -52,6 +62,18 @@ abbrev pub NamesOption : ArgMatches → List ℕ → List ℕ → Type 0
 NamesOption matches name value = (words : ArgMatches)
     → option_map (λ p. p.1) (subcommand_rows_of matches) ≡ Some (rows_of (found_of words))
     → one_text (found_of words) name ≡ Some value
+
+-- an option that is told is this number, in decimal digits
+abbrev pub TellsNumber : Option (List ℕ) → ℕ → Type 0
+TellsNumber None number = ⊥
+TellsNumber (Some text) number =
+    IsNumeral 10 (without_leading_plus text) × (digits_value 10 (without_leading_plus text) ≡ number)
+
+-- the number of the site is told, and is this one of the numbers that sites have
+abbrev pub NamesSiteNumber : ArgMatches → ℕ → Type 0
+NamesSiteNumber matches site = IsNumber site × ((words : ArgMatches)
+    → option_map (λ p. p.1) (subcommand_rows_of matches) ≡ Some (rows_of (found_of words))
+    → TellsNumber (one_text (found_of words) (codes "site")) site)
 
 -- a run is not asked for
 abbrev pub NamesNoRun : ArgMatches → Type 0

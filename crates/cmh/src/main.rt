@@ -1,10 +1,12 @@
 //! The program: it reads its command line and calls a command.
 #![tactic(auto)]
 
-ghost use Rattle.std.specs.Prelude.{◌≡◌, ◌≢◌, ◌⊎◌, true, IfErr, IfSome, Some, codes};
+ghost use Rattle.std.specs.Prelude.{◌≡◌, ◌≢◌, ◌⊎◌, ℕ, true, IfErr, IfSome, Some, codes};
 ghost use Rattle.clap.specs.Matches.{found_of, one_text};
-ghost use Rattle.cmh.specs.CommandLine.{AuditsFiles, ExplainsFiles, IsEnd, IsUnset, ListsFiles, NamesAudit, NamesDraw, NamesNoFolder, NamesNoReasons, NamesNoRun, NamesNothing, NamesOption, NamesReasons, NamesRun, NamesShow, ShowsFiles};
+ghost use Rattle.cmh.specs.CommandLine.{AuditsFiles, ExplainsFiles, IsEnd, IsUnset, ListsFiles, NamesAudit, NamesCluster, NamesDraw, NamesNoFolder, NamesNoReasons, NamesNoRun, NamesNothing, NamesOption, NamesReasons, NamesRun, NamesShow, NamesSite, NamesSiteNumber, ShowsFiles, TellsNumber};
 ghost use Rattle.cmh.specs.Drawing.{DrawsFiles, DrawsSome};
+ghost use Rattle.cmh.specs.Serving.{ServesCluster, ServesSite, ServesSome};
+ghost use Rattle.cmh_frames.specs.Number.{IsNumber};
 ghost use Rattle.cmh_draw.specs.Kinds.{kind_word};
 ghost use Rattle.cmh_draw.specs.declared.picture.Kind as kinds;
 ghost use Rattle.cmh_picture.specs.Formats.{format_word};
@@ -177,6 +179,22 @@ where
         → DrawsSome (W.contents out.old.inner) (W.contents out.new.inner) out.new.has_failed out.new.is_flushed
         (E.contents err.old.inner) (E.contents err.new.inner) err.new.has_failed result }
     ensures draws_alone { NamesDraw matches.now → input.new ≡ input.old }
+
+    // Where `site` is named, that site is served.
+    ensures serves { NamesSite matches.now → (site : ℕ) → NamesSiteNumber matches.now site
+        → ServesSite site (I.remaining input.old.inner) input.new.has_failed
+        (W.contents out.old.inner) (W.contents out.new.inner) out.new.has_failed out.new.is_flushed
+        (E.contents err.old.inner) (E.contents err.new.inner) err.new.has_failed result }
+    ensures serves_some { NamesSite matches.now
+        → ServesSome (I.remaining input.old.inner) input.new.has_failed
+        (W.contents out.old.inner) (W.contents out.new.inner) out.new.has_failed out.new.is_flushed
+        (E.contents err.old.inner) (E.contents err.new.inner) err.new.has_failed result }
+
+    // Where `cluster` is named, all sites are served, and no input is read.
+    ensures serves_cluster { NamesCluster matches.now
+        → ServesCluster (W.contents out.old.inner) (W.contents out.new.inner) out.new.has_failed out.new.is_flushed
+        (E.contents err.old.inner) (E.contents err.new.inner) err.new.has_failed result }
+    ensures serves_alone { NamesCluster matches.now → input.new ≡ input.old }
 {
     if let Some(audit) = matches.subcommand_matches(AUDIT) {
         return audit_files(rt, audit, out, err);
@@ -285,20 +303,35 @@ where
         + Send
         + Drop
         + 'static,
-    ensures { IsStatus result }
+    ensures status { IsStatus result }
+    ensures serves { (site : ℕ) → IsNumber site
+        → TellsNumber (one_text (found_of words.now) (codes "site")) site
+        → ServesSite site (I.remaining input.old.inner) input.new.has_failed
+        (W.contents out.old.inner) (W.contents out.new.inner) out.new.has_failed out.new.is_flushed
+        (E.contents err.old.inner) (E.contents err.new.inner) err.new.has_failed result }
+    ensures serves_some { ServesSome (I.remaining input.old.inner) input.new.has_failed
+        (W.contents out.old.inner) (W.contents out.new.inner) out.new.has_failed out.new.is_flushed
+        (E.contents err.old.inner) (E.contents err.new.inner) err.new.has_failed result }
 {
     let path = words.get_str(TOPOLOGY).unwrap_or("");
     let topology = match read_file(rt, path, Fault::TopologyFile) {
         Ok(bytes) => bytes,
         Err(fault) => return fault.name_on(err),
     };
-    let number = words.get_one::<u16>(SITE).unwrap_or(0);
-    let Some(site) = SiteId::new(number) else {
+    let Some(site) = SiteId::new(number_of(words)) else {
         // Never so: the command line takes no other number.
         return Fault::Site.name_on(err);
     };
     let journal = words.get_str(JOURNAL).unwrap_or("");
     run_site(*rt, rt.alloc(), &topology, site, journal, input, out, err)
+}
+
+/// The number of the site that the words name. The command line takes no word that is none.
+fn number_of(words: &ArgMatches<'_>) -> u16
+    ensures { (site : ℕ) → IsNumber site
+        → TellsNumber (one_text (found_of words.now) (codes "site")) site → result ≡ site }
+{
+    words.get_one(SITE).unwrap_or(0)
 }
 
 /// Runs all sites of the topology that the words name.
@@ -318,7 +351,9 @@ where
         + Send
         + Drop
         + 'static,
-    ensures { IsStatus result }
+    ensures status { IsStatus result }
+    ensures serves { ServesCluster (W.contents out.old.inner) (W.contents out.new.inner) out.new.has_failed
+        out.new.is_flushed (E.contents err.old.inner) (E.contents err.new.inner) err.new.has_failed result }
 {
     let dir = words.get_str(OUT).unwrap_or("");
     match cluster_files_of(rt, words) {

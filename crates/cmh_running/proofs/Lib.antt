@@ -1,3 +1,4 @@
 pub mod Dialogues
 mod Named
+mod Porting
 mod Tallies

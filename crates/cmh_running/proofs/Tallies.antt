@@ -6,8 +6,6 @@ use Rattle.cmh_frames.specs.declared.frame.Frame.{Frame}
 use Rattle.cmh_model.specs.Journals.{frame_from, frames_to, receipts_of, sendings_of}
 use Rattle.cmh_model.specs.Runs.{IsBeginningOf}
 use Rattle.cmh_model.specs.declared.journal.Entry.{Entry}
-use Rattle.cmh_running.specs.Settling.{AreReceipts, AreSendings}
-use Rattle.cmh_running.specs.declared.settling.Count.{Count}
 
 -- one entry more
 pub receipt_more : (from : ℕ) (xs : List Entry) (x : Entry) (count new more : ℕ) → count ≡ min (length (receipts_of from xs)) (2 ^ 64 - 1)
@@ -61,25 +59,29 @@ drop_beginning : (before rest : List Entry) → drop (length before) (before ++ 
 drop_beginning [] rest = refl
 drop_beginning (x ∷ xs) rest = drop_beginning xs rest
 
-module _ (before now : List Entry) (old new : Count) (more : ℕ) (begins : IsBeginningOf before now) (ends : new.entries ≡ length now)
-    (adds : new.frames ≡ min (old.frames + more) (2 ^ 64 - 1)) where
-  behind_is : old.entries ≡ length before → drop old.entries now ≡ begins.0
-  behind_is looked = ap (λ n. drop n now) looked ∙ ap (λ es. drop (length before) es) (sym begins.1) ∙ drop_beginning before begins.0
+behind_is : (before now : List Entry) (looked : ℕ) (begins : IsBeginningOf before now) → looked ≡ length before → drop looked now ≡ begins.0
+behind_is before now looked begins is =
+    ap (λ n. drop n now) is ∙ ap (λ es. drop (length before) es) (sym begins.1) ∙ drop_beginning before begins.0
 
-  pub receipts_more : (from : ℕ) → more ≡ min (length (receipts_of from (drop old.entries now))) (2 ^ 64 - 1) → AreReceipts from before old → AreReceipts from now new
-  receipts_more from counted were =
-      let part : more ≡ min (length (receipts_of from begins.0)) (2 ^ 64 - 1) = counted ∙ ap (λ es. min (length (receipts_of from es)) (2 ^ 64 - 1)) (behind_is were.looked) in
+module _ (before now : List Entry) (looked frames more : ℕ) (begins : IsBeginningOf before now) (is : looked ≡ length before) where
+  pub receipts_more : (from : ℕ) → frames ≡ min (length (receipts_of from before)) (2 ^ 64 - 1)
+      → more ≡ min (length (receipts_of from (drop looked now))) (2 ^ 64 - 1)
+      → min (frames + more) (2 ^ 64 - 1) ≡ min (length (receipts_of from now)) (2 ^ 64 - 1)
+  receipts_more from first counted =
+      let part : more ≡ min (length (receipts_of from begins.0)) (2 ^ 64 - 1) =
+      counted ∙ ap (λ es. min (length (receipts_of from es)) (2 ^ 64 - 1)) (behind_is before now looked begins is) in
       let all : length (receipts_of from now) ≡ length (receipts_of from before) + length (receipts_of from begins.0) =
       ap (λ es. length (receipts_of from es)) (sym begins.1) ∙ ap length (receipts_of-append from before begins.0)
       ∙ length-append (receipts_of from before) (receipts_of from begins.0) in
-      let first = were.frames in
-      record { frames = omega (arith, part, all, first, adds); looked = ends }
+      omega (arith, part, all, first)
 
-  pub sendings_more : (to : ℕ) → more ≡ min (length (sendings_of to (drop old.entries now))) (2 ^ 64 - 1) → AreSendings to before old → AreSendings to now new
-  sendings_more to counted were =
-      let part : more ≡ min (length (sendings_of to begins.0)) (2 ^ 64 - 1) = counted ∙ ap (λ es. min (length (sendings_of to es)) (2 ^ 64 - 1)) (behind_is were.looked) in
+  pub sendings_more : (to : ℕ) → frames ≡ min (length (sendings_of to before)) (2 ^ 64 - 1)
+      → more ≡ min (length (sendings_of to (drop looked now))) (2 ^ 64 - 1)
+      → min (frames + more) (2 ^ 64 - 1) ≡ min (length (sendings_of to now)) (2 ^ 64 - 1)
+  sendings_more to first counted =
+      let part : more ≡ min (length (sendings_of to begins.0)) (2 ^ 64 - 1) =
+      counted ∙ ap (λ es. min (length (sendings_of to es)) (2 ^ 64 - 1)) (behind_is before now looked begins is) in
       let all : length (sendings_of to now) ≡ length (sendings_of to before) + length (sendings_of to begins.0) =
       ap (λ es. length (sendings_of to es)) (sym begins.1) ∙ ap length (sendings_of-append to before begins.0)
       ∙ length-append (sendings_of to before) (sendings_of to begins.0) in
-      let first = were.frames in
-      record { frames = omega (arith, part, all, first, adds); looked = ends }
+      omega (arith, part, all, first)

@@ -1,3 +1,5 @@
 pub mod Dialogue
+pub mod Ports
 pub mod Settling
+pub mod Shelves
 pub mod SiteScript

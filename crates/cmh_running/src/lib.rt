@@ -9,9 +9,9 @@ mod settling;
 mod site_script;
 
 pub use crate::dialogue::Flow;
-pub use crate::journal_file::{NoFile, can_be_made, keep_old};
+pub use crate::journal_file::{Disk, NoFile, NoName, Shelf, Writable, can_be_made, keep_old};
 pub use crate::ports::Ports;
-pub use crate::settling::Tally;
+pub use crate::settling::{ReceiptLook, SendingLook, Tally};
 pub use crate::site_script::{
     ClusterLine, EventLine, Order, SiteLine, parse_for_cluster, parse_for_site,
 };

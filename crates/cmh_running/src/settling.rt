@@ -1,75 +1,75 @@
 //! Whether all frames that running sites sent have come.
 
-ghost use Rattle.std.specs.Prelude.{◌≡◌, ◌↔◌, ◌-◌, ◌^◌, List, IfOk, IsTrue, MatchOption, drop, length, min, true, false, ⊤};
+ghost use Rattle.std.specs.Prelude.{◌≡◌, ◌≢◌, ◌↔◌, ◌+◌, ◌-◌, ◌^◌, ◌<◌, ℕ, List, IfOk, IfSome, IsTrue, MatchOption, drop, length, map, min, slice_get, true, false, ⊤};
 ghost use Rattle.cmh_model.specs.Journals.{frame_from, frames_to, receipts_of, sendings_of};
-ghost use Rattle.cmh_model.specs.Runs.{IsBeginningOf};
-ghost use Rattle.cmh_model.specs.declared.journal.Entry.{Entry};
-ghost use Rattle.cmh_running.specs.Settling.{AreReceipts, AreSendings, IsNewTally, link_at};
+ghost use Rattle.cmh_running.specs.Settling.{AtEach, CountsReceipts, CountsSendings, IsNewTally, no_receipts, no_sendings, received_at, sent_at};
 
 use cmh_frames::{Frame, SiteId};
 use cmh_model::{Entry, Event};
 use std::alloc::{AllocError, Global};
 
-/// Frames that were counted in the first entries of a journal. A count stops at its greatest number.
+/// The frames that came on a link, by the first entries of the receiver's journal. The count stops at its greatest number.
 #[derive(Clone, Copy, Debug, PartialEq, Eq)]
-pub struct Count {
+pub struct Receipts {
+    /// The sender.
+    from: SiteId,
     frames: u64,
     /// How many entries were looked at.
     entries: usize,
 }
 
-impl Count {
+impl Receipts {
     /// Nothing was looked at.
-    const NONE: Count = Count {
-        frames: 0,
-        entries: 0,
-    };
+    fn none(from: SiteId) -> Receipts
+        ensures { result ≡ no_receipts from }
+    {
+        Receipts {
+            from,
+            frames: 0,
+            entries: 0,
+        }
+    }
+
+    /// Counts by the entries of the receiver's journal that were not looked at before.
+    fn count(&mut self, entries: &[Entry])
+        ensures { CountsReceipts entries.now self.old self.new }
+    {
+        let more = receipts_from(behind(entries, self.entries), self.from);
+        self.frames = self.frames.saturating_add(more);
+        self.entries = entries.len();
+    }
 }
 
-/// The frames that went on a link, as far as the journals of its two ends were looked at.
+/// The frames that were sent on a link, by the first entries of the sender's journal. The count stops at its greatest
+/// number.
 #[derive(Clone, Copy, Debug, PartialEq, Eq)]
-pub struct LinkTally {
-    sendings: Count,
-    receipts: Count,
+pub struct Sendings {
+    /// The receiver.
+    to: SiteId,
+    frames: u64,
+    /// How many entries were looked at.
+    entries: usize,
 }
 
-impl LinkTally {
-    const NONE: LinkTally = LinkTally {
-        sendings: Count::NONE,
-        receipts: Count::NONE,
-    };
-
-    /// Counts what came from a site, by the entries of the receiver's journal that were not looked at before.
-    pub fn count_receipts(&mut self, from: SiteId, entries: &[Entry])
-        ensures counted { (before : List Entry) → IsBeginningOf before entries.now → AreReceipts from before self.old.receipts
-            → AreReceipts from entries.now self.new.receipts }
-        ensures sendings { self.new.sendings ≡ self.old.sendings }
+impl Sendings {
+    /// Nothing was looked at.
+    fn none(to: SiteId) -> Sendings
+        ensures { result ≡ no_sendings to }
     {
-        let more = receipts_from(behind(entries, self.receipts.entries), from);
-        self.receipts = Count {
-            frames: self.receipts.frames.saturating_add(more),
-            entries: entries.len(),
-        };
+        Sendings {
+            to,
+            frames: 0,
+            entries: 0,
+        }
     }
 
-    /// Counts what was sent to a site, by the entries of the sender's journal that were not looked at before.
-    pub fn count_sendings(&mut self, to: SiteId, entries: &[Entry])
-        ensures counted { (before : List Entry) → IsBeginningOf before entries.now → AreSendings to before self.old.sendings
-            → AreSendings to entries.now self.new.sendings }
-        ensures receipts { self.new.receipts ≡ self.old.receipts }
+    /// Counts by the entries of the sender's journal that were not looked at before.
+    fn count(&mut self, entries: &[Entry])
+        ensures { CountsSendings entries.now self.old self.new }
     {
-        let more = sendings_to(behind(entries, self.sendings.entries), to);
-        self.sendings = Count {
-            frames: self.sendings.frames.saturating_add(more),
-            entries: entries.len(),
-        };
-    }
-
-    /// Whether as many frames came as were sent.
-    pub fn is_balanced(&self) -> bool
-        ensures { IsTrue result ↔ (self.now.receipts.frames ≡ self.now.sendings.frames) }
-    {
-        self.receipts.frames == self.sendings.frames
+        let more = sendings_to(behind(entries, self.entries), self.to);
+        self.frames = self.frames.saturating_add(more);
+        self.entries = entries.len();
     }
 }
 
@@ -129,58 +129,168 @@ fn frames_for(frames: &[(SiteId, Frame)], site: SiteId) -> u64
     count
 }
 
-/// The frames that went from each site to each other, as far as the journals were looked at.
+/// A look at the journals of all sites, one after the other, for the frames that they got.
+#[derive(Debug, Drop)]
+pub struct ReceiptLook {
+    /// How many journals were looked at.
+    places: usize,
+}
+
+impl ReceiptLook {
+    /// No journal was looked at.
+    pub fn new() -> ReceiptLook
+        ensures { result.places ≡ 0 }
+    {
+        ReceiptLook { places: 0 }
+    }
+}
+
+/// A look at the journals of all sites for the frames that they sent. It comes after one for the frames that they got, so
+/// that each of those is counted among the frames that were sent.
+#[derive(Debug, Drop)]
+pub struct SendingLook {
+    /// In how many journals receipts were counted before.
+    received: usize,
+    /// How many journals were looked at.
+    places: usize,
+}
+
+impl SendingLook {
+    /// No journal was looked at for sendings.
+    pub fn after(receipts: ReceiptLook) -> SendingLook
+        ensures received { result.received ≡ receipts.places }
+        ensures places { result.places ≡ 0 }
+    {
+        SendingLook {
+            received: receipts.places,
+            places: 0,
+        }
+    }
+}
+
+/// The frames that went from each site to each other, as far as the journals were looked at. A site is known by its place.
 #[derive(Debug, Drop)]
 pub struct Tally {
-    /// Ascending.
-    sites: Vec<SiteId>,
+    /// By the places of the receiver and the sender.
+    received: Vec<Vec<Receipts>>,
     /// By the places of the sender and the receiver.
-    links: Vec<Vec<LinkTally>>,
+    sent: Vec<Vec<Sendings>>,
 }
 
 impl Tally {
-    /// Nothing was looked at. The sites are given in ascending order.
+    /// Nothing was looked at. The sites are given by their places.
     pub fn new(alloc: Global, sites: &[SiteId]) -> Result<Tally, AllocError>
         ensures { IfOk result (IsNewTally sites.now) }
     {
-        let mut links = Vec::with_capacity(alloc, sites.len())?;
+        let mut received = Vec::with_capacity(alloc, sites.len())?;
+        let mut sent = Vec::with_capacity(alloc, sites.len())?;
         for _ in sites {
-            links.push(vec![in alloc; LinkTally::NONE; sites.len()]?)?;
+            received.push(none_received(alloc, sites)?)?;
+            sent.push(none_sent(alloc, sites)?)?;
         }
-        Ok(Tally {
-            sites: sites.to_vec(alloc)?,
-            links,
-        })
+        Ok(Tally { received, sent })
     }
 
-    /// Counts the receipts among the entries of the site at a place, where they were not looked at before.
-    pub fn count_receipts(&mut self, place: usize, entries: &[Entry]) {
-        for (site, links) in self.sites.iter().zip(self.links.iter_mut()) {
-            if let Some(link) = links.get_mut(place) {
-                link.count_receipts(*site, entries);
-            }
+    /// Counts the receipts in the journal of the site at the next place of a look.
+    pub fn count_receipts(&mut self, look: &mut ReceiptLook, entries: &[Entry])
+        requires room { look.old.places < 2 ^ 64 - 1 }
+        ensures next { look.new.places ≡ look.old.places + 1 }
+        ensures counted { IfSome (slice_get self.old.received.items look.old.places) (λ old.
+            IfSome (slice_get self.new.received.items look.old.places) (λ new.
+            AtEach (CountsReceipts entries.now) old.items new.items)) }
+        ensures others { (k : ℕ) → k ≢ look.old.places
+            → slice_get self.new.received.items k ≡ slice_get self.old.received.items k }
+        ensures sites { length self.new.received.items ≡ length self.old.received.items }
+        ensures sent { self.new.sent ≡ self.old.sent }
+    {
+        let place = look.places;
+        if place < self.received.len() {
+            count_each_received(&mut self.received[place], entries);
         }
+        look.places = place + 1;
     }
 
-    /// Counts the sendings among the entries of the site at a place, where they were not looked at before.
-    pub fn count_sendings(&mut self, place: usize, entries: &[Entry]) {
-        if let Some(links) = self.links.get_mut(place) {
-            for (site, link) in self.sites.iter().zip(links.iter_mut()) {
-                link.count_sendings(*site, entries);
-            }
+    /// Counts the sendings in the journal of the site at the next place of a look.
+    pub fn count_sendings(&mut self, look: &mut SendingLook, entries: &[Entry])
+        requires room { look.old.places < 2 ^ 64 - 1 }
+        ensures next { look.new.places ≡ look.old.places + 1 }
+        ensures after { look.new.received ≡ look.old.received }
+        ensures counted { IfSome (slice_get self.old.sent.items look.old.places) (λ old.
+            IfSome (slice_get self.new.sent.items look.old.places) (λ new.
+            AtEach (CountsSendings entries.now) old.items new.items)) }
+        ensures others { (k : ℕ) → k ≢ look.old.places
+            → slice_get self.new.sent.items k ≡ slice_get self.old.sent.items k }
+        ensures sites { length self.new.sent.items ≡ length self.old.sent.items }
+        ensures received { self.new.received ≡ self.old.received }
+    {
+        let place = look.places;
+        if place < self.sent.len() {
+            count_each_sent(&mut self.sent[place], entries);
         }
+        look.places = place + 1;
     }
 
     /// Whether as many frames were got as were sent from the site at one place to that at another.
     pub fn is_balanced(&self, from: usize, to: usize) -> bool
-        ensures { MatchOption (link_at self.now from to) ⊤ (λ link. IsTrue result ↔ (link.receipts.frames ≡ link.sendings.frames)) }
+        ensures { MatchOption (received_at self.now from to) ⊤ (λ received.
+            MatchOption (sent_at self.now from to) ⊤ (λ sent.
+            IsTrue result ↔ (received.frames ≡ sent.frames))) }
     {
-        match self.links.get(from) {
-            Some(links) => match links.get(to) {
-                Some(link) => link.is_balanced(),
-                None => true,
-            },
-            None => true,
+        match (self.received(from, to), self.sent(from, to)) {
+            (Some(received), Some(sent)) => received.frames == sent.frames,
+            _ => true,
         }
+    }
+
+    fn received(&self, from: usize, to: usize) -> Option<Receipts>
+        ensures { result ≡ received_at self.now from to }
+    {
+        self.received.get(to)?.get(from).copied()
+    }
+
+    fn sent(&self, from: usize, to: usize) -> Option<Sendings>
+        ensures { result ≡ sent_at self.now from to }
+    {
+        self.sent.get(from)?.get(to).copied()
+    }
+}
+
+/// The links to a site, of which nothing was looked at.
+fn none_received(alloc: Global, sites: &[SiteId]) -> Result<Vec<Receipts>, AllocError>
+    ensures { IfOk result (λ row. row.items ≡ map no_receipts sites.now) }
+{
+    let mut row = Vec::with_capacity(alloc, sites.len())?;
+    for site in sites {
+        row.push(Receipts::none(*site))?;
+    }
+    Ok(row)
+}
+
+/// The links from a site, of which nothing was looked at.
+fn none_sent(alloc: Global, sites: &[SiteId]) -> Result<Vec<Sendings>, AllocError>
+    ensures { IfOk result (λ row. row.items ≡ map no_sendings sites.now) }
+{
+    let mut row = Vec::with_capacity(alloc, sites.len())?;
+    for site in sites {
+        row.push(Sendings::none(*site))?;
+    }
+    Ok(row)
+}
+
+/// Counts the receipts on each link to a site, by the entries of its journal.
+fn count_each_received(row: &mut [Receipts], entries: &[Entry])
+    ensures { AtEach (CountsReceipts entries.now) row.old row.new }
+{
+    for receipts in row.iter_mut() {
+        receipts.count(entries);
+    }
+}
+
+/// Counts the sendings on each link from a site, by the entries of its journal.
+fn count_each_sent(row: &mut [Sendings], entries: &[Entry])
+    ensures { AtEach (CountsSendings entries.now) row.old row.new }
+{
+    for sendings in row.iter_mut() {
+        sendings.count(entries);
     }
 }

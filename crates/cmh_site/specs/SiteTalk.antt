@@ -1,5 +1,5 @@
 -- What running sites answer to a line.
-use Rattle.std.specs.Prelude.{◌≡◌, ℕ, Bool, true, ◌⊎◌, List, length, Option, None, Some, MatchBool, MatchOption, ⊤}
+use Rattle.std.specs.Prelude.{◌≡◌, ℕ, ◌+◌, Bool, true, ◌⊎◌, All, Contains, List, length, Option, None, Some, MatchBool, MatchOption, ⊤}
 use Rattle.cmh_frames.specs.declared.frame.Frame.{Frame}
 use Rattle.cmh_frames.specs.Topology.{Topology, home}
 use Rattle.cmh_model.specs.declared.event.Event.{Event}
@@ -47,13 +47,30 @@ abbrev pub IsDeclared : ℕ → SiteReply → Type 0
 IsDeclared site (Declared named processes) = named ≡ site
 IsDeclared site reply = ⊥
 
+-- these processes are told
+abbrev pub IsListOf : List ℕ → SiteReply → Type 0
+IsListOf list (Declared named processes) = processes ≡ list
+IsListOf list reply = ⊥
+
 abbrev pub IsConnected : SiteReply → Type 0
 IsConnected (Connected connected failed) = ⊤
 IsConnected reply = ⊥
 
+-- Of the links that have a writing thread, and of those that were new and could not be opened, there are so many more than
+-- there were.
+abbrev pub CountsLinks : ℕ → ℕ → ℕ → ℕ → SiteReply → Type 0
+CountsLinks ran runs failed fails (Connected connected unconnected) =
+    (runs ≡ ran + connected) × (fails ≡ failed + unconnected)
+CountsLinks ran runs failed fails reply = ⊥
+
 abbrev pub IsLinks : SiteReply → Type 0
 IsLinks (Links links) = ⊤
 IsLinks reply = ⊥
+
+-- each link is with one of these sites
+abbrev pub AreLinksOf : List ℕ → SiteReply → Type 0
+AreLinksOf sites (Links links) = All (λ ends. Contains sites ends.site) links.items
+AreLinksOf sites reply = ⊥
 
 -- ---- one site
 

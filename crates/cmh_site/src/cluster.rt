@@ -24,7 +24,10 @@ use cmh_journal::{FileSink, Sink};
 use cmh_links::{LinkFault, LinkState};
 use cmh_model::Event;
 use cmh_play::path_in;
-use cmh_running::{ClusterLine, EventLine, Flow, Ports, Tally, can_be_made, parse_for_cluster};
+use cmh_running::{
+    ClusterLine, Disk, EventLine, Flow, Ports, ReceiptLook, SendingLook, Tally, can_be_made,
+    parse_for_cluster,
+};
 use cmh_script::{Input, NextLine, Output, read_line};
 use cmh_station::{BoardReader, KeptBoard, Listing, StationRefusal};
 use std::alloc::{AllocError, Global};
@@ -397,7 +400,11 @@ where
         let mut listens = Vec::with_capacity(self.alloc, self.topology.sites().len())?;
         let mut is_taken = false;
         for site in self.topology.sites() {
-            match TcpListen::bind(&self.rt, self.alloc, ports.of(*site)) {
+            let Some(port) = ports.of(*site) else {
+                // Never so: each row has its port.
+                return Err(Fault::Listen);
+            };
+            match TcpListen::bind(&self.rt, self.alloc, port) {
                 Ok(listen) => listens.push(listen)?,
                 Err(_) => is_taken = true,
             }
@@ -407,7 +414,7 @@ where
         }
         for site in self.topology.sites() {
             let path = path_in(self.alloc, dir, *site)?;
-            if !can_be_made(&self.rt, path.as_str()) {
+            if !can_be_made(&mut Disk::new(&self.rt), self.alloc, path.as_str())? {
                 return Err(Fault::OutFile);
             }
         }
@@ -541,13 +548,17 @@ where
     fn look(&mut self) -> bool
         ensures { self.new.topology ≡ self.old.topology }
     {
-        look_at_receipts(&self.rt, &self.members, &mut self.tally);
-        look_at_sendings(&self.rt, &self.members, &mut self.tally);
-        self.have_come()
+        let receipts = look_at_receipts(&self.rt, &self.members, &mut self.tally);
+        let sendings = look_at_sendings(&self.rt, &self.members, &mut self.tally, receipts);
+        self.have_come(sendings)
     }
 
-    /// Whether, by the tally, all frames have come on the links that are open.
-    fn have_come(&self) -> bool {
+    /// Whether, by the tally, all frames have come on the links that are open. All journals were looked at, for receipts
+    /// and then for sendings.
+    fn have_come(&self, _look: SendingLook) -> bool
+        requires received { _look.received ≡ length self.now.members.items }
+        requires sent { _look.places ≡ length self.now.members.items }
+    {
         for from in 0..self.members.len() {
             if !self.have_come_from(from) {
                 return false;
@@ -597,19 +608,33 @@ where
 }
 
 /// Counts the receipts that are new in the journals of all sites.
-fn look_at_receipts<R: Wait + Drop>(rt: &R, members: &[Member<R>], tally: &mut Tally) {
-    for place in 0..members.len() {
-        let guard = members[place].station.lock(rt);
-        tally.count_receipts(place, guard.journal());
+fn look_at_receipts<R: Wait + Drop>(rt: &R, members: &[Member<R>], tally: &mut Tally) -> ReceiptLook
+    ensures { result.places ≡ length members.now }
+{
+    let mut look = ReceiptLook::new();
+    for member in members {
+        let guard = member.station.lock(rt);
+        tally.count_receipts(&mut look, guard.journal());
     }
+    look
 }
 
-/// Counts the sendings that are new in the journals of all sites.
-fn look_at_sendings<R: Wait + Drop>(rt: &R, members: &[Member<R>], tally: &mut Tally) {
-    for place in 0..members.len() {
-        let guard = members[place].station.lock(rt);
-        tally.count_sendings(place, guard.journal());
+/// Counts the sendings that are new in the journals of all sites, behind a look at their receipts.
+fn look_at_sendings<R: Wait + Drop>(
+    rt: &R,
+    members: &[Member<R>],
+    tally: &mut Tally,
+    receipts: ReceiptLook,
+) -> SendingLook
+    ensures received { result.received ≡ receipts.places }
+    ensures sent { result.places ≡ length members.now }
+{
+    let mut look = SendingLook::after(receipts);
+    for member in members {
+        let guard = member.station.lock(rt);
+        tally.count_sendings(&mut look, guard.journal());
     }
+    look
 }
 
 /// Why the link to a site is closed, where it is.

@@ -1,12 +1,13 @@
 //! The command `site`: one site, driven by the lines of an input.
 
-ghost use Rattle.std.specs.Prelude.{◌≡◌, ◌≢◌, ◌⊎◌, true, IfOk, IfErr, IfSome, MatchBool, OnOk};
+ghost use Rattle.std.specs.Prelude.{◌≡◌, ◌≢◌, ◌⊎◌, true, false, IfOk, IfErr, IfSome, MatchBool, OnOk};
 ghost use Rattle.cmh_files.specs.Faults.{NamesFault};
 ghost use Rattle.cmh_files.specs.Status.{IsStatus};
 ghost use Rattle.cmh_running.specs.Dialogue.{Conversed, HasAnswered, line_of};
+ghost use Rattle.cmh_links.specs.Threads.{connected_in, failed_in};
 ghost use Rattle.cmh_site.specs.Endings.{IsSiteFault, Served, Welcomed};
 ghost use Rattle.cmh_play.specs.Play.{IsAnswerFault, IsPlayFault};
-ghost use Rattle.cmh_site.specs.SiteTalk.{AnswersSite, IsConnected, IsTurnOfSite, WasSaidToSite};
+ghost use Rattle.cmh_site.specs.SiteTalk.{AnswersSite, CountsLinks, IsConnected, IsTurnOfSite, WasSaidToSite};
 
 use crate::site_reply::SiteReply;
 use crate::starting::{
@@ -17,7 +18,7 @@ use cmh_files::{Fault, read_topology_file_with_ports};
 use cmh_frames::{SiteId, Topology};
 use cmh_journal::{FileSink, Sink};
 use cmh_running::{
-    EventLine, Flow, NoFile, Order, Ports, SiteLine, can_be_made, keep_old, parse_for_site,
+    Disk, EventLine, Flow, NoFile, Order, Ports, SiteLine, can_be_made, keep_old, parse_for_site,
 };
 use cmh_script::{Input, NextLine, Output, read_line};
 use cmh_station::{BoardReader, KeptBoard, Listing};
@@ -104,8 +105,12 @@ where
         return Err(Fault::Site);
     }
     let ports = Ports::new(alloc, &file.rows, &ports)?;
-    let listen = listen_at(&rt, alloc, ports.of(site), journal)?;
-    match keep_old(&rt, alloc, journal) {
+    let Some(port) = ports.of(site) else {
+        // Never so: each row has its port.
+        return Err(Fault::Listen);
+    };
+    let listen = listen_at(&rt, alloc, port, journal)?;
+    match keep_old(&mut Disk::new(&rt), alloc, journal) {
         Ok(()) => {}
         Err(NoFile::Memory) => return Err(Fault::Memory),
         Err(NoFile::Disk) => return Err(Fault::JournalDisk),
@@ -143,18 +148,22 @@ where
     Ok(())
 }
 
-/// Listens on a port before the journal is made, so that a site which runs already keeps its journal. Where both the
-/// journal can't be made and the port is taken, the journal is named.
+/// Listens on a port before the journal is made, so that a site which runs already keeps its journal, and one whose port
+/// is taken leaves nothing behind. Where both the journal can't be made and the port is taken, the journal is named.
 fn listen_at<R>(rt: &R, alloc: Global, port: u16, journal: &str) -> Result<TcpListen, Fault>
 where
     R: Net<Listener = TcpListener, Stream = TcpStream> + Files<File = File>,
     ensures listens { IfOk result (λ listen. listen.faults ≡ 0) }
-    ensures fault { IfErr result (λ fault. (fault ≡ Fault.Listen) ⊎ (fault ≡ Fault.JournalDisk)) }
+    ensures fault { IfErr result (λ fault. (fault ≡ Fault.Listen) ⊎ (fault ≡ Fault.JournalDisk)
+        ⊎ (fault ≡ Fault.Memory)) }
 {
-    match TcpListen::bind(rt, alloc, port) {
-        Ok(listen) => Ok(listen),
-        Err(_) if can_be_made(rt, journal) => Err(Fault::Listen),
-        Err(_) => Err(Fault::JournalDisk),
+    if let Ok(listen) = TcpListen::bind(rt, alloc, port) {
+        return Ok(listen);
+    }
+    if can_be_made(&mut Disk::new(rt), alloc, journal)? {
+        Err(Fault::Listen)
+    } else {
+        Err(Fault::JournalDisk)
     }
 }
 
@@ -275,6 +284,9 @@ where
     /// Opens the outgoing links, once.
     fn connect(&mut self) -> SiteReply
         ensures replies { MatchBool self.old.has_connected (result ≡ SiteReply.Late) (IsConnected result) }
+        ensures counted { self.old.has_connected ≡ false → CountsLinks
+            (connected_in self.old.threads.places.items) (connected_in self.new.threads.places.items)
+            (failed_in self.old.threads.places.items) (failed_in self.new.threads.places.items) result }
         ensures connected { self.new.has_connected ≡ true }
         ensures site { self.new.site ≡ self.old.site }
     {

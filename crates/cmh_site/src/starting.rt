@@ -2,7 +2,9 @@
 
 ghost use Rattle.std.specs.Prelude.{◌≡◌, ◌⊎◌, IfOk, IfErr};
 ghost use Rattle.cmh_site.specs.Endings.{IsNewStation};
-ghost use Rattle.cmh_site.specs.SiteTalk.{IsDeclared, IsLinks, WasStepped};
+ghost use Rattle.cmh_frames.specs.Topology.{sites_of};
+ghost use Rattle.cmh_model.specs.Runs.{IsBeginningOf};
+ghost use Rattle.cmh_site.specs.SiteTalk.{AreLinksOf, IsDeclared, IsLinks, IsListOf, WasStepped};
 
 use crate::site_reply::{LinkEnds, SiteReply};
 use cmh_carriers::{TcpDial, TcpListen};
@@ -131,7 +133,10 @@ pub(crate) fn declared<R: Wait + Drop>(
     station: &FileStation<R>,
     reader: &mut BoardReader,
 ) -> Result<SiteReply, AllocError>
-    ensures { IfOk result (IsDeclared site) }
+    ensures site { IfOk result (IsDeclared site) }
+    // It is the board's list, which goes on from each that was read before.
+    ensures list { IfOk result (IsListOf reader.new.list) }
+    ensures grows { IsBeginningOf reader.old.list reader.new.list }
 {
     let told = station.lock(rt).tell(rt);
     if told.is_err() {
@@ -158,7 +163,8 @@ where
         + Send
         + Drop
         + 'static,
-    ensures { IfOk result IsLinks }
+    ensures links { IfOk result IsLinks }
+    ensures sites { IfOk result (AreLinksOf (sites_of topology.now)) }
 {
     let mut links = Vec::with_capacity(alloc, topology.sites().len())?;
     for other in topology.sites() {
