@@ -1,0 +1,215 @@
+/* cmh.h: proved site controllers, readers and audits of cmh, for programs that bring their own sockets, files and threads.
+ *
+ * The library does no input or output, starts no thread, keeps no global state, never aborts, never blocks and never calls
+ * back. It takes the bytes of what happened at a site and gives the bytes of the entry that the site's journal is to hold
+ * next; the entry holds the frames to send and the declaration. All bytes are those of docs/formats.md. docs/library.md
+ * has a complete loop and says what goes wrong in another order.
+ *
+ *   an event  ->  cmh_site_step  ->  append the entry to the journal and sync it  ->  then send its frames
+ *
+ * What is proved: each clause of the functions in crates/cmh_c, for every caller that keeps to this page. What a caller in
+ * C can break, and nobody checks, stands here:
+ *
+ * OWNERSHIP  A handle lies in the caller's memory. It is zeroed before its first use (= {0}, memset, calloc), and a call
+ *            `_new` opens it. `_free` closes it and gives its memory back; a closed handle may be opened again, and freed
+ *            again. Its fields are the library's: do not write them. Do not copy a handle: two copies free one memory. It
+ *            may be moved, if the old place is no longer used.
+ * SLICES     A pointer and a length, in elements. They are lent for the call alone, and what is written overlaps nothing
+ *            else that the call is given. A pointer is never null, not even for a length of 0, and it is aligned for its
+ *            type; a handle is aligned to 8. A count that is written is how much of `out` was; the rest is as it was.
+ * CODES      0 is success. After any other code nothing has changed: neither the handle nor what was lent. There are two
+ *            exceptions: a reader keeps the fault of its link, and cmh_audit tells after CMH_SHORT how much room it needs.
+ *            Where several codes fit, the answer is the first that holds, in the order in which the call names them;
+ *            CMH_NO_MEMORY may come instead.
+ * THREADS    A handle is in one call at a time; different handles may be in calls of different threads at once. A handle
+ *            may pass to another thread by a lock, a start or a join. No call may come from a signal handler, nor from the
+ *            forked child of a process with threads.
+ * MEMORY     The program's malloc, realloc and free. cmh_entry_sending, cmh_entry_declared, cmh_hello, cmh_site_header,
+ *            cmh_site_keep, cmh_site_drop, cmh_reader_sender, the `_free`s and cmh_version take none.
+ * VERSIONS   cmh_version() is the CMH_VERSION of the header that the library was built with: compare its first two bytes.
+ *            Within one of these, handles keep their size, and no code and no byte gets another meaning.
+ */
+#ifndef CMH_H
+#define CMH_H
+
+#include <stdbool.h>
+#include <stddef.h>
+#include <stdint.h>
+
+#ifdef __cplusplus
+extern "C" {
+#endif
+
+/* Two bytes for what is incompatible, one for what is new, one for what is mended. */
+#define CMH_VERSION UINT32_C(0x00010000)
+uint32_t cmh_version(void);
+
+typedef uint32_t cmh_code;
+enum {
+    CMH_OK = 0,
+
+    /* The refusals of docs/rules.md, by their numbers. */
+    CMH_UNKNOWN_PROCESS = 1,
+    CMH_NOT_HERE = 2, /* of cmh_site_new: the site is not in the topology */
+    CMH_BAD_TARGETS = 3,
+    CMH_BLOCKED = 4,
+    CMH_NOT_BLOCKED = 5,
+    CMH_NOT_OWED = 6,
+    CMH_ALREADY_DECLARED = 7,
+    CMH_UNLAWFUL = 8,
+    CMH_NO_MEMORY = 11,
+    CMH_JOURNAL_FULL = 12, /* it holds 1,000,000 entries */
+
+    /* What only a caller of this library can get wrong. */
+    CMH_NO_SPELLING = 20,  /* the bytes are not those of one event, or of one entry */
+    CMH_SHORT = 21,        /* `out` is too short */
+    CMH_CLOSED = 22,       /* the handle is closed */
+    CMH_OPEN = 23,         /* the handle is open already */
+    CMH_NO_EDITION = 24,   /* the edition is not 1 or 2 */
+    CMH_NO_ROWS = 25,      /* the words are not those of rows, or the text is not the JSON of a topology */
+    CMH_PREPARED = 26,     /* an entry is prepared, and has to be kept or dropped first */
+    CMH_NOT_PREPARED = 27, /* no entry is prepared */
+    CMH_NO_NUMBER = 28,    /* the number of a site is not from 1 to 9999 */
+    CMH_NO_SENDING = 29,   /* the entry sends fewer frames */
+    CMH_NO_FILES = 30,     /* the lengths do not sum to the bytes */
+
+    /* The faults of a topology: 30 and their number in docs/formats.md. */
+    CMH_TOPOLOGY_LIMIT = 31,
+    CMH_TOPOLOGY_SITE_TWICE = 32,
+    CMH_TOPOLOGY_PROCESS_TWICE = 33,
+    CMH_TOPOLOGY_NUMBER = 34,
+
+    /* The faults of a link: 40 and their number in docs/formats.md. */
+    CMH_BAD_HELLO = 41,
+    CMH_BAD_FRAME = 42,
+    CMH_WRONG_SITE = 43
+};
+
+/* ---- a site ---- */
+
+typedef struct {
+    bool is_open;
+    void *held;
+} cmh_site;
+
+/* No entry is longer; the first is for edition 1 alone. */
+#define CMH_ENTRY_MAX_1 5327
+#define CMH_ENTRY_MAX 20881
+
+/* How long the beginning of a journal is. */
+#define CMH_HEADER_LEN 7
+
+/* How many processes of one site there are at most. */
+#define CMH_SITE_PROCESSES_MAX 64
+
+/* Opens site `number` of the world with these rows, before its first step. Each row is the words: the site, how many
+ * processes it has, and these. They are copied.
+ * Codes: OPEN, NO_EDITION, NO_ROWS, TOPOLOGY_.., NOT_HERE. */
+cmh_code cmh_site_new(cmh_site *site, uint8_t edition, const uint16_t *rows, size_t rows_len, uint16_t number);
+
+/* The same, from the text of a topology file. Ports are not looked at.
+ * Codes: OPEN, NO_ROWS, TOPOLOGY_.., NOT_HERE. */
+cmh_code cmh_site_new_json(cmh_site *site, const uint8_t *json, size_t json_len, uint16_t number);
+
+/* Writes the 7 bytes with which the site's journal begins.
+ * Codes: CLOSED, SHORT. */
+cmh_code cmh_site_header(cmh_site *site, uint8_t *out, size_t out_len);
+
+/* Takes one event: ask 01 j n k.., reply 02 k j, start 03 i, or got 04 A frame. Writes the entry, and how long it is. The
+ * targets of an ask ascend, and none is the asker: else the bytes are those of no event.
+ * Frames that are sent before their entry is kept can declare what no journal explains. Where the append or the sync
+ * fails, send nothing and free the site: its state is ahead of its journal.
+ * Codes: CLOSED, PREPARED, JOURNAL_FULL, NO_SPELLING, the refusals from 1 to 8, SHORT. */
+cmh_code cmh_site_step(cmh_site *site, const uint8_t *event, size_t event_len, uint8_t *out, size_t out_len,
+                       size_t *count);
+
+/* The first half of a step, for callers that go on where an append fails: it writes the entry and keeps the way back.
+ * Then keep or drop, neither of which takes memory. In between, step, prepare, declared, waits and owed answer PREPARED.
+ * Codes: as of cmh_site_step. */
+cmh_code cmh_site_prepare(cmh_site *site, const uint8_t *event, size_t event_len, uint8_t *out, size_t out_len,
+                          size_t *count);
+
+/* The second half: the entry is in the journal.
+ * Codes: CLOSED, NOT_PREPARED. */
+cmh_code cmh_site_keep(cmh_site *site);
+
+/* In place of the second half: the site is as it was before the event.
+ * Codes: CLOSED, NOT_PREPARED. */
+cmh_code cmh_site_drop(cmh_site *site);
+
+/* Each of these writes processes, ascending, and how many there are. Where there is room for fewer, the others are left
+ * out. Those that were declared deadlocked here; those that a process of this site waits for; those whose requests a
+ * process of this site has not answered.
+ * Codes: CLOSED, PREPARED, and of the last two UNKNOWN_PROCESS, NOT_HERE. */
+cmh_code cmh_site_declared(cmh_site *site, uint16_t *out, size_t out_len, size_t *count);
+cmh_code cmh_site_waits(cmh_site *site, uint16_t process, uint16_t *out, size_t out_len, size_t *count);
+cmh_code cmh_site_owed(cmh_site *site, uint16_t process, uint16_t *out, size_t out_len, size_t *count);
+
+/* Closes the site. An entry that is prepared is dropped. */
+void cmh_site_free(cmh_site *site);
+
+/* ---- what an entry says ---- */
+
+/* A frame that an entry sends: the site that it goes to, and where its bytes stand in the entry. */
+typedef struct {
+    uint16_t to;
+    size_t offset;
+    size_t len;
+} cmh_sending;
+
+/* Tells the frame at the place, from 0, among those that the entry sends, in their order.
+ * Codes: NO_EDITION, NO_SPELLING, NO_SENDING. */
+cmh_code cmh_entry_sending(uint8_t edition, const uint8_t *entry, size_t entry_len, size_t place, cmh_sending *out);
+
+/* Tells the process that the entry declares, or 0.
+ * Codes: NO_EDITION, NO_SPELLING. */
+cmh_code cmh_entry_declared(uint8_t edition, const uint8_t *entry, size_t entry_len, uint16_t *process);
+
+/* ---- a reader of what one site sends on one link ---- */
+
+typedef struct {
+    bool is_open;
+    void *held;
+} cmh_reader;
+
+/* How much longer than a piece the frames can be that it makes whole. */
+#define CMH_FRAME_LEFT 6
+
+/* Opens a reader of a link that begins with the hello of one of these sites.
+ * Codes: OPEN, NO_EDITION, NO_NUMBER. */
+cmh_code cmh_reader_new(cmh_reader *reader, uint8_t edition, const uint16_t *senders, size_t senders_len);
+
+/* Takes the next piece of the stream, however it was cut, and writes the frames that are whole by it, one after the other
+ * in their own spelling: a frame is 5 bytes, or 7 where its first is 03. `out` has room for piece_len + CMH_FRAME_LEFT
+ * bytes. Frames before a fault are given first, and the fault at each later call. After CMH_NO_MEMORY the same piece may be
+ * fed again; after another fault the link is of no use.
+ * Codes: CLOSED, SHORT, BAD_HELLO, BAD_FRAME, WRONG_SITE. */
+cmh_code cmh_reader_feed(cmh_reader *reader, const uint8_t *piece, size_t piece_len, uint8_t *out, size_t out_len,
+                         size_t *count);
+
+/* The site whose hello was read, or 0 before that, and of a closed reader. */
+uint16_t cmh_reader_sender(cmh_reader *reader);
+
+void cmh_reader_free(cmh_reader *reader);
+
+/* How long the beginning of a link is. */
+#define CMH_HELLO_LEN 6
+
+/* Writes the 6 bytes with which a link from the site begins.
+ * Codes: NO_EDITION, NO_NUMBER, SHORT. */
+cmh_code cmh_hello(uint8_t edition, uint16_t site, uint8_t *out, size_t out_len);
+
+/* ---- an audit ---- */
+
+/* Whether the journals of all sites come from one run: the lines of `cmh audit`, as text with no null at its end. The
+ * journals' files stand one after the other in `files`, in any order, and `lens` has the length of each. *status is 0
+ * where they come from one run, 1 where they do not, and 3 where a file is at fault, which the text names. It copies each
+ * file once, and takes as long as `cmh audit`.
+ * Codes: NO_FILES, and SHORT, after which *count is how long the text is. */
+cmh_code cmh_audit(const uint8_t *json, size_t json_len, const uint8_t *files, size_t files_len, const size_t *lens,
+                   size_t lens_len, uint8_t *out, size_t out_len, size_t *count, uint8_t *status);
+
+#ifdef __cplusplus
+}
+#endif
+#endif
