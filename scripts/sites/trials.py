@@ -1,4 +1,5 @@
 """The trials of running sites. Each is a function that answers, or yields, what held by its name."""
+import collections
 import concurrent.futures
 import os
 import random
@@ -11,7 +12,10 @@ import subprocess
 import sys
 import time
 
-from world import Collided, Missed, World, is_free, patience, read_answer, wait_until
+from client import lost_sites, python_client
+from operations import OPERATIONS, LeftOut
+from soak import SPARED, soak
+from world import Collided, Missed, World, allow, is_free, patience, read_answer, wait_until
 
 PAIR = {1: [1], 2: [2]}
 HELLO = bytes.fromhex('434D48010001')
@@ -508,7 +512,41 @@ def few_files(program):
 
 TRIALS = [two_sites, three_sites, killed_peer, full_disk, kept_journals, started_twice, silent_peers, slow_hello, noise, cut_frame,
           second_connection, own_hello, resets, many_connections, held_by_silent_peers, closed_output, clusters,
-          full_disk_of_a_cluster, two_clusters, few_files, ends_by_signal, kills]
+          full_disk_of_a_cluster, two_clusters, few_files, python_client, lost_sites, ends_by_signal, kills]
+
+# The trials of operation that are known to fail, each with what is not there yet. They run only where they are named, and
+# the word 'operations' names all of them, these among them.
+BEFORE = {
+    'interrupted_calls': 'a write of the journal that a signal interrupted seals the site',
+    'spent_connections': 'connections that ended count for ever, and keep their descriptors',
+    'standing_connections': 'the same',
+    'silent_for_long': 'a connection without a hello is never closed',
+    'failed_accepts': 'one failed accept ends accepting',
+    'few_descriptors': 'the same',
+    'accepting_ended': 'there are no notes',
+    'second_on_a_journal': 'a journal that is being written is moved away',
+    'at_one_moment': 'the same',
+    'second_in_a_folder': 'the journals of a cluster that runs are made anew',
+    'quit_with_slow_peers': 'writing threads are waited for',
+    'refused_sender': 'a refused sender learns nothing before it writes, and there are no notes',
+    'sender_of_another_edition': 'the same',
+    'peer_that_restarted': 'a sender learns nothing before it writes',
+    'frames_that_dont_come': 'a million looks without a pause',
+    'cluster_of_few_files': 'the same, in one run of eight',
+    'audit_of_running_sites': 'the files are read at more than one moment',
+    'synced_folder': 'the folder of a journal is not synced',
+    'no_regular_file': 'a pipe is opened, and waits for its other end',
+    'size_limit': 'the signal of a file that may not grow kills the site',
+    'full_backlog': 'connecting waits for as long as the system does',
+    'linked_journal': 'a cluster writes to what a link leads to',
+    'shortened_journal': 'a journal goes on over a hole',
+    'many_kept_journals': 'each name that is taken is looked at',
+    'notes_of_links': 'there are no notes',
+    'notes_are_few': 'the same',
+}
+
+OPERATION_SECONDS = 40.0  # that a trial of operation may take
+SIDE_BY_SIDE = 3  # trials of operation: most of them wait
 
 MOST_COLLISIONS = 3  # in a row; a site that never gets its port is no collision
 
@@ -544,30 +582,55 @@ def outcomes(trial, program):
         undisturbed(once)
     except (Missed, OSError, subprocess.TimeoutExpired) as missed:
         found.append(('missed %s' % missed, False))
+    except LeftOut as left_out:
+        print('left out %s: %s' % (trial.__name__.replace('_', ' '), left_out), flush=True)
     return found
 
 
+def run_long(program, minutes, spared=''):
+    """The long form; what is spared is named by numbers with commas between them, or by the word 'known'."""
+    numbers = SPARED if spared == 'known' else {int(number) for number in spared.split(',') if number}
+    return soak(program, float(minutes), set(numbers))
+
+
 def main(program, names):
-    unknown = set(names) - {trial.__name__ for trial in TRIALS + [small_disk]}
+    if names[:1] == ['--minutes']:
+        return run_long(program, names[1], ''.join(names[3:]) if names[2:3] == ['--spare'] else '')
+    trials = TRIALS + ([small_disk] if has_small_disks() else [])
+    if 'operations' in names:
+        names = [name for name in names if name != 'operations'] + [trial.__name__ for trial in OPERATIONS]
+    unknown = set(names) - {trial.__name__ for trial in TRIALS + [small_disk] + OPERATIONS}
     if unknown:
         sys.exit('no such trial: %s' % ' '.join(sorted(unknown)))
+    operations = [trial for trial in OPERATIONS if trial.__name__ in names or not names and trial.__name__ not in BEFORE]
+    allow(OPERATION_SECONDS * len(operations))
     # A job in the background of a shell ignores Ctrl-C, and so would each site that it starts.
     signal.signal(signal.SIGINT, signal.default_int_handler)
-    trials = TRIALS + ([small_disk] if has_small_disks() else [])
-    passed = failed = 0
+    count = collections.Counter()
     for trial in trials:
-        if names and trial.__name__ not in names:
-            continue
-        begin = time.monotonic()
-        for name, is_held in outcomes(trial, program):
-            passed += bool(is_held)
-            failed += not is_held
-            if not is_held:
-                print('FAILED %s: %s' % (trial.__name__.replace('_', ' '), name), flush=True)
-        if names:
-            print('%s: %.1f s' % (trial.__name__, time.monotonic() - begin))
-    print('%d passed, %d failed' % (passed, failed))
-    return failed > 0
+        if not names or trial.__name__ in names:
+            tell(trial, timed(trial, program), names, count)
+    with concurrent.futures.ThreadPoolExecutor(SIDE_BY_SIDE) as pool:
+        for trial, found in zip(operations, pool.map(lambda trial: timed(trial, program), operations)):
+            tell(trial, found, names, count)
+    print('%d passed, %d failed' % (count['passed'], count['failed']))
+    return count['failed'] > 0
+
+
+def timed(trial, program):
+    begin = time.monotonic()
+    return outcomes(trial, program), time.monotonic() - begin
+
+
+def tell(trial, found, names, count):
+    """Tells what did not hold, and, where trials were named, how long each took."""
+    for name, is_held in found[0]:
+        count['passed' if is_held else 'failed'] += 1
+        if not is_held:
+            print('FAILED %s: %s' % (trial.__name__.replace('_', ' '), name), flush=True)
+    if names:
+        print('%s: %d of %d held, %.1f s' % (trial.__name__, sum(bool(each) for _, each in found[0]), len(found[0]), found[1]),
+              flush=True)
 
 
 if __name__ == '__main__':

@@ -16,6 +16,12 @@ ALL_TRIALS = 170.0  # seconds that all trials may take together
 _end = time.monotonic() + ALL_TRIALS
 
 
+def allow(seconds):
+    """Lets all trials take so many seconds more."""
+    global _end
+    _end += seconds
+
+
 def patience():
     """The seconds that the next thing may take, so that all trials end in time."""
     return max(0.1, min(PATIENCE, _end - time.monotonic()))
@@ -155,8 +161,12 @@ class World:
         return [entry for entry in self.entries(site) if entry[0] in (1, 2, 3)]
 
     def entries(self, site):
+        """The whole entries of a site's journal."""
+        return self.entries_at(self.journal(site))
+
+    def entries_at(self, path):
         """The whole entries of a journal: the kind, the number of frames that were sent, the process that was declared."""
-        with open(self.journal(site), 'rb') as file:
+        with open(path, 'rb') as file:
             data = file.read()
         entries = []
         at = 7
@@ -197,13 +207,15 @@ def read_answer(line):
 class Site:
     """A running site."""
 
-    def __init__(self, world, number, limit=None, out=subprocess.PIPE, journal=None):
+    def __init__(self, world, number, limit=None, out=subprocess.PIPE, journal=None, before=(), more=()):
+        """The words of `before` are those of a program that starts it, those of `more` are further options."""
         self.world = world
         self.number = number
-        words = [world.program, 'site', '--topology', world.path('topology'), '--site', str(number)]
-        words += ['--journal', journal or world.journal(number)]
+        words = [*before, world.program, 'site', '--topology', world.path('topology'), '--site', str(number)]
+        words += ['--journal', journal or world.journal(number), *more]
         self.heard = []
         self.buffer = b''
+        self.named = b''
         self.process = subprocess.Popen(words, stdin=subprocess.PIPE, stdout=out, stderr=subprocess.PIPE, preexec_fn=limit)
 
     def say(self, *lines):
@@ -263,6 +275,20 @@ class Site:
 
     def await_declared(self, wanted):
         wait_until(lambda: self.ask('declared') == wanted, '%r of site %d' % (wanted, self.number))
+
+    def notes(self):
+        """The whole lines that it wrote to standard error so far."""
+        while select.select([self.process.stderr], [], [], 0)[0]:
+            piece = os.read(self.process.stderr.fileno(), 65536)
+            if not piece:
+                break
+            self.named += piece
+        return self.named.decode().split('\n')[:-1]
+
+    def await_note(self, *begins):
+        """The first note that begins so."""
+        wait_until(lambda: any(line.startswith(begins) for line in self.notes()), 'a note %s' % ' or '.join(begins))
+        return next(line for line in self.notes() if line.startswith(begins))
 
     def open_files(self):
         return len(os.listdir('/proc/%d/fd' % self.process.pid))
