@@ -68,8 +68,9 @@ class Disturbance:
         """The one that stands by takes over, and another stands by in its turn. No site outlives its watcher."""
         sites = self.watcher.sites()
         self.watcher.kill()
-        self.watcher, self._standby = self._standby or self._start(), self._start()
+        self.watcher = self._standby or self._start()
         self.watcher.wait_for('watching')
+        self._standby = self._start()       # only now: it might take over itself
         time.sleep(1)
         self.faults += [f'site {site} outlived its watcher' for site in sites if is_running(site)]
 
