@@ -1,4 +1,4 @@
-//! What `--help` tells behind the words of a command: the language, the numbers and the statuses.
+//! What `--help` prints after the words of a command: the language, the numbers and the statuses.
 
 use cmh_audit::SetFault;
 use cmh_controller::Refusal;
@@ -53,8 +53,8 @@ Lines of the script; a line that fits none is answered `bad line`:
   declared S     the processes of site S that were found deadlocked
 
 After the script it prints `link A B closed N` for each link that had closed, and then the audit.
-Each link takes two open files, so N sites take about 2 N N of them: under the usual limit of 1,024 some 20 sites, and
-all 64 under 20,000 (`ulimit -n`).
+Each link takes two open files, so N sites take about 2 N N. The usual limit of 1,024 open files is enough for some 20
+sites, and `ulimit -n 20000` for all 64.
 ";
 
 const LINK_FAULTS: &str = "\
@@ -85,7 +85,7 @@ Example: cmh cluster --topology world.json --script asks --out journals
 ";
 
 const AUDIT_REASONS: &str = "\
-With --why a line comes behind the stops for each of them, `why S at N REASON in ENTRY`, where REASON is
+With --why a line for each stop follows the stops, `why S at N REASON in ENTRY`, where REASON is
   refused R                     the site's controller refuses the event, with this number
   differs sent P due F to B     the frame that it records as its P-th is not the one that the rules send, or `due nothing`
   differs declared due I        the process that it records as declared is not this one, or `due nobody`
@@ -94,7 +94,7 @@ With --why a line comes behind the stops for each of them, `why S at N REASON in
 ";
 
 const AUDIT_RUN: &str = "\
-With --run a line comes behind an accepted report for each entry, in the order of one run that the journals come from:
+With --run a line for each entry follows an accepted report, in the order of one run that the journals come from:
   S N ENTRY                     entry N of site S, in the words of `cmh show`
 ";
 
@@ -113,12 +113,12 @@ frame that was sent, and who was declared:
   N reply J K           process J granted what it holds to K
   N start J             a computation was started for process J
   N got F from A        frame F came from site A; F is `request J K`, `reply J K` or `probe I J K`
-  .. sent F to B        behind each of these: frame F went to site B, once for each frame that was sent
+  .. sent F to B        after each of these: frame F went to site B, once for each frame that was sent
   .. declared I         at the end: process I was declared deadlocked
 
-and, behind the entries, where the file goes on:
+and after the entries, where the file goes on:
   cut N                 N bytes, less than an entry: a write was cut off
-  bad entry at O        at byte O, counted from 0, stands what is no entry; what follows isn't looked at
+  bad entry at O        at byte O, counted from 0, are bytes that are no entry; what follows isn't read
 ";
 
 const SHOW_STATUSES: &str = "\
@@ -132,8 +132,8 @@ Example: cmh show one.cmhj two.cmhj
 const DRAW_PICTURE: &str = "\
 The picture of `waits` has a box for each site with its processes, and an arrow from each process that waits at the end
 to each that it waits for; who was declared is drawn as an octagon. That of `run` has a line for each site with its
-entries, an arrow for each frame from the entry that sent it to the one that got it, frames that nobody got open at
-their end, and the entry at which a site stops where the journals are refused.
+entries, and an arrow for each frame from the entry that sent it to the one that got it. The arrow of a frame that
+nobody got has an open end. Where the journals are refused, the entry at which a site stops is marked.
 
 Statuses: 0 where a picture was written, 1 where memory ran out, 2 for a command line that isn't understood, 3 at a
 fault, which is named on standard error as in `cmh audit --help`.
@@ -162,7 +162,7 @@ const REFUSALS: [Refusal; 9] = [
     Refusal::Memory,
 ];
 
-// Those of a file; for want of memory `fault memory` is printed, but for a line of a script.
+// Those of a file; when memory runs out `fault memory` is printed, but for a line of a script.
 const TOPOLOGY_FAULTS: [TopologyFault; 4] = [
     TopologyFault::Limit,
     TopologyFault::RepeatedSite,
@@ -177,7 +177,7 @@ const SET_FAULTS: [SetFault; 4] = [
     SetFault::MissingSite,
 ];
 
-/// What stands behind the words of each command.
+/// What follows the words of each command.
 #[derive(Debug, Drop)]
 pub struct Help {
     pub play: String,
@@ -189,7 +189,7 @@ pub struct Help {
 }
 
 impl Help {
-    /// Behind the words of `cmh` itself.
+    /// After the words of `cmh` itself.
     pub const COMMANDS: &'static str = COMMANDS;
 
     pub fn new(alloc: Global) -> Result<Help, AllocError> {

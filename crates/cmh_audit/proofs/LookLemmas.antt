@@ -31,7 +31,7 @@ module _ {t : Topology} {js : List Journal} {limits counts : List ℕ} {links : 
   listed_at : Listed t js limits counts links lacks (ready ++ i ∷ []) tries
   listed_at = subst (λ r. Listed t js limits counts links lacks r tries) popped s
 
-  -- w is what is left of it, behind the entries that were taken
+  -- w is what is left of it, after the entries that were taken
   module _ {walks : List (List Entry)} (left : AreLeftAt js counts walks) (at : ℕ) (j : Journal) (w : List Entry) (read : at ≡ get_or counts i at) (here : j ≡ get_or js i j) (walk : w ≡ get_or walks i w) (are : AreLawfulLengths t js limits) where
     count_is : at ≡ get_or counts i 0
     count_is = get_or_read counts i at (subst (λ n. i < n) (sym s.merging.each) place_in) read 0

@@ -43,7 +43,7 @@ receipts_of_self t site xs lawful = none_from_self t site empty_state xs lawful
 
 -- ---- the merge takes one more entry
 
--- what lies behind a beginning of a list
+-- what lies after a beginning of a list
 behind : (xs ys zs : List Frame) → IsBeginningOf (xs ++ ys) zs → IsBeginningOf ys (drop (length xs) zs)
 behind xs ys zs p = (p.0, sym (drop-append_seam xs (ys ++ p.0)) ∙ ap (drop (length xs)) (sym (append_assoc xs ys p.0) ∙ p.1))
 

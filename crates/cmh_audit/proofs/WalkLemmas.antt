@@ -1,4 +1,4 @@
--- What is left of each journal behind the entries that were taken.
+-- What is left of each journal after the entries that were taken.
 use Rattle.std.proofs.Common.{◌≡◌, ◌≢◌, ℕ, zero, suc, ◌+◌, ◌<◌, ◌≤◌, List, [], ◌∷◌, length, drop, set, replicate, get_or, ⊎_elim, sym, ap, subst, refl, ◌∙◌, arith, length-set}
 use Rattle.std.proofs.lemmas.Bool.{cases_eq}
 use Rattle.std.proofs.lemmas.List.{get_or_read, get_or_default, get_or-set_same, get_or-set_other, get_or-replicate}
@@ -6,7 +6,7 @@ use Rattle.cmh_model.specs.declared.journal.Entry.{Entry}
 use Rattle.cmh_journal.specs.Journal.{Journal}
 use Rattle.cmh_audit.specs.Inner.Merging.{AreLeftAt, entries_each}
 
--- the entry stands behind the first n of the journal, and these behind it
+-- the entry stands after the first n of the journal, and these after it
 pub record IsFirst (j : Journal) (n : ℕ) (e : Entry) (rest : List Entry) : Type 0 where
   pub room : n < length j.entries
   pub is : e ≡ get_or j.entries n e

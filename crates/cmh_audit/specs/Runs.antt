@@ -19,7 +19,7 @@ event_at journals step = option_and_then
 abbrev pub steps_of : ℕ → List Step → ℕ
 steps_of journal steps = count_of (λ (step : Step). step.journal == journal) steps
 
--- each step takes the entry of its journal behind those that the steps before it took
+-- each step takes the entry of its journal after those that the steps before it took
 abbrev pub AreInTurn : List Step → Type 0
 AreInTurn steps =
     (before : List Step) (step : Step) → IsBeginningOf (before ++ step ∷ []) steps

@@ -20,7 +20,7 @@ use std::alloc::Global;
 /// which whoever has the journals can follow. `None` where they come from no run, as `audit` refuses them then.
 ///
 /// The journals are those of one world, as `check_set` tests. They may come from further runs; which one is answered is
-/// determined by their order. The only error is want of memory, after which nothing is said of the journals.
+/// determined by their order. The only error is out of memory, after which nothing is said of the journals.
 pub fn run_of(
     alloc: Global,
     topology: &Topology,

@@ -78,7 +78,7 @@ impl Totals {
     }
 
     /// The verdict on the journals of all sites whose totals these are, where they come from a run: it is not looked
-    /// for one. The only error is want of memory.
+    /// for one. The only error is out of memory.
     pub fn verdict(&self, alloc: Global, topology: &Topology) -> Result<Verdict, AuditMemory>
         ensures verdict { IfOk result (λ v. (journals : List journal.Journal)
             → AreTotalsOfRun topology.now journals self.now → IsVerdictOn topology.now journals v) }

@@ -44,7 +44,7 @@ pub enum Verdict {
 
 /// Merges the journals of all sites, in whatever order they are given, into one run, or says where they stop.
 ///
-/// The journals are those of one world, as `check_set` tests. The only error is want of memory, after which nothing is
+/// The journals are those of one world, as `check_set` tests. The only error is out of memory, after which nothing is
 /// said of the journals.
 pub fn audit(
     alloc: Global,

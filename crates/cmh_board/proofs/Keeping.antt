@@ -22,7 +22,7 @@ fold_more s (p ∷ ops) o = fold_more (apply s p) ops o
 pub final_more : (x : Published) (ops : List Add) (o : Add) → final x (ops ++ o ∷ []) ≡ apply (final x ops) o
 final_more x ops o = fold_more (state_of x) ops o
 
--- the operation that had no place goes behind the others
+-- the operation that had no place goes after the others
 pub unstuck : (b : Book) (log : List ℕ) (n c : ℕ) (x : Published) (ops : List Add) (o : Add) (seat : List ℕ) → Keeps b log n c x ops (Some o) seat → Keeps b log n c x (ops ++ o ∷ []) None seat
 unstuck b log n c x ops o seat k =
     let e : final x (ops ++ o ∷ []) ≡ apply (final x ops) o = final_more x ops o in

@@ -49,7 +49,7 @@ impl Model for Board {
 }
 
 impl Board {
-    /// A board with an empty list, and its readers. It publishes once, when nobody reads. An error is want of memory.
+    /// A board with an empty list, and its readers. It publishes once, when nobody reads. An error is out of memory.
     pub fn new<R: Wait>(
         rt: &R,
         alloc: Global,

@@ -31,7 +31,7 @@ impl Declared {
     pub(crate) fn new() -> Declared
         ensures { result ≡ [] }
     {
-        // The places behind the list hold any process.
+        // The places after the list hold any process.
         let unused = ProcId::new(1).unwrap();
         Declared {
             processes: [unused; MOST],

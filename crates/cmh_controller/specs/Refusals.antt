@@ -22,7 +22,7 @@ number_of AlreadyDeclared = 7
 number_of Unlawful = 8
 number_of Memory = 11
 
--- The reason holds of the event; want of memory can come only to an event that is accepted.
+-- The reason holds of the event; out of memory can come only to an event that is accepted.
 abbrev pub Holds : Topology → ℕ → State → Event → Refusal → Type 0
 Holds t s v (Ask asker targets) UnknownProcess = home t asker ≡ None
 Holds t s v (Ask asker targets) NotHere = ¬ At t asker s

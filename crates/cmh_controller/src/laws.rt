@@ -1,4 +1,4 @@
-//! What may be refused for want of memory.
+//! What may be refused when memory runs out.
 
 ghost use Rattle.std.specs.Prelude.{ℕ};
 ghost use Rattle.cmh_frames.specs.Topology.{Topology};

@@ -21,7 +21,7 @@ use std::alloc::{AllocError, Global};
 /// come from none, it has what they record, and a mark at each entry that can't be taken.
 ///
 /// The k-th frame that was sent on a link is drawn to the entry that got the k-th. The entry that got a frame stands on
-/// the right of the one that sent it where the journals permit that, which no clause says. The only error is want of
+/// the right of the one that sent it where the journals permit that, which no clause says. The only error is out of
 /// memory.
 pub fn run_picture(
     alloc: Global,

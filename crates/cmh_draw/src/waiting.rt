@@ -19,7 +19,7 @@ use std::alloc::{AllocError, Global};
 /// its processes, and each wait. Where they come from none, nobody is known to wait, and each site that stops says
 /// where.
 ///
-/// The only error is want of memory.
+/// The only error is out of memory.
 pub fn waits_picture(
     alloc: Global,
     topology: &Topology,

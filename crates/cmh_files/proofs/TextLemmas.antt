@@ -4,7 +4,7 @@ use Rattle.std.specs.Io.KnownBytes.{Appends, Keeps}
 use Rattle.std.proofs.lemmas.List.{take_more, append_assoc, append-nil}
 use Rattle.cmh_files.specs.AuditTexts.{texts_of}
 
--- the texts with one more behind them
+-- the texts with one more after them
 pub texts_of-append : {X : Type 0} → (text : X → List ℕ) (xs : List X) (x : X) → texts_of text (xs ++ x ∷ []) ≡ texts_of text xs ++ text x
 texts_of-append text [] x = append-nil (text x)
 texts_of-append text (y ∷ ys) x = ap (λ l. text y ++ l) (texts_of-append text ys x) ∙ sym (append_assoc (text y) (texts_of text ys) (text x))

@@ -63,6 +63,6 @@ verdict_text edition (Refused stops) = codes "refused\n" ++ stops_text stops.row
 abbrev pub cut_text : ℕ × ℕ → List ℕ
 cut_text cut = codes "cut " ++ decimal cut.0 ++ codes " " ++ decimal cut.1 ++ codes "\n"
 
--- each site whose journal was cut off, with how many bytes stand behind its last entry
+-- each site whose journal was cut off, with how many bytes stand after its last entry
 abbrev pub cuts_text : List (ℕ × ℕ) → List ℕ
 cuts_text cuts = texts_of cut_text cuts

@@ -38,7 +38,7 @@ abbrev pub cut_of : ℕ → Tail → List (ℕ × ℕ)
 cut_of site Whole = []
 cut_of site (Cut bytes) = (site, bytes) ∷ []
 
--- the sites whose journal was cut off, with how many bytes stand behind its last entry
+-- the sites whose journal was cut off, with how many bytes stand after its last entry
 abbrev pub cuts_of : List Journal → List Tail → List (ℕ × ℕ)
 cuts_of [] tails = []
 cuts_of (j ∷ js) [] = []
@@ -89,7 +89,7 @@ pub record WroteAudit (topology : List ℕ) (files : List (List ℕ)) (old new :
   pub status_is : status ≡ status_of verdict
   pub wrote : Appends old new (cuts_text cuts ++ verdict_text edition verdict)
 
--- ---- faults; of want of memory nothing is said
+-- ---- faults; nothing is said of running out of memory
 
 -- the file at this place, from 1, is the first at fault
 pub record IsFirstFaulty (files : List (List ℕ)) (place : ℕ) (fault : JournalFault) : Type 0 where

@@ -11,12 +11,12 @@ use Rattle.cmh_files.specs.Audits.{Audits, IsCause, status_of}
 use Rattle.cmh_files.specs.Faults.{NamesFault}
 use Rattle.cmh_why.specs.Lines.{AreReasonLines}
 
--- behind a verdict on these journals: a line for each stop, with its reason
+-- after a verdict on these journals: a line for each stop, with its reason
 abbrev pub AreReasons : Topology → List Journal → Verdict → List ℕ → Type 0
 AreReasons t journals (Accepted report) text = text ≡ []
 AreReasons t journals (Refused stops) text = AreReasonLines t journals stops.rows stops.rows text
 
--- the status is that of an audit whose lines were written, and its reasons behind them
+-- the status is that of an audit whose lines were written, and its reasons after them
 pub record WroteExplained (topology : List ℕ) (files : List (List ℕ)) (old new : Option (List ℕ))
     (status : ℕ) : Type 0 where
   pub edition : Edition

@@ -30,7 +30,7 @@ pub record AreOneForEachSite {X : Type 0} (t : Topology) (IsOf : ℕ → X → T
   pub once : (s : ℕ) → count_of (λ q. q == s) sites ≡ bit (is_site t s)
   pub each : AreBeside IsOf sites things
 
--- The bytes are the file of a journal of the site with these entries, and a tail behind them or none.
+-- The bytes are the file of a journal of the site with these entries, and a tail after them or none.
 abbrev pub IsFileWith : Edition → ℕ → List Entry → List ℕ → Type 0
 IsFileWith edition s entries bytes = (tail : List ℕ) × Writes edition s entries tail bytes
 

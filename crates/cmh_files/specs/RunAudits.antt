@@ -31,13 +31,13 @@ run_text journals steps = flat_map (step_text journals) steps
 
 -- ---- the command
 
--- the steps that are told behind a verdict on these journals: those of a run from which they come; none where they
+-- the steps that are told after a verdict on these journals: those of a run from which they come; none where they
 -- come from none
 abbrev pub AreStepsToTell : Topology → List Journal → Verdict → List Step → Type 0
 AreStepsToTell t journals (Accepted report) steps = IsRunOf t journals steps
 AreStepsToTell t journals (Refused stops) steps = steps ≡ []
 
--- the status is that of an audit whose lines were written, and a line for each of these steps behind them
+-- the status is that of an audit whose lines were written, and a line for each of these steps after them
 pub record WroteRun (topology : List ℕ) (files : List (List ℕ)) (old new : Option (List ℕ))
     (status : ℕ) : Type 0 where
   pub edition : Edition

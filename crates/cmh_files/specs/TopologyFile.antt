@@ -92,7 +92,7 @@ pub record SaysPorts (bytes : List ℕ) (ports : List ℕ) : Type 0 where
   pub ports_are : ports_in value ≡ Some ports
   pub apart : has_repeats ports ≡ false
 
--- ---- faults; of want of memory nothing is said
+-- ---- faults; nothing is said of running out of memory
 
 -- there is nothing to be read
 abbrev pub IsFaultOf : {X : Type 0} → Option X → TopologyFileFault → Type 0

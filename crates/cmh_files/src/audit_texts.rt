@@ -134,7 +134,7 @@ impl<'a> fmt::Display for StopLines<'a> {
     }
 }
 
-/// Each site whose journal was cut off, with how many bytes stand behind its last entry.
+/// Each site whose journal was cut off, with how many bytes stand after its last entry.
 #[derive(Drop)]
 pub struct Cuts<'a> {
     pub cuts: &'a [(SiteId, usize)],

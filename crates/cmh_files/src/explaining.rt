@@ -17,7 +17,7 @@ use cmh_why::reason_lines;
 use std::alloc::{AllocError, Global};
 use std::io::Write;
 
-/// Audits journals as `run_audit` does, and where they come from no run writes behind the verdict a line for each stop:
+/// Audits journals as `run_audit` does, and where they come from no run writes after the verdict a line for each stop:
 /// why that site can't take the entry at it.
 ///
 /// The answer, the faults and the lines of the verdict are those of `run_audit`.

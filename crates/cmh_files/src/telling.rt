@@ -18,7 +18,7 @@ use cmh_stored::list_journals;
 use std::alloc::Global;
 use std::io::Write;
 
-/// Audits journals as `run_audit` does, and where they come from a run writes the entries of one behind the verdict, in
+/// Audits journals as `run_audit` does, and where they come from a run writes the entries of one after the verdict, in
 /// its order: a line each, with its site and its number in that site's journal, from 1.
 ///
 /// The answer, the faults and the lines of the verdict are those of `run_audit`.

@@ -1,4 +1,4 @@
--- Two lists, one behind the other, in a row of limited length.
+-- Two lists, one after the other, in a row of limited length.
 use Rattle.std.proofs.Common.{◌≡◌, ℕ, ◌+◌, ◌-◌, ◌≤◌, min, List, ◌++◌, length, take, sym, ap, ◌∙◌, arith}
 use Rattle.std.proofs.lemmas.List.{take_min, length-take-le}
 use Rattle.std.proofs.lemmas.Slice.{take-put_mid}

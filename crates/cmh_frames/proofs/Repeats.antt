@@ -36,7 +36,7 @@ module _ (rows : List Row) (later : ℕ) (row : Row) (behind p : ℕ) (within : 
   abbrev ps : List ℕ
   ps = drop (length row.1 - behind) row.1
 
-  -- that is named behind it
+  -- that is named after it
   pub named_twice : (list_any (λ q. q == p) ps || has_process rest p) ≡ true → repeats_process rows ≡ true
   named_twice h =
       let among : repeats_among rest (p ∷ ps) ≡ true = or_left (list_any (λ q. q == p) ps || has_process rest p) (repeats_among rest ps) h in

@@ -56,7 +56,7 @@ fault_of edition rows =
     else (if repeats_process rows then Some RepeatedProcess
     else (if has_bad_number rows then Some BadNumber else None)))
 
--- the fault is the first that holds; want of memory comes only where none does
+-- the fault is the first that holds; out of memory comes only where none does
 abbrev pub IsFaultOf : Edition → List Row → TopologyFault → Type 0
 IsFaultOf edition rows Memory = fault_of edition rows ≡ None
 IsFaultOf edition rows fault = fault_of edition rows ≡ Some fault

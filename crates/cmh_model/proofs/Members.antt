@@ -36,7 +36,7 @@ all_from P (x ∷ xs) each = (each 0 (omega arith), all_from P xs (λ k h. each 
 pub no_member : {X : Type 0} (x : X) → Contains [] x → ⊥
 no_member x c = let none : c.0 < 0 = c.1 in absurd (omega (arith, none))
 
--- what comes behind the first ascends too
+-- what comes after the first ascends too
 pub increasing_tail : (x : ℕ) (xs : List ℕ) → IsStrictlyIncreasing (x ∷ xs) → IsStrictlyIncreasing xs
 increasing_tail x xs up = λ k h. let e : suc k + 1 ≡ suc (k + 1) = omega arith in subst (λ m. slice_index xs k < slice_index (x ∷ xs) m) e (up (suc k) (omega arith))
 

@@ -40,7 +40,7 @@ pub record Facts (t : Topology) (events : List WorldEvent) : Type 0 where
   pub dependents : (b k i : ℕ) → has (state_of t b events).dependents k i ≡ true
       → At t k b × (is_blocked (state_of t b events) k ≡ true) × DependsOn events i k
   -- a probe under way from the site of j to the site of k: where j waits for k and no newer request of j to k
-  -- is behind the probe, its origin is j or dependent on j
+  -- is after the probe, its origin is j or dependent on j
   pub probes : (a b i j k : ℕ) (earlier behind : List Frame)
       → under_way a b events ≡ earlier ++ Probe (i, j, k) ∷ behind
       → (a ≢ b) × At t j a × At t k b × (Waits events j k → count_of (is_request j k) behind ≡ 0 → Reaches events i j)

@@ -35,7 +35,7 @@ pub fn frames_for_a_third_site()
 {}
 
 /// Edition 2, `1: 1 3`, `2: 2`: a declared process that asks starts a computation like any other: its probe goes out
-/// behind its request. Where it is locally dependent upon itself it is not declared again, and no probe goes out.
+/// after its request. Where it is locally dependent upon itself it is not declared again, and no probe goes out.
 pub fn declared_process_asks()
     ensures probes { Sends (beside_in Two) 1 (state_with [] [] [] (3 ∷ [])) (Ask 3 (2 ∷ []))
         ((2, Request (3, 2)) ∷ (2, Probe (3, 3, 2)) ∷ []) None }

@@ -125,14 +125,15 @@ abbrev pub IsOfRun : Game → Type 0
 IsOfRun (Named draft) = ⊤
 IsOfRun (Played world) = IsPlayed world
 
--- A frame is refused only for want of room, and a report is that of accepted journals.
+-- A frame is refused only where a journal has no room, and a report is that of accepted journals.
 abbrev pub IsOfHonestSites : Reply → Type 0
 IsOfHonestSites (DeliveryReply (DeliveryRefused refused)) = IsWantOfRoom refused
 IsOfHonestSites (ReportReply edition verdict) = IsAccepted verdict.value
 IsOfHonestSites reply = ⊤
 
 -- Of the bytes of a script the lines before the rest were answered by the text, and led to the game. The world of each
--- game is at the end of a run, so no frame is refused but for want of room, and each report is accepted.
+-- game is at the end of a run, so a frame is refused only where a journal has no room, and each report is
+-- accepted.
 pub data Plays (bytes : List ℕ) : List ℕ → List ℕ → Game → Type 0 where
   begin : (game : Game) → IsNewGame game → Plays bytes bytes [] game
   answer : (rest text : List ℕ) (old new : Game) (line : Line) (reply : Reply) → Plays bytes rest text old
@@ -154,7 +155,7 @@ abbrev pub status_after : Result (Unit {0}) Fault → ℕ
 status_after (Ok_result played) = 0
 status_after (Err fault) = status_of fault
 
--- why a script is not played to its end; of want of memory nothing is said
+-- why a script is not played to its end; nothing is said of running out of memory
 abbrev pub IsPlayFault : Option (List ℕ) → Bool → Bool → Fault → Type 0
 IsPlayFault bytes read_failed write_failed Input = (read_failed ≡ true) ⊎ IsEndless bytes
 IsPlayFault bytes read_failed write_failed Output = write_failed ≡ true

@@ -216,7 +216,7 @@ impl Game {
         }
     }
 
-    /// Answers what was read of a script, behind which a whole line is at hand or not. The journals are kept before a
+    /// Answers what was read of a script, after which a whole line is at hand or not. The journals are kept before a
     /// report is written. The targets of an ask take the memory of `room`, which has it back where nobody keeps them.
     fn answer_line<W: Write, K: Keeper>(
         &mut self,

@@ -48,7 +48,7 @@ abbrev pub with_all : Option (List Frame) → List Frame → Option (List Frame)
 with_all None sent = None
 with_all (Some frames) sent = Some (frames ++ sent)
 
--- the link from a to b after s sent these: what goes to b lies behind what is under way; links of others are as they
+-- the link from a to b after s sent these: what goes to b lies after what is under way; links of others are as they
 -- were
 abbrev pub link_after : Links → ℕ → List (ℕ × Frame) → ℕ → ℕ → Option (List Frame)
 link_after links s sent a b = if s == a then with_all (link_of links a b) (frames_to b sent) else link_of links a b

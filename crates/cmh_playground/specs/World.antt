@@ -48,7 +48,7 @@ joins t a b = not (a == b) && (is_site t a && is_site t b)
 abbrev pub is_link : World → ℕ → ℕ → Bool
 is_link world a b = joins world.topology a b
 
--- The site s took the event by the rules of its controller: its journal has the entry behind the others, and that of no
+-- The site s took the event by the rules of its controller: its journal has the entry after the others, and that of no
 -- other site changed.
 pub record Moves (old new : World) (s : ℕ) (event : Event) (sent : List (ℕ × Frame))
     (declared : Option ℕ) : Type 0 where

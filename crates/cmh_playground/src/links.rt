@@ -69,7 +69,7 @@ impl Links {
         self.under_way.len(from, to)
     }
 
-    /// Puts a frame behind those under way; a cut link loses it.
+    /// Puts a frame after those under way; a cut link loses it.
     pub fn send(&mut self, from: SiteId, to: SiteId, frame: Frame) -> Result<(), AllocError>
         ensures ok { OnOk result (ChangesLink self.old self.new from to
             (with_last (link_of self.old from to) frame)) }

@@ -221,7 +221,7 @@ impl Playground {
     }
 
     /// The verdict on the journals, kept or not, of a world that was played from its beginning on: they come from its
-    /// run, so none is looked through. The only error is want of memory.
+    /// run, so none is looked through. The only error is out of memory.
     pub fn audit(&self, alloc: Global) -> Result<Verdict, AuditMemory>
         ensures { IfOk result (λ verdict. (keeps : Bool) (world : World) → Shows keeps world self.now → IsPlayed world
             → IsVerdictOn world.topology world.journals verdict) }

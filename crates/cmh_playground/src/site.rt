@@ -86,7 +86,7 @@ impl fmt::Display for Step {
 }
 
 /// Gives an event to the controller of the site at this place, puts what it sends on the site's links, and the entry
-/// into the books. A full journal comes before the controller's reasons to refuse. An error is want of memory, after
+/// into the books. A full journal comes before the controller's reasons to refuse. An error is out of memory, after
 /// which the books and the links may lack what the controller did.
 #[inline(always)]
 pub(crate) fn take(

@@ -39,7 +39,7 @@ fault_stays edition senders stream piece frames (Open sender rest offset) fault 
 fault_stays edition senders stream piece frames (Broken sender offset) fault is reads =
     (reads.0 ++ piece, splits_more edition senders stream sender frames reads.0 piece reads.1, bad_stays reads.0 piece reads.2, reads.3)
 
--- want of memory is no fault of a stream
+-- running out of memory is no fault of a stream
 pub not_memory : (standing : Standing) (fault : ReadFault) → fault_of standing ≡ Some fault → fault ≢ Memory
 not_memory (Greeting rest) fault is same = absurd (none-some fault is)
 not_memory NoHello fault is same = cc

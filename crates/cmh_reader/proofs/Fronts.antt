@@ -35,7 +35,7 @@ long_enough (k ∷ body) more (Probe (i, j, h)) behind long same =
     let kind : k ≡ 3 = ap (λ l. get_or l 0 0) same in
     let enough = long_of k 7 body (record { least = omega arith; most = omega arith }) (ap length_of_kind kind) long in omega arith
 
--- what is short with more behind it is short
+-- what is short with more after it is short
 short_before : (rest more : List ℕ) → IsShort (rest ++ more) → IsShort rest
 short_before [] more short = tt
 short_before (k ∷ body) more short = (short.0, let few : length (body ++ more) + 1 < length_of_kind k = short.1 in omega (arith, length-append body more))

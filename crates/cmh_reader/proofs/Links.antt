@@ -27,7 +27,7 @@ not_bad [] more later L bad e = bad.0 tt
 not_bad (x ∷ rest) more [] L bad e = cc
 not_bad (x ∷ rest) more (g ∷ later) L bad e = (bad_stays (x ∷ rest) more bad).1 g (spelled later) L.0 e
 
--- behind the hello, the frames so far and the rest begin what is sent
+-- after the hello, the frames so far and the rest begin what is sent
 split_sent : (edition : Edition) (senders stream : List ℕ) (sender : ℕ) (frames sent : List Frame) (rest : List ℕ) → Splits edition senders stream sender frames rest → (link : BeginsLink edition senders stream sent) → spelled frames ++ (rest ++ link.later) ≡ spelled sent
 split_sent edition senders stream sender frames sent rest s link =
     (one_hello edition sender link.site (spelled frames ++ (rest ++ link.later)) (spelled sent) s.number link.number

@@ -13,7 +13,7 @@ use Rattle.cmh_reader.proofs.Fronts.{bad_front, short_length, longer_than_begun}
 use Rattle.cmh_frames.proofs.Each.{all_append}
 use Rattle.cmh_frames.proofs.Fronts.{begins}
 
--- frames behind others are spelled behind them
+-- frames after others are spelled after them
 pub spelled-append : (xs ys : List Frame) → spelled (xs ++ ys) ≡ spelled xs ++ spelled ys
 spelled-append [] ys = refl
 spelled-append (f ∷ xs) ys = ap (λ b. spelling f ++ b) (spelled-append xs ys) ∙ sym (append_assoc (spelling f) (spelled xs) (spelled ys))
@@ -46,7 +46,7 @@ splits_push edition senders stream sender frames rest f behind s frame same = re
 place-push : (frames : List Frame) (f : Frame) → length (spelled (frames ++ f ∷ [])) ≡ length (spelled frames) + length (spelling f)
 place-push frames f = ap length (spelled-push frames f) ∙ length-append (spelled frames) (spelling f)
 
--- The bytes up to here were read into the frames: the stream that they go on with, whichever it is, has these frames behind its own.
+-- The bytes up to here were read into the frames: the stream that they go on with, whichever it is, has these frames after its own.
 pub record ReadSoFar (sender offset : ℕ) (known : List Frame) (bytes : List ℕ) (frames : List Frame) (used : ℕ) : Type 0 where
   pub in_range : used ≤ length bytes
   pub reads : (edition : Edition) (senders stream : List ℕ) (before : List Frame)

@@ -23,7 +23,7 @@ fresh edition senders = record { edition = edition; senders = senders; standing 
 abbrev pub StandsFor : Reader → List ℕ → List Frame → Type 0
 StandsFor reader stream frames = Reads reader.edition reader.senders stream frames reader.standing
 
--- Whatever stream the old reader stands for, the new one stands for it and the piece behind it, with these frames more.
+-- Whatever stream the old reader stands for, the new one stands for it and the piece after it, with these frames more.
 abbrev pub Takes : Reader → Reader → List ℕ → List Frame → Type 0
 Takes old new piece given = (stream : List ℕ) (frames : List Frame) → StandsFor old stream frames → StandsFor new
     (stream ++ piece) (frames ++ given)

@@ -1,4 +1,4 @@
--- What has come on a link so far: its frames, and what stands behind them.
+-- What has come on a link so far: its frames, and what stands after them.
 use Rattle.std.specs.Prelude.{◌≡◌, ◌≢◌, ℕ, ◌+◌, ◌<◌, ◌≤◌, min, List, [], ◌++◌, length, Contains, Option, None, Some}
 use Rattle.std.specs.List.{AllByRecursion}
 use Rattle.cmh_frames.specs.Number.{IsNumber}
@@ -32,7 +32,7 @@ pub record Splits (edition : Edition) (senders stream : List ℕ) (sender : ℕ)
   pub each : AllByRecursion IsFrame frames
   pub whole : stream ≡ link_bytes edition sender frames ++ rest
 
--- The stream has frames behind these.
+-- The stream has frames after these.
 pub record HasMore (edition : Edition) (senders stream : List ℕ) (frames : List Frame) : Type 0 where
   pub sender : ℕ
   pub more : List Frame
@@ -40,7 +40,7 @@ pub record HasMore (edition : Edition) (senders stream : List ℕ) (frames : Lis
   pub some : 0 < length more
   pub splits : Splits edition senders stream sender (frames ++ more) rest
 
--- the place in the stream behind the hello and the frames, as far as 64 bits can tell it
+-- the place in the stream after the hello and the frames, as far as 64 bits can tell it
 abbrev pub place_behind : List Frame → ℕ
 place_behind frames = min (6 + length (spelled frames)) 18446744073709551615
 
@@ -72,7 +72,7 @@ sender_of Stranger = None
 sender_of (Open sender rest offset) = Some sender
 sender_of (Broken sender offset) = Some sender
 
--- its bytes past the last whole frame, or of a hello that isn't whole; none behind a fault
+-- its bytes past the last whole frame, or of a hello that isn't whole; none after a fault
 abbrev pub rest_of : Standing → List ℕ
 rest_of (Greeting rest) = rest
 rest_of NoHello = []

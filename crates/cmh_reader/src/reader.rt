@@ -111,7 +111,7 @@ impl FrameReader {
         Ok(frames)
     }
 
-    /// The bytes past the last whole frame, or of a hello that isn't whole. Empty behind a fault.
+    /// The bytes past the last whole frame, or of a hello that isn't whole. Empty after a fault.
     pub fn rest(&self) -> &[u8]
         ensures { result.now ≡ rest_of self.now.standing }
     {

@@ -10,14 +10,14 @@ use crate::standing::Standing;
 use cmh_frames::{Edition, Frame, Front, HELLO_LEN, SiteId, Spelled, decode_front, decode_hello};
 use std::alloc::{AllocError, Global};
 
-/// The frames that a piece made whole, and what the stream has come to behind it.
+/// The frames that a piece made whole, and what the stream has come to after it.
 #[derive(Debug, Drop)]
 pub struct Progress {
     pub frames: Vec<Frame>,
     pub standing: Standing,
 }
 
-/// Reads on behind bytes of a hello that isn't whole.
+/// Reads on after bytes of a hello that isn't whole.
 pub fn greet(
     alloc: Global,
     edition: Edition,
@@ -58,7 +58,7 @@ pub fn greet(
     read_frames(frames, sender, HELLO_LEN as u64, &piece[taken..])
 }
 
-/// Reads on behind bytes of a frame that isn't whole.
+/// Reads on after bytes of a frame that isn't whole.
 pub fn read_on(
     alloc: Global,
     sender: SiteId,
@@ -103,7 +103,7 @@ pub fn read_on(
     }
 }
 
-/// Reads on behind whole frames, the last of which are given.
+/// Reads on after whole frames, the last of which are given.
 fn read_frames(
     mut frames: Vec<Frame>,
     sender: SiteId,

@@ -22,7 +22,7 @@ pub enum ProbeVerdict {
 }
 
 /// Receives a probe of the computation of `origin`, which `from` sent to `to`, a process of this site (Chandy, Misra
-/// and Haas 1983). The only error is want of memory.
+/// and Haas 1983). The only error is out of memory.
 pub fn on_probe(
     alloc: Global,
     waits: &LocalWaits,

@@ -19,7 +19,7 @@ pub enum StartVerdict {
     Send(Vec<Frame>),
 }
 
-/// Starts a probe computation for a process of the site (Chandy, Misra and Haas 1983). The only error is want of
+/// Starts a probe computation for a process of the site (Chandy, Misra and Haas 1983). The only error is out of
 /// memory.
 #[inline(always)]
 pub fn start(alloc: Global, waits: &LocalWaits, process: ProcId) -> Result<StartVerdict, AllocError>

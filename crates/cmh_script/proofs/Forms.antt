@@ -84,7 +84,7 @@ module _ (form : Form) (behind : List (List ℕ)) where
   unfolding rest
   spell_is line a = subst (λ (ws : List (List ℕ)). Spell ws a.numbers) (sym (ap rest a.words_are)) a.spell
 
-  -- they say nothing where no line of the form has the numbers that stand behind it
+  -- they say nothing where no line of the form has the numbers that stand after it
   pub said_bad : (words : List (List ℕ)) → words ≡ name_of form ∷ behind → ReadsAll (Fits form) behind None → Say words Bad
   said_bad words is none =
       subst (λ (ws : List (List ℕ)). (AreSilent ws → ⊥) × ((line : Line) → AreOf ws line → ⊥)) (sym is) ((λ silent. true≢false (sym silent ∙ name_plain form)), unfit)

@@ -48,7 +48,7 @@ no_space b digit is = absurd (small (subst (λ (b : ℕ). digit_value b < 10) is
     small : 36 < 10 → ⊥
     small h = omega arith
 
--- the digits at the front of a line are its first word, where a space or nothing is behind them
+-- the digits at the front of a line are its first word, where a space or nothing is after them
 digits_word : (line : List ℕ) (n : ℕ) → n ≤ length line → 0 < n → AllDigits 10 (take n line) → (n < length line → get_or line n 0 ≡ 32)
     → words_of line ≡ take n line ∷ words_of (drop n line)
 digits_word line n within some all space =
@@ -95,7 +95,7 @@ none_at : (line : List ℕ) → slice_index line 0 ≢ 32 → (0 < length line �
 none_at [] first space word words is = cc
 none_at (x ∷ xs) first space word words is = first (space (omega arith))
 
--- digits that are none, or behind which a word goes on, are no word of few digits
+-- digits that are none, or after which a word goes on, are no word of few digits
 module _ (line : List ℕ) (number m : ℕ) (numeral : IsFirstNumeral line number m) (first : slice_index line 0 ≢ 32)
     (goes_on : (m ≡ 0) ⊎ ((m < length line) × (get_or line m 0 ≢ 32))) where
   pub no_few_digits : (words : List (List ℕ)) → words ≡ words_of line → (value : ℕ) (behind : List (List ℕ)) → BeginsDigits words value behind → ⊥

@@ -80,7 +80,7 @@ spell_more {behind = behind} {numbers = numbers} {n = n} so_far next = record {
   spell = spell_join so_far.seen (next.word ∷ []) numbers (n ∷ []) so_far.spell (next.numeral, next.value, tt);
 }
 
--- what all of the words spell is spelled by those that are left, behind these numbers
+-- what all of the words spell is spelled by those that are left, after these numbers
 pub record SpellOn (left : List (List ℕ)) (numbers ns : List ℕ) : Type 0 where
   pub more : List ℕ
   pub numbers_are : ns ≡ numbers ++ more

@@ -17,19 +17,19 @@ pub record IsFirstNumeral (line : List ℕ) (number len : ℕ) : Type 0 where
   pub value : number ≡ decimal (take len line)
   pub all : len < 4 → len < length line → 10 ≤ digit_value (slice_index line len)
 
--- the first word is of few digits that spell the number, and these are the words behind it
+-- the first word is of few digits that spell the number, and these are the words after it
 pub record BeginsDigits (words : List (List ℕ)) (number : ℕ) (behind : List (List ℕ)) : Type 0 where
   pub word : List ℕ
   pub words_are : words ≡ word ∷ behind
   pub digits : AreFewDigits word
   pub value : number ≡ decimal word
 
--- Taking such a number off the words gave this one and left those behind it; or none, where none begins them.
+-- Taking such a number off the words gave this one and left those after it; or none, where none begins them.
 abbrev pub TakesDigits : List (List ℕ) → List (List ℕ) → Option ℕ → Type 0
 TakesDigits words left None = (number : ℕ) (behind : List (List ℕ)) → BeginsDigits words number behind → ⊥
 TakesDigits words left (Some number) = BeginsDigits words number left
 
--- the first word spells the number, and these are the words behind it
+-- the first word spells the number, and these are the words after it
 pub record Begins (words : List (List ℕ)) (number : ℕ) (behind : List (List ℕ)) : Type 0 where
   pub word : List ℕ
   pub words_are : words ≡ word ∷ behind
@@ -40,7 +40,7 @@ pub record Begins (words : List (List ℕ)) (number : ℕ) (behind : List (List 
 abbrev pub BeginsNone : List (List ℕ) → Type 0
 BeginsNone words = (number : ℕ) (behind : List (List ℕ)) → Begins words number behind → ⊥
 
--- Taking a number off the words gave this one and left those behind it; or none, where none begins them.
+-- Taking a number off the words gave this one and left those after it; or none, where none begins them.
 abbrev pub Takes : List (List ℕ) → List (List ℕ) → Option ℕ → Type 0
 Takes words left None = BeginsNone words
 Takes words left (Some number) = Begins words number left

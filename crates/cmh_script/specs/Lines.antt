@@ -13,8 +13,8 @@ abbrev pub NoFeed : List ℕ → Type 0
 NoFeed [] = ⊤
 NoFeed (b ∷ bs) = ((b == 10) ≡ false) × NoFeed bs
 
--- Of these bytes a piece was read and `left` is left: some with no line feed, and behind them a line feed, or the end
--- of what stood ready. What has room of them stands behind the line.
+-- Of these bytes a piece was read and `left` is left: some with no line feed, and after them a line feed, or the end
+-- of what stood ready. What has room of them stands after the line.
 abbrev pub IsPiece : ℕ → List ℕ → List ℕ → List ℕ → Piece → Option (List ℕ) → Type 0
 IsPiece most bytes old new Fed left = (seen : List ℕ) × (rest : List ℕ) × NoFeed seen
     × (bytes ≡ seen ++ 10 ∷ rest) × (left ≡ Some rest) × (new ≡ old ++ take (most - length old) seen)
@@ -51,7 +51,7 @@ abbrev pub IsEndless : Option (List ℕ) → Type 0
 IsEndless None = ⊤
 IsEndless (Some bytes) = 2 ^ 64 - 1 ≤ length bytes
 
--- why no line was read; of want of memory nothing is said
+-- why no line was read; nothing is said of running out of memory
 abbrev pub IsLineFault : Option (List ℕ) → Bool → LineFault → Type 0
 IsLineFault bytes has_failed Input = (has_failed ≡ true) ⊎ IsEndless bytes
 IsLineFault bytes has_failed Memory = ⊤

@@ -74,7 +74,7 @@ pub record AreOf (words : List (List ℕ)) (line : Line) : Type 0 where
   pub spell : Spell behind numbers
   pub fits : Fits form numbers line
 
--- the form that the first word names, and the words behind it, or none where it names none
+-- the form that the first word names, and the words after it, or none where it names none
 abbrev pub IsFormOf : List (List ℕ) → Option (Form × List (List ℕ)) → Type 0
 IsFormOf words None = (form : Form) (behind : List (List ℕ)) → words ≡ name_of form ∷ behind → ⊥
 IsFormOf words (Some front) = words ≡ name_of front.0 ∷ front.1

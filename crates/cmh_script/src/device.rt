@@ -84,7 +84,7 @@ impl<R> Input<R> {
 }
 
 impl<R: BufRead> Input<R> {
-    /// Reads on, at most to a line feed, and puts behind the line what stands before it.
+    /// Reads on, at most to a line feed, and puts after the line what stands before it.
     ///
     /// The line grows to at most `most` bytes; what is over is read and left out. A read that a signal interrupted is
     /// made again.

@@ -72,7 +72,7 @@ pub fn parse_into(alloc: Global, line: &[u8], room: &mut Vec<ProcId>) -> Result<
     }
 }
 
-/// The form that the first word of a line names, and the words behind it.
+/// The form that the first word of a line names, and the words after it.
 #[inline(always)]
 fn front(line: &[u8]) -> Option<(Form, Words<'_>)>
     ensures { IsFormOf (words_of line.now) result }
@@ -83,7 +83,7 @@ fn front(line: &[u8]) -> Option<(Form, Words<'_>)>
     }
 }
 
-/// The form whose name and a space begin a line, and what stands behind them: so most lines are told without a search
+/// The form whose name and a space begin a line, and what stands after them: so most lines are told without a search
 /// for the end of their first word. The rarer forms are left to `front_word`.
 #[inline(always)]
 fn form_in_front(line: &[u8]) -> Option<(Form, &[u8])>

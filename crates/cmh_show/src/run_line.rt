@@ -8,7 +8,7 @@ use cmh_frames::SiteId;
 use cmh_model::Entry;
 use std::fmt;
 
-/// An entry of a run, on a line behind its site and its number in the journal of that site, from 1.
+/// An entry of a run, on a line after its site and its number in the journal of that site, from 1.
 #[derive(Drop)]
 pub struct RunLine<'a> {
     pub site: SiteId,

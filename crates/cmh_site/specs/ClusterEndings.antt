@@ -100,7 +100,7 @@ IsRunFault t script old new write_failed Memory = Begun t script old new write_f
 IsRunFault t script old new write_failed Output = write_failed ≡ true
 IsRunFault t script old new write_failed fault = ⊥
 
--- why there is no world; of want of memory nothing is said
+-- why there is no world; nothing is said of running out of memory
 abbrev pub IsWorldFault : List ℕ → Fault → Type 0
 IsWorldFault topology Json = IsFaultOfFileWithPorts topology NoJson
 IsWorldFault topology (NoTopology fault) = IsOfNoTopology topology fault

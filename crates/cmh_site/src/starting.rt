@@ -126,7 +126,7 @@ pub(crate) fn step<R: Wait + Drop>(rt: &R, station: &FileStation<R>, event: &Eve
 }
 
 /// The processes that a site declared, in their order in time: the board is told under the lock, and read once that is
-/// given back. The only error is want of memory.
+/// given back. The only error is out of memory.
 pub(crate) fn declared<R: Wait + Drop>(
     rt: &R,
     site: SiteId,

@@ -11,7 +11,7 @@ module _ (ms places : List ℕ) (are : ArePlaced ms places) (p : ℕ) where
   at_number : (i : ℕ) → i < length ms → get_or ms i 0 ≡ p → get_or places p 255 ≡ i
   at_number i inside is = ap (λ q. get_or places q 255) (sym is) ∙ are.placed i inside
 
-  -- behind the end of the table there is no member
+  -- after the end of the table there is no member
   pub none_past : length places ≤ p → is_in ms p ≡ false
   none_past past = false_from_ne_true (is_in ms p) (λ h.
       let at = found_place ms p h in

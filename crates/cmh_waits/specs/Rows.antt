@@ -27,7 +27,7 @@ place_in ms p = position_or_len (λ q. q == p) ms
 abbrev pub is_at_in : List ℕ → List ℕ → ℕ → Bool
 is_at_in ms ks k = nat_lt k (length ms) && is_in ks (slice_index ms k)
 
--- whether the members at two places are a pair of the relation; no member is at a place behind the last
+-- whether the members at two places are a pair of the relation; no member is at a place after the last
 abbrev pub joins : List ℕ → Relation → ℕ → ℕ → Bool
 joins ms r a b = (nat_lt a (length ms) && nat_lt b (length ms)) && has r (slice_index ms a) (slice_index ms b)
 

@@ -24,7 +24,7 @@ use std::mem::replace;
 /// A process is blocked where it waits for some process, and else active (Chandy, Misra and Haas 1983). The members of
 /// a site are those that the topology puts there, ascending; all others are at other sites. Waits between members are
 /// rows of bits, those for other sites are lists, and what is owed to other sites are sets of bits. A call fails only
-/// for want of memory, and then nothing has changed.
+/// when memory runs out, and then nothing has changed.
 #[derive(Debug, Drop)]
 pub struct LocalWaits {
     alloc: Global,

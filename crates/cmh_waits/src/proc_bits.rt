@@ -14,7 +14,7 @@ use std::marker::Model;
 
 /// A set of processes, found by their numbers.
 ///
-/// It grows up to the greatest number since it was cleared. A call fails only for want of memory, and then nothing has
+/// It grows up to the greatest number since it was cleared. A call fails only when memory runs out, and then nothing has
 /// changed.
 #[derive(Debug, Drop)]
 pub struct ProcBits {

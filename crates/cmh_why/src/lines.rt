@@ -38,7 +38,7 @@ impl<'a> fmt::Display for ReasonLine<'a> {
 
 /// A line for each of the stops, in their order: its reason, and the entry at it.
 ///
-/// The stops are those of an audit that refused the journals. The only error is want of memory.
+/// The stops are those of an audit that refused the journals. The only error is out of memory.
 pub fn reason_lines(
     alloc: Global,
     topology: &Topology,

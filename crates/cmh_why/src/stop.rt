@@ -14,7 +14,7 @@ use cmh_model::{Entry, Event};
 use cmh_world::growing_law;
 use std::alloc::{AllocError, Global};
 
-/// The reason for one of the stops of an audit that refused the journals. The only error is want of memory.
+/// The reason for one of the stops of an audit that refused the journals. The only error is out of memory.
 pub fn reason_of(
     alloc: Global,
     topology: &Topology,

@@ -29,7 +29,7 @@ use Rattle.cmh_world.proofs.LastAsker.{asker_active}
 use Rattle.cmh_world.proofs.World.{World, Step, Waiting, EachWait, Invariant, BlockedAt, wait_blocks, path_blocks}
 use Rattle.cmh_world.proofs.Kept.{kept, path_kept, cycle_kept, new_waits, sent_yes, sent_no, got_yes, got_no}
 
--- a probe of i along the wait of p for x is under way, and no request of it behind the probe
+-- a probe of i along the wait of p for x is under way, and no request of it after the probe
 abbrev pub Live : World → ℕ → ℕ → ℕ → ℕ → ℕ → Type 0
 Live w i p x a b = (earlier : List Frame) × (behind : List Frame) × (w.queue a b ≡ earlier ++ Probe (i, p, x) ∷ behind) × (count_of (is_request p x) behind ≡ 0)
 
@@ -40,7 +40,7 @@ Ahead t w i p (x ∷ xs) =
     ((s : ℕ) × At t p s × At t x s × Ahead t w i x xs)
     ⊎ ((a : ℕ) × (b : ℕ) × At t p a × At t x b × (a ≢ b) × (Live w i p x a b ⊎ (has (w.value b).dependents x i ≡ true)))
 
--- behind each mark the next wait between sites is so too
+-- after each mark the next wait between sites is so too
 abbrev pub Marked : Topology → World → ℕ → List ℕ → Type 0
 Marked t w i [] = Unit {0}
 Marked t w i (x ∷ xs) = ((b : ℕ) → At t x b → has (w.value b).dependents x i ≡ true → Ahead t w i x xs) × Marked t w i xs

@@ -28,7 +28,7 @@ use cmh_model::WorldEvent;
 /// At each beginning of the run these facts hold, on which it rests:
 /// - a process that a site keeps as dependent on another is so, by a path of one or more waits, and the other is
 ///   blocked;
-/// - a probe under way whose wait stands, with no newer request of that wait behind it, was sent for a process from
+/// - a probe under way whose wait stands, with no newer request of that wait after it, was sent for a process from
 ///   which a path leads to the wait;
 /// - for each wait that a site keeps, and for no other, just one of three is so, and once: its request is under way, it
 ///   is owed, its reply is under way;

@@ -229,7 +229,7 @@ impl Links {
         }
     }
 
-    /// Puts a frame behind those that are under way. Where memory is refused, all stay as they were.
+    /// Puts a frame after those that are under way. Where memory is refused, all stay as they were.
     #[inline(always)]
     pub fn send(&mut self, from: SiteId, to: SiteId, frame: Frame) -> Result<(), AllocError>
         ensures ok { OnOk result ((a b : ℕ) → waiting self.new a b

@@ -64,7 +64,7 @@ entry_counts journals = map (λ (j : Journal). length j.entries) journals
 abbrev pub entries_each : List Journal → List (List Entry)
 entries_each journals = map (λ (j : Journal). j.entries) journals
 
--- of each journal the entries behind those that were taken
+-- of each journal the entries after those that were taken
 pub record AreLeftAt (journals : List Journal) (counts : List ℕ) (walks : List (List Entry)) : Type 0 where
   pub one_each : length walks ≡ length journals
   pub left : (k : ℕ) (j : Journal) → k < length journals → j ≡ slice_index_or journals k j
@@ -100,7 +100,7 @@ sent_by (j ∷ journals) (n ∷ counts) = in_entries sent_count (take n j.entrie
 
 -- The looks that were made: one at each entry that was taken, and one at least, which failed, of each
 -- journal that is neither whole nor on the list.
--- A site comes to the list at the start, behind each of its entries, and for a frame that was sent to it;
+-- A site comes to the list at the start, after each of its entries, and for a frame that was sent to it;
 -- it goes from it for a look, or because its journal is whole.
 pub record AreTried (journals : List Journal) (counts ready : List ℕ) (tries : ℕ) : Type 0 where
   pub failed : List ℕ  -- the sites of the looks that failed
