@@ -26,6 +26,8 @@
  *            forked child of a process with threads.
  * MEMORY     The program's malloc, realloc and free. cmh_entry_sending, cmh_entry_declared, cmh_hello, cmh_site_header,
  *            cmh_site_keep, cmh_site_drop, cmh_reader_sender, the `_free`s and cmh_version take none.
+ * STACK      At most 16 KB, but for the calls that read JSON, cmh_site_new_json and cmh_audit: 24 KB for a topology, and at
+ *            most 64 KB where members that are not looked at nest deeper.
  * VERSIONS   cmh_version() is the CMH_VERSION of the header that the library was built with: compare its first two bytes.
  *            Within one of these, handles keep their size, and no code and no byte gets another meaning.
  */

@@ -3,6 +3,7 @@
    REFUSE=KIND:N         KIND is memory, read, write, sync or thread; the Nth call of it, counted from 1, fails
    REFUSE=short          each read and each write moves at most one byte
    REFUSE=short KIND:N   both
+   EARLIER=1             where a file has one beside it with the ending .earlier, that one is read the first time
    REFUSE_MARK=F         the file F is made when a call is refused
    REFUSE_COUNT=F        at the end the file F gets the number of allocations */
 #define _GNU_SOURCE
@@ -10,6 +11,7 @@
 #include <errno.h>
 #include <fcntl.h>
 #include <pthread.h>
+#include <stdarg.h>
 #include <stdio.h>
 #include <stdlib.h>
 #include <string.h>
@@ -78,6 +80,29 @@ ssize_t read(int file, void *buffer, size_t size) {
 ssize_t write(int file, const void *buffer, size_t size) {
     if (refused(WRITE, EIO)) return -1;
     return syscall(SYS_write, file, buffer, moves_one && size > 1 ? 1 : size);
+}
+
+/* Whether this file is opened for the first time. */
+static int is_new(const char *path) {
+    static char seen[16][256];
+    static size_t count;
+    for (size_t i = 0; i < count; i++) if (strcmp(seen[i], path) == 0) return 0;
+    if (count < 16 && strlen(path) < 256) strcpy(seen[count++], path);
+    return 1;
+}
+
+int open(const char *path, int flags, ...) {
+    char earlier[300];
+    va_list rest;
+    va_start(rest, flags);
+    mode_t mode = flags & O_CREAT ? va_arg(rest, mode_t) : 0;
+    va_end(rest);
+    if (getenv("EARLIER") && strlen(path) < 256 && is_new(path)) {
+        snprintf(earlier, sizeof earlier, "%s.earlier", path);
+        int file = (int)syscall(SYS_open, earlier, flags & ~O_CREAT, 0);
+        if (file >= 0) return file;
+    }
+    return (int)syscall(SYS_open, path, flags, mode);
 }
 
 int fsync(int file) { return refused(SYNC, EIO) ? -1 : (int)syscall(SYS_fsync, file); }

@@ -22,7 +22,7 @@ ENTRY_BYTES = 600  # of memory that an entry may take
 
 # What is spared on request, by the number of the fault of operation that it meets.
 SPARED = {2: 'more connections than a site takes in its life', 5: 'quit while a peer reads nothing',
-          8: 'audits of running sites', 10: 'the signal of a file that may not grow'}
+          10: 'the signal of a file that may not grow'}
 
 
 class Figures:
@@ -203,8 +203,7 @@ class Wave:
             most = FEW if 2 in self.spared else 1000
             self.begin(attack, self.world, number, random.Random(self.draw.random()), most, self.ending, self.figures)
         self.begin(stop_and_continue, survivors, random.Random(self.draw.random()), self.ending, self.figures)
-        if 8 not in self.spared:
-            self.begin(audit_live, self.world, self.ending, self.figures)
+        self.begin(audit_live, self.world, self.ending, self.figures)
 
     def read_as_five(self, listener):
         """Each sender has a reader of its own, which takes 50 bytes a second; and all, once the sites may end."""

@@ -533,7 +533,6 @@ BEFORE = {
     'peer_that_restarted': 'a sender learns nothing before it writes',
     'frames_that_dont_come': 'a million looks without a pause',
     'cluster_of_few_files': 'the same, in one run of eight',
-    'audit_of_running_sites': 'the files are read at more than one moment',
     'synced_folder': 'the folder of a journal is not synced',
     'no_regular_file': 'a pipe is opened, and waits for its other end',
     'size_limit': 'the signal of a file that may not grow kills the site',

@@ -5,6 +5,7 @@ ghost use Rattle.cmh.specs.CommandLine.{IsUnread};
 
 use crate::commands::{JOURNALS, SCRIPT, TOPOLOGY};
 use clap::ArgMatches;
+use cmh_live::stop_of;
 use cmh_site::Fault;
 use std::fs;
 use std::io::ErrorKind;
@@ -38,14 +39,61 @@ pub struct AuditFiles {
     pub journals: Vec<Vec<u8>>,
 }
 
-/// Reads the files that the words name: the topology, and then the journals in their order.
+/// Reads the files that the words name: the topology, and then the journals in their order. The journals of sites that
+/// run are cut where their sites might have stopped, all at once.
 pub fn files_of<R: AllocGlobal + Files>(rt: &R, words: &ArgMatches<'_>) -> Result<AuditFiles, Fault>
     ensures { IfErr result IsUnread }
 {
     let path = words.get_str(TOPOLOGY).unwrap_or("");
     let topology = read_file(rt, path, Fault::TopologyFile)?;
-    let journals = journals_of(rt, words)?;
+    let read = journals_of(rt, words)?;
+    let journals = if has_grown(rt, words, &read)? {
+        as_stopped(rt, words, read)?
+    } else {
+        read
+    };
     Ok(AuditFiles { topology, journals })
+}
+
+/// Whether one of the journals is longer by now than what was read of it: its site runs. What can't be looked at, or is
+/// no file, has not grown.
+fn has_grown<R: AllocGlobal + Files>(
+    rt: &R,
+    words: &ArgMatches<'_>,
+    read: &[Vec<u8>],
+) -> Result<bool, Fault>
+    ensures { IfErr result IsUnread }
+{
+    let Some(paths) = words.get_strs(JOURNALS) else {
+        return Ok(false);
+    };
+    for (path, file) in paths.iter().zip(read) {
+        match fs::metadata(rt, *path) {
+            Ok(metadata) if metadata.len() > file.len() as u64 => return Ok(true),
+            Err(error) if error.kind() == ErrorKind::OutOfMemory => return Err(Fault::Memory),
+            _ => {}
+        }
+    }
+    Ok(false)
+}
+
+/// Reads the journals once more, and cuts them at a stop that keeps at least what was read first. Where there is none,
+/// they are what was read first.
+fn as_stopped<R: AllocGlobal + Files>(
+    rt: &R,
+    words: &ArgMatches<'_>,
+    first: Vec<Vec<u8>>,
+) -> Result<Vec<Vec<u8>>, Fault>
+    ensures { IfErr result IsUnread }
+{
+    let mut journals = journals_of(rt, words)?;
+    let Some(lengths) = stop_of(rt.alloc(), &first, &journals)? else {
+        return Ok(first);
+    };
+    for (journal, length) in journals.iter_mut().zip(&lengths) {
+        journal.truncate(*length);
+    }
+    Ok(journals)
 }
 
 /// Reads the journals that the words name, in their order.

@@ -98,6 +98,10 @@ With --run a line for each entry follows an accepted report, in the order of one
   S N ENTRY                     entry N of site S, in the words of `cmh show`
 ";
 
+const AUDIT_RUNNING: &str = "\
+The sites may run: their journals are then read twice, and cut where all sites might have stopped at one moment.
+";
+
 const AUDIT_STATUSES: &str = "\
 Statuses: 0 accepted, 1 refused or out of memory, 2 for a command line that isn't understood, 3 at a fault, which is
 named on standard error: `fault file P`, `fault json`, `fault topology N`, `fault journal P N`, `fault set N`,
@@ -133,7 +137,8 @@ const DRAW_PICTURE: &str = "\
 The picture of `waits` has a box for each site with its processes, and an arrow from each process that waits at the end
 to each that it waits for; who was declared is drawn as an octagon. That of `run` has a line for each site with its
 entries, and an arrow for each frame from the entry that sent it to the one that got it. The arrow of a frame that
-nobody got has an open end. Where the journals are refused, the entry at which a site stops is marked.
+nobody got has an open end: it was lost, or waits on its link. Where the journals are refused, the entry at which a site
+stops is marked.
 
 Statuses: 0 where a picture was written, 1 where memory ran out, 2 for a command line that isn't understood, 3 at a
 fault, which is named on standard error as in `cmh audit --help`.
@@ -272,7 +277,7 @@ fn audit(alloc: Global) -> Result<String, AllocError> {
     for refusal in REFUSALS {
         row(&mut text, refusal.number(), refusal)?;
     }
-    write!(text, "\n{AUDIT_STATUSES}")?;
+    write!(text, "\n{AUDIT_RUNNING}\n{AUDIT_STATUSES}")?;
     Ok(text)
 }
 

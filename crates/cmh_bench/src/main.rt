@@ -2,15 +2,19 @@
 //! and `bad at O` where they have a fault. `cmh_bench station steps WHAT SITE N ROUNDS [FILE]` takes 64 steps a round,
 //! and prints how many were accepted: WHAT is `controller` (no journal), `memory` or `file`; SITE is `little` (two sites
 //! of one process each) or `full` (61 sites, the first of 64 processes); N is how many events one sync takes, 64 at
-//! most, and 0 for one call of `step` each. `cmh_bench link N` sends at least N frames of a station over a socket of
+//! most, and 0 for one call of `step` each. `cmh_bench seat WHAT N` takes N rounds of events in bytes and writes their
+//! entries, as the C library does, and prints how many were accepted: WHAT is `starts` (of a process that waits) or `asks`
+//! (a reply and the next ask). `cmh_bench link N` sends at least N frames of a station over a socket of
 //! 127.0.0.1, and prints how many came and how many that is a second.
 #![tactic(auto)]
 
 mod link;
+mod seats;
 mod steps;
 mod world;
 
 use crate::link::carry;
+use crate::seats::{Bytes, count_bytes};
 use crate::steps::{Kept, Load, count};
 use crate::world::{World, refused};
 use cmh_controller::Controller;
@@ -108,6 +112,18 @@ fn count_steps(rt: &HostRuntime, words: &[String]) -> io::Result<Option<String>>
     Ok(Some(format!(in alloc; "{done}")?))
 }
 
+/// How many events in bytes a seat accepted, `None` where the words ask for none.
+fn count_seat(alloc: Global, what: &str, rounds: u64) -> io::Result<Option<String>> {
+    let world = World::new(alloc, 1, 1, 1)?;
+    let bytes = match what {
+        "starts" => Bytes::starts(alloc, &world)?,
+        "asks" => Bytes::asks(alloc, &world)?,
+        _ => return Ok(None),
+    };
+    let done = count_bytes(alloc, &world, &bytes, rounds)?;
+    Ok(Some(format!(in alloc; "{done}")?))
+}
+
 fn main(rt: HostRuntime) -> io::Result<ExitCode> {
     let mut words = Vec::new(rt.alloc());
     for word in env::args(&rt)? {
@@ -117,11 +133,15 @@ fn main(rt: HostRuntime) -> io::Result<ExitCode> {
     let answer = match (second, third, third.parse::<u64>()) {
         ("decode", path, _) => Some(decode(&rt, path)?),
         ("station", "steps", _) => count_steps(&rt, &words)?,
+        ("seat", what, _) => match word_at(&words, 3).parse::<u64>() {
+            Ok(rounds) => count_seat(rt.alloc(), what, rounds)?,
+            Err(_) => None,
+        },
         ("link", _, Ok(frames)) => Some(carry(rt, rt.alloc(), frames)?),
         _ => None,
     };
     let Some(answer) = answer else {
-        let usage = "decode FILE | station steps WHAT SITE N ROUNDS [FILE] | link N";
+        let usage = "decode FILE | station steps WHAT SITE N ROUNDS [FILE] | seat WHAT N | link N";
         eprintln!(rt; "usage: cmh_bench {usage}")?;
         return Ok(ExitCode::from(2));
     };

@@ -19,12 +19,6 @@ pub const CLOSED: u32 = 22;
 /// The handle is open already.
 pub const OPEN: u32 = 23;
 
-/// The number is not 1 or 2.
-pub const NO_EDITION: u32 = 24;
-
-/// A number is not from 1 to 9999.
-pub const NO_NUMBER: u32 = 28;
-
 pub fn code_of(fault: SeatFault) -> u32
     ensures value { result ≡ spec.code_of fault }
     ensures positive { 0 < result }

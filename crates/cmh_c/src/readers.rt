@@ -1,15 +1,45 @@
 //! Readers.
 
-ghost use Rattle.std.specs.Prelude.{◌≡◌, ◌<◌, true, false, IfErr, IfOk, IfSome, length};
+ghost use Rattle.std.specs.Prelude.{◌≡◌, ◌<◌, ◌≤◌, true, false, IfErr, IfNone, IfOk, IfSome, OnOk, length};
+ghost use Rattle.cmh_frames.specs.Edition.{number_of};
 ghost use Rattle.cmh_reader.specs.Stream.{sender_of};
 ghost use Rattle.cmh_seat.specs.Inlet.{Gave};
-ghost use Rattle.cmh_c.specs.Reading.{AnswersPiece, IsFresh, IsHello, number_or_0};
+ghost use Rattle.cmh_c.specs.Reading as spec;
+ghost use Rattle.cmh_c.specs.Reading.{AnswersHello, AnswersPiece, AnswersReader, HasNoSite, IsFresh, IsHello, IsNoHello, IsNoReader, number_or_0};
 
-use crate::codes::{CLOSED, DONE, NO_EDITION, NO_MEMORY, NO_NUMBER, OPEN, SHORT, code_of_reading};
+use crate::codes::{CLOSED, DONE, NO_MEMORY, OPEN, SHORT, code_of_reading};
 use cmh_frames::{Edition, HELLO_LEN, SiteId, encode_hello};
 use cmh_seat::{HeldInlet, Inlet};
 use std::alloc::{AllocError, Global};
 use std::mem::replace;
+
+/// Why no reader is opened, or no hello is written.
+#[derive(Clone, Copy, Debug, PartialEq, Eq)]
+pub enum LinkFault {
+    /// The number of the edition is not 1 or 2.
+    Edition,
+    /// A number is not that of a site.
+    Number,
+    /// What was lent is shorter than a hello.
+    Short,
+    /// Out of memory.
+    Memory,
+}
+
+impl LinkFault {
+    /// The number that C is answered.
+    fn code(self) -> u32
+        ensures value { result ≡ spec.code_of_link self }
+        ensures positive { 0 < result }
+    {
+        match self {
+            LinkFault::Edition => 24,
+            LinkFault::Number => 28,
+            LinkFault::Short => SHORT,
+            LinkFault::Memory => NO_MEMORY,
+        }
+    }
+}
 
 /// A reader, in memory of the caller. Zeros are one that is closed.
 #[repr(C)]
@@ -41,27 +71,28 @@ impl CmhReader {
 }
 
 /// A reader of a link from one of these sites.
-fn inlet_of(alloc: Global, edition: u8, senders: &[u16]) -> Result<Box<Inlet, Global>, u32>
+fn inlet_of(alloc: Global, edition: u8, senders: &[u16]) -> Result<Box<Inlet, Global>, LinkFault>
     ensures made { IfOk result (λ inlet. IsFresh edition senders.now inlet.value) }
-    ensures code { IfErr result (λ code. 0 < code) }
+    ensures fault { IfErr result (IsNoReader edition senders.now) }
 {
     let Some(edition) = Edition::of_number(edition) else {
-        return Err(NO_EDITION);
+        return Err(LinkFault::Edition);
     };
     let sites = match sites_of(alloc, senders) {
         Ok(Some(sites)) => sites,
-        Ok(None) => return Err(NO_NUMBER),
-        Err(_) => return Err(NO_MEMORY),
+        Ok(None) => return Err(LinkFault::Number),
+        Err(_) => return Err(LinkFault::Memory),
     };
     match Box::new(alloc, Inlet::new(alloc, edition, sites)) {
         Ok(inlet) => Ok(inlet),
-        Err(_) => Err(NO_MEMORY),
+        Err(_) => Err(LinkFault::Memory),
     }
 }
 
 /// The sites of these numbers, if each is one.
 fn sites_of(alloc: Global, numbers: &[u16]) -> Result<Option<Vec<SiteId>>, AllocError>
-    ensures { IfOk result (λ sites. IfSome sites (λ sites. sites.items ≡ numbers.now)) }
+    ensures all { IfOk result (λ sites. IfSome sites (λ sites. sites.items ≡ numbers.now)) }
+    ensures none { IfOk result (λ sites. IfNone sites (HasNoSite numbers.now)) }
 {
     let mut sites = Vec::new(alloc);
     for number in numbers {
@@ -71,6 +102,25 @@ fn sites_of(alloc: Global, numbers: &[u16]) -> Result<Option<Vec<SiteId>>, Alloc
         sites.push(site)?;
     }
     Ok(Some(sites))
+}
+
+/// The edition and the site of a hello, where there is so much room.
+fn parts_of_hello(edition: u8, site: u16, room: usize) -> Result<(Edition, SiteId), LinkFault>
+    ensures edition { IfOk result (λ parts. edition ≡ number_of parts.0) }
+    ensures site { IfOk result (λ parts. site ≡ parts.1) }
+    ensures fits { OnOk result (6 ≤ room) }
+    ensures fault { IfErr result (IsNoHello edition site room) }
+{
+    let Some(edition) = Edition::of_number(edition) else {
+        return Err(LinkFault::Edition);
+    };
+    let Some(site) = SiteId::new(site) else {
+        return Err(LinkFault::Number);
+    };
+    if room < HELLO_LEN {
+        return Err(LinkFault::Short);
+    }
+    Ok((edition, site))
 }
 
 /// Opens a reader of a link from one of these sites.
@@ -85,6 +135,7 @@ pub extern "C" fn cmh_reader_new(
     ensures stays { 0 < result → reader.new.is_open ≡ reader.old.is_open }
     ensures same { 0 < result → reader.old.is_open ≡ true → reader.new.held.inlet ≡ reader.old.held.inlet }
     ensures open { reader.old.is_open ≡ true → result ≡ 23 }
+    ensures code { 0 < result → reader.old.is_open ≡ false → AnswersReader edition senders.now result }
 {
     if reader.is_open {
         return OPEN;
@@ -95,7 +146,7 @@ pub extern "C" fn cmh_reader_new(
             drop(held);
             DONE
         }
-        Err(code) => code,
+        Err(fault) => fault.code(),
     }
 }
 
@@ -177,16 +228,13 @@ pub extern "C" fn cmh_reader_free(alloc: Global, reader: &mut CmhReader)
 pub extern "C" fn cmh_hello(edition: u8, site: u16, out: &mut [u8]) -> u32
     ensures hello { result ≡ 0 → IsHello edition site out.old out.new }
     ensures out { 0 < result → out.new ≡ out.old }
+    ensures code { 0 < result → AnswersHello edition site (length out.old) result }
 {
-    let Some(edition) = Edition::of_number(edition) else {
-        return NO_EDITION;
-    };
-    let Some(site) = SiteId::new(site) else {
-        return NO_NUMBER;
-    };
-    if out.len() < HELLO_LEN {
-        return SHORT;
+    match parts_of_hello(edition, site, out.len()) {
+        Ok((edition, site)) => {
+            out[..6].copy_from_slice(&encode_hello(edition, site));
+            DONE
+        }
+        Err(fault) => fault.code(),
     }
-    out[..6].copy_from_slice(&encode_hello(edition, site));
-    DONE
 }

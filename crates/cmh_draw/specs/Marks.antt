@@ -15,7 +15,7 @@ use Rattle.cmh_draw.specs.Sizes.{AreWithin, HasRoom}
 use Rattle.cmh_draw.specs.declared.columns.Columns.{Columns}
 use Rattle.cmh_draw.specs.declared.mark.EntrySpot.{EntrySpot}
 use Rattle.cmh_draw.specs.declared.mark.Mark as marks
-use Rattle.cmh_draw.specs.declared.mark.Mark.TheVariants.{Home, Process, Wait, Site, Entry as Entry_mark, Frame, Stop, Halt}
+use Rattle.cmh_draw.specs.declared.mark.Mark.TheVariants.{Site, Process, Wait, Entry as Entry_mark, Arrow, Stop}
 use Rattle.cmh_draw.specs.declared.mark.Spot.{Spot}
 use Rattle.cmh_draw.specs.declared.passages.EntryAt.{EntryAt}
 use Rattle.cmh_draw.specs.declared.passages.Passage.{Passage}
@@ -31,23 +31,19 @@ stops_of (Refused stops) = stops.rows
 
 -- where an entry is drawn: in its column, in the row of its site
 abbrev pub spot_of : List Columns → ℕ → ℕ → ℕ → EntrySpot
-spot_of columns site row number = record {
-  site = site;
-  number = number;
-  spot = record { column = column_of columns row number; row = row };
-}
+spot_of columns site row number =
+    record { site = site; number = number; spot = record { column = column_of columns row number; row = row } }
 
 abbrev pub spot_at_entry : List Columns → EntryAt → EntrySpot
 spot_at_entry columns at = spot_of columns at.site at.row at.number
 
 -- a line for each site
 abbrev pub site_marks : Topology → ℕ → List marks.Mark
-site_marks t width = each_from (λ row site. Site site row width ∷ []) 0 (sites_of t)
+site_marks t width = each_from (λ row site. Site (record { site = site; place = row; length = width }) ∷ []) 0 (sites_of t)
 
 abbrev pub frame_mark : List Columns → Passage → marks.Mark
-frame_mark columns p =
-    Frame p.sent.frame p.sent.to p.sent.place (spot_at_entry columns p.from)
-    (option_map (spot_at_entry columns) p.got)
+frame_mark columns p = Arrow
+    (record { sent = p.sent; from = spot_at_entry columns p.from; got = option_map (spot_at_entry columns) p.got })
 
 -- an arrow for each frame that was sent
 abbrev pub frame_marks : List Columns → List Passage → List marks.Mark
@@ -55,12 +51,12 @@ frame_marks columns passages = each_from (λ i (p : Passage). frame_mark columns
 
 abbrev pub entry_mark : List Columns → ℕ → ℕ → ℕ → Entry → marks.Mark
 entry_mark columns row site number e =
-    Entry_mark (spot_of columns site row number) e.event e.declared
+    Entry_mark (record { at = spot_of columns site row number; event = e.event; declared = e.declared })
 
 -- a mark for each entry of a site
 abbrev pub entry_marks : List Columns → ℕ → ℕ → List Entry → List marks.Mark
-entry_marks columns row site entries = each_from
-    (λ number (e : Entry). entry_mark columns row site number e ∷ []) 1 entries
+entry_marks columns row site entries =
+    each_from (λ number (e : Entry). entry_mark columns row site number e ∷ []) 1 entries
 
 -- and for each entry of all sites
 abbrev pub all_entry_marks : Topology → List Journal → List Columns → List marks.Mark
@@ -69,7 +65,7 @@ all_entry_marks t journals columns =
 
 abbrev pub stop_mark : Topology → List Columns → ℕ × ℕ → marks.Mark
 stop_mark t columns stop =
-    Stop (spot_of columns stop.0 (number_from 0 (sites_of t) stop.0) stop.1)
+    Stop (record { at = spot_of columns stop.0 (number_from 0 (sites_of t) stop.0) stop.1 })
 
 -- a mark for each entry at which the journals stop
 abbrev pub stop_marks : Topology → List Columns → List (ℕ × ℕ) → List marks.Mark
@@ -94,10 +90,8 @@ pub record IsRunPicture (t : Topology) (journals : List Journal) (verdict : Verd
 
 abbrev pub spot_at : Topology → ℕ → Option ℕ → Spot
 spot_at t process None = record { column = 0; row = 0 }
-spot_at t process (Some site) = record {
-  column = number_from 0 (sites_of t) site;
-  row = number_from 0 (members_of t site) process;
-}
+spot_at t process (Some site) =
+    record { column = number_from 0 (sites_of t) site; row = number_from 0 (members_of t site) process }
 
 -- where a process is drawn: in the column of its site, in the row of its place there
 abbrev pub process_spot : Topology → ℕ → Spot
@@ -121,8 +115,13 @@ abbrev pub is_on_cycle : Report → ℕ → ℕ → Bool
 is_on_cycle report j k = list_any (λ i. is_step_of (cycle_of report i) j k) report.declared
 
 abbrev pub wait_mark : Topology → Report → ℕ × ℕ → marks.Mark
-wait_mark t report wait =
-    Wait wait.0 wait.1 (process_spot t wait.0) (process_spot t wait.1) (is_on_cycle report wait.0 wait.1)
+wait_mark t report wait = Wait (record {
+  asker = wait.0;
+  holder = wait.1;
+  from = process_spot t wait.0;
+  to = process_spot t wait.1;
+  is_on_cycle = is_on_cycle report wait.0 wait.1;
+})
 
 -- a mark for each wait of a report
 abbrev pub report_marks : Topology → Report → List marks.Mark
@@ -130,11 +129,16 @@ report_marks t report = each_from (λ i (wait : ℕ × ℕ). wait_mark t report 
 
 -- a box for each site
 abbrev pub home_marks : Topology → List marks.Mark
-home_marks t = each_from (λ column site. Home site column (length (members_of t site)) ∷ []) 0 (sites_of t)
+home_marks t = each_from
+    (λ column site. Site (record { site = site; place = column; length = length (members_of t site) }) ∷ []) 0 (sites_of t)
 
 abbrev pub member_mark : List ℕ → ℕ → ℕ → ℕ → ℕ → marks.Mark
-member_mark declared column site row process =
-    Process process site (record { column = column; row = row }) (list_any (λ q. q == process) declared)
+member_mark declared column site row process = Process (record {
+  process = process;
+  site = site;
+  spot = record { column = column; row = row };
+  is_declared = list_any (λ q. q == process) declared;
+})
 
 -- a mark for each process of a site
 abbrev pub member_marks : List ℕ → ℕ → ℕ → List ℕ → List marks.Mark
@@ -145,18 +149,11 @@ abbrev pub process_marks : Topology → List ℕ → List marks.Mark
 process_marks t declared =
     each_from (λ column site. member_marks declared column site (members_of t site)) 0 (sites_of t)
 
-abbrev pub halt_mark : Topology → ℕ × ℕ → marks.Mark
-halt_mark t stop = Halt stop.0 (number_from 0 (sites_of t) stop.0) stop.1
-
--- where each site stops
-abbrev pub halt_marks : Topology → List (ℕ × ℕ) → List marks.Mark
-halt_marks t stops = each_from (λ i (stop : ℕ × ℕ). halt_mark t stop ∷ []) 0 stops
-
 -- each site, each wait and each process once, and nothing else; where the journals come from no run, each site, where
 -- it stops, and each process
 abbrev pub waits_marks : Topology → Verdict → List marks.Mark
 waits_marks t (Accepted report) = home_marks t ++ report_marks t report ++ process_marks t report.declared
-waits_marks t (Refused stops) = home_marks t ++ halt_marks t stops.rows ++ process_marks t []
+waits_marks t (Refused stops) = home_marks t ++ stop_marks t [] stops.rows ++ process_marks t []
 
 -- the picture of the waits of an audit's report, with a place within it for each process
 pub record IsWaitsPicture (t : Topology) (verdict : Verdict) (picture : Picture) : Type 0 where

@@ -9,7 +9,8 @@ mod running;
 mod size;
 mod waiting;
 
-pub use crate::mark::{EntrySpot, Mark, Spot};
+pub use crate::mark::{Arrow, EntryMark, EntrySpot, Mark, Process, Site, Spot, Stop, Wait};
+pub use crate::passages::Sent;
 pub use crate::picture::{Kind, NoKind, Picture};
 pub use crate::running::run_picture;
 pub use crate::waiting::waits_picture;

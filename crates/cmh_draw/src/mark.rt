@@ -1,6 +1,7 @@
 //! What a picture is made of.
 
-use cmh_frames::{Frame, ProcId, SiteId};
+use crate::passages::Sent;
+use cmh_frames::{ProcId, SiteId};
 use cmh_model::Event;
 
 /// A place in a picture: a column from the left and a row from the top, both from 0.
@@ -21,56 +22,61 @@ pub struct EntrySpot {
 /// One thing that is drawn.
 #[derive(Debug, Drop)]
 pub enum Mark {
-    /// A site of a picture of waits: a box round so many processes.
-    Home {
-        site: SiteId,
-        column: u32,
-        members: u32,
-    },
-    /// A process at its site.
-    Process {
-        process: ProcId,
-        site: SiteId,
-        spot: Spot,
-        is_declared: bool,
-    },
-    /// A process waits for another; the wait may lie on the cycle of a declared process.
-    Wait {
-        asker: ProcId,
-        holder: ProcId,
-        from: Spot,
-        to: Spot,
-        is_on_cycle: bool,
-    },
-    /// A site of a run: a line from the left to the right.
-    Site {
-        site: SiteId,
-        row: u32,
-        width: u32,
-    },
-    /// What happened at a site, and who was declared then.
-    Entry {
-        at: EntrySpot,
-        event: Event,
-        declared: Option<ProcId>,
-    },
-    /// A frame from the entry that sent it to the one that got it. Where none did it is lost, or waits on its link. Its
-    /// place is that among the frames of the entry that sent it, from 0.
-    Frame {
-        frame: Frame,
-        to: SiteId,
-        place: usize,
-        from: EntrySpot,
-        got: Option<EntrySpot>,
-    },
-    /// An entry that can't be taken: no run of these journals gets further.
-    Stop {
-        at: EntrySpot,
-    },
-    /// The same of a site of a picture of waits, with the number of the entry.
-    Halt {
-        site: SiteId,
-        column: u32,
-        number: usize,
-    },
+    Site(Site),
+    Process(Process),
+    Wait(Wait),
+    Entry(EntryMark),
+    Arrow(Arrow),
+    Stop(Stop),
+}
+
+/// A site: its place among those of the topology, from 0, and how long it is. In a picture of waits it is a box round so
+/// many processes, in a run a line of so many columns.
+#[derive(Clone, Copy, Debug)]
+pub struct Site {
+    pub site: SiteId,
+    pub place: u32,
+    pub length: u32,
+}
+
+/// A process at its site.
+#[derive(Clone, Copy, Debug)]
+pub struct Process {
+    pub process: ProcId,
+    pub site: SiteId,
+    pub spot: Spot,
+    pub is_declared: bool,
+}
+
+/// A process waits for another; the wait may lie on the cycle of a declared process.
+#[derive(Clone, Copy, Debug)]
+pub struct Wait {
+    pub asker: ProcId,
+    pub holder: ProcId,
+    pub from: Spot,
+    pub to: Spot,
+    pub is_on_cycle: bool,
+}
+
+/// What happened at a site, and who was declared then.
+#[derive(Debug, Drop)]
+pub struct EntryMark {
+    pub at: EntrySpot,
+    pub event: Event,
+    pub declared: Option<ProcId>,
+}
+
+/// A frame from the entry that sent it to the one that got it. Where none did it is lost, or waits on its link.
+#[derive(Clone, Copy, Debug)]
+pub struct Arrow {
+    pub sent: Sent,
+    pub from: EntrySpot,
+    pub got: Option<EntrySpot>,
+}
+
+/// An entry that can't be taken: no run of these journals gets further. In a picture of waits it stands in the
+/// row of its site's place, in column 0.
+#[derive(Clone, Copy, Debug)]
+pub struct Stop {
+    pub at: EntrySpot,
 }

@@ -18,8 +18,8 @@ pub struct EntryAt {
     pub number: usize,
 }
 
-/// A frame that an entry sent, with its place among all that the entry sent, from 0.
-#[derive(Clone, Copy)]
+/// A frame that the entry of this number sent, with its place among all that the entry sent, from 0.
+#[derive(Clone, Copy, Debug)]
 pub struct Sent {
     pub number: usize,
     pub place: usize,

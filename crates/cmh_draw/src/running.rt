@@ -7,7 +7,7 @@ ghost use Rattle.cmh_draw.specs.Marks as spec;
 ghost use Rattle.cmh_draw.specs.Marks.{IsRunPicture};
 
 use crate::columns::{Columns, column_of, columns_of};
-use crate::mark::{EntrySpot, Mark, Spot};
+use crate::mark::{Arrow, EntryMark, EntrySpot, Mark, Site, Spot, Stop};
 use crate::passages::{EntryAt, Passage, entries_of, passages_of};
 use crate::picture::{Kind, Picture};
 use crate::size::width_of;
@@ -72,11 +72,11 @@ fn add_sites(topology: &Topology, width: u32, marks: &mut Vec<Mark>) -> Result<(
     ensures { OnOk result (marks.new.items ≡ marks.old.items ++ spec.site_marks topology.now width) }
 {
     for (row, site) in topology.sites().iter().enumerate() {
-        marks.push(Mark::Site {
+        marks.push(Mark::Site(Site {
             site: *site,
-            row: row as u32,
-            width,
-        })?;
+            place: row as u32,
+            length: width,
+        }))?;
     }
     Ok(())
 }
@@ -92,13 +92,11 @@ fn add_frames(
         let from = passage.from;
         let from = spot_of(columns, from.site, from.row, from.number);
         let got = spot_if(columns, &passage.got);
-        marks.push(Mark::Frame {
-            frame: passage.sent.frame,
-            to: passage.sent.to,
-            place: passage.sent.place,
+        marks.push(Mark::Arrow(Arrow {
+            sent: passage.sent,
             from,
             got,
-        })?;
+        }))?;
     }
     Ok(())
 }
@@ -134,16 +132,17 @@ fn add_entries(
         let number = i + 1;
         let at = spot_of(columns, site, row, number);
         let event = entry.event.copy(alloc)?;
-        marks.push(Mark::Entry {
+        marks.push(Mark::Entry(EntryMark {
             at,
             event,
             declared: entry.declared,
-        })?;
+        }))?;
     }
     Ok(())
 }
 
-fn add_stops(
+/// A mark at each entry at which a site stops: in its column, in the row of the site's place.
+pub fn add_stops(
     topology: &Topology,
     columns: &[Columns],
     stops: &[(SiteId, usize)],
@@ -154,7 +153,7 @@ fn add_stops(
     for (site, number) in stops {
         let row = row_of(topology.sites(), *site);
         let at = spot_of(columns, *site, row, *number);
-        marks.push(Mark::Stop { at })?;
+        marks.push(Mark::Stop(Stop { at }))?;
     }
     Ok(())
 }

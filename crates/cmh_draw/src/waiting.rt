@@ -7,9 +7,9 @@ ghost use Rattle.cmh_draw.specs.Each.{each_from, number_from};
 ghost use Rattle.cmh_draw.specs.Marks as spec;
 ghost use Rattle.cmh_draw.specs.Marks.{IsWaitsPicture};
 
-use crate::mark::{Mark, Spot};
+use crate::mark::{Mark, Process, Site, Spot, Wait};
 use crate::picture::{Kind, Picture};
-use crate::running::row_of;
+use crate::running::{add_stops, row_of};
 use crate::size::height_of;
 use cmh_audit::{Report, Verdict};
 use cmh_frames::{ProcId, SiteId, Topology};
@@ -35,7 +35,7 @@ pub fn waits_picture(
             add_all_processes(topology, report.declared(), &mut marks)?;
         }
         Verdict::Refused(stops) => {
-            add_halts(topology, stops.rows(), &mut marks)?;
+            add_stops(topology, &[], stops.rows(), &mut marks)?;
             add_all_processes(topology, &[], &mut marks)?;
         }
     }
@@ -51,30 +51,12 @@ fn add_homes(topology: &Topology, marks: &mut Vec<Mark>) -> Result<(), AllocErro
     ensures { OnOk result (marks.new.items ≡ marks.old.items ++ spec.home_marks topology.now) }
 {
     for (column, site) in topology.sites().iter().enumerate() {
-        let members = topology.members(*site).len() as u32;
-        marks.push(Mark::Home {
+        let length = topology.members(*site).len() as u32;
+        marks.push(Mark::Site(Site {
             site: *site,
-            column: column as u32,
-            members,
-        })?;
-    }
-    Ok(())
-}
-
-fn add_halts(
-    topology: &Topology,
-    stops: &[(SiteId, usize)],
-    marks: &mut Vec<Mark>,
-) -> Result<(), AllocError>
-    ensures { OnOk result (marks.new.items ≡ marks.old.items ++ spec.halt_marks topology.now stops.now) }
-{
-    for (site, number) in stops {
-        let column = row_of(topology.sites(), *site);
-        marks.push(Mark::Halt {
-            site: *site,
-            column,
-            number: *number,
-        })?;
+            place: column as u32,
+            length,
+        }))?;
     }
     Ok(())
 }
@@ -86,13 +68,13 @@ fn add_waits(topology: &Topology, report: &Report, marks: &mut Vec<Mark>) -> Res
         let from = spot_of(topology, *asker);
         let to = spot_of(topology, *holder);
         let is_on_cycle = is_on_cycle(report, *asker, *holder);
-        marks.push(Mark::Wait {
+        marks.push(Mark::Wait(Wait {
             asker: *asker,
             holder: *holder,
             from,
             to,
             is_on_cycle,
-        })?;
+        }))?;
     }
     Ok(())
 }
@@ -128,12 +110,12 @@ fn add_processes(
             row: row as u32,
         };
         let is_declared = is_among(declared, *process);
-        marks.push(Mark::Process {
+        marks.push(Mark::Process(Process {
             process: *process,
             site,
             spot,
             is_declared,
-        })?;
+        }))?;
     }
     Ok(())
 }

@@ -16,11 +16,11 @@ use std::mem::replace;
 enum Manner {
     Check,
     Step,
-    /// What is sent goes into the list that the last such step sent.
+    /// What is sent goes into the list that the last such call sent.
     StepInto,
     /// Both halves of a step.
     Prepare,
-    /// The first half, which is taken back.
+    /// The first half, into the list that the last such call sent, which is taken back.
     TakeBack,
 }
 
@@ -131,15 +131,29 @@ fn give(
             Err(refusal) => refused("refused", refusal.number(), 11, answer),
         },
         Manner::Step => put_stepped(&driven.controller.step(event), answer),
-        Manner::StepInto => step_into(alloc, driven, event, answer),
+        Manner::StepInto => {
+            let stepped = step_into(alloc, driven, event);
+            keep_room(driven, stepped, answer)
+        }
         Manner::Prepare => put_stepped(&prepared(&mut driven.controller, event), answer),
-        Manner::TakeBack => put_stepped(&taken_back(&mut driven.controller, event), answer),
+        Manner::TakeBack => {
+            let stepped = taken_back(alloc, driven, event);
+            keep_room(driven, stepped, answer)
+        }
     }
 }
 
-fn step_into(alloc: Global, driven: &mut Driven, event: &Event, answer: &mut Answer) -> Called {
+fn step_into(alloc: Global, driven: &mut Driven, event: &Event) -> Result<Outcome, Refusal> {
     let room = replace(&mut driven.room, Vec::new(alloc));
-    let stepped = driven.controller.step_into(event, room);
+    driven.controller.step_into(event, room)
+}
+
+/// Answers what was sent, whose list the next such call uses again.
+fn keep_room(
+    driven: &mut Driven,
+    stepped: Result<Outcome, Refusal>,
+    answer: &mut Answer,
+) -> Called {
     put_stepped(&stepped, answer)?;
     if let Ok(outcome) = stepped {
         driven.room = outcome.sent.into_frames();
@@ -156,12 +170,13 @@ fn prepared(controller: &mut Controller, event: &Event) -> Result<Outcome, Refus
     Ok(prepared.outcome)
 }
 
-fn taken_back(controller: &mut Controller, event: &Event) -> Result<Outcome, Refusal> {
-    let prepared = match controller.prepare(event) {
+fn taken_back(alloc: Global, driven: &mut Driven, event: &Event) -> Result<Outcome, Refusal> {
+    let room = replace(&mut driven.room, Vec::new(alloc));
+    let prepared = match driven.controller.prepare_into(event, room) {
         Ok(prepared) => prepared,
         Err(refusal) => return Err(refusal),
     };
-    controller.take_back(event, &prepared);
+    driven.controller.take_back(event, &prepared);
     Ok(prepared.outcome)
 }
 
@@ -181,11 +196,16 @@ pub fn replays(objects: &Objects, words: &mut Words<'_>, answer: &mut Answer) ->
     let topology = topology(objects, words)?;
     let site = site(words)?;
     let journal = journal(objects, words)?;
-    match replay(objects.alloc, topology, site, journal.entries())? {
+    let replayed = replay(objects.alloc, topology, site, journal.entries())?;
+    put_replayed(objects.alloc, &replayed, answer)
+}
+
+fn put_replayed(alloc: Global, replayed: &Replayed, answer: &mut Answer) -> Called {
+    match replayed {
         Replayed::Whole(controller) => {
             let site = controller.site();
             answer.word(format_args!("whole site {site} declared"))?;
-            put_processes(&controller.declared(objects.alloc)?, answer)
+            put_processes(&controller.declared(alloc)?, answer)
         }
         Replayed::StopsAt(entry) => answer.word(format_args!("stops at {entry}")),
     }

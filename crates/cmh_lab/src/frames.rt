@@ -4,7 +4,7 @@ use crate::object::{
     Called, Object, Objects, bytes, keep, process, put_or_none, put_processes, refused, site, word,
 };
 use cmh_frames::{
-    Front, HELLO_LEN, ProcId, SiteId, Topology, decode_front, decode_hello, encode_hello,
+    Frame, Front, HELLO_LEN, ProcId, SiteId, Topology, decode_front, decode_hello, encode_hello,
 };
 use cmh_journal::encode_header;
 use cmh_lab_lines::{Answer, Unanswered, bytes_of, edition, frame, number, rows, size};
@@ -97,24 +97,33 @@ pub fn decode(alloc: Global, words: &mut Words<'_>, answer: &mut Answer) -> Call
 /// The frame at the front of bytes, its length and its spelling, or `short`, or `bad`.
 fn front(bytes: &[u8], answer: &mut Answer) -> Called {
     match decode_front(bytes) {
-        Front::Whole(frame, len) => {
-            answer.word(format_args!("{frame} of {len}"))?;
-            answer.bytes(cmh_frames::encode(&frame).as_slice())
-        }
+        Front::Whole(frame, len) => put_front(&frame, len, answer),
         Front::Short => answer.word("short"),
         Front::Bad => answer.word("bad"),
     }
 }
 
-/// `hello EDITION SITE` and `header EDITION SITE`: the bytes with which a link and a journal begin.
-pub fn beginning(is_link: bool, words: &mut Words<'_>, answer: &mut Answer) -> Called {
+fn put_front(frame: &Frame, len: usize, answer: &mut Answer) -> Called {
+    answer.word(*frame)?;
+    answer.word("of")?;
+    answer.word(len)?;
+    answer.bytes(cmh_frames::encode(frame).as_slice())
+}
+
+/// `hello EDITION SITE`: the bytes with which a link begins.
+pub fn hello(words: &mut Words<'_>, answer: &mut Answer) -> Called {
     let edition = edition(words)?;
     let site = site(words)?;
-    if is_link {
-        answer.bytes(&encode_hello(edition, site))
-    } else {
-        answer.bytes(&encode_header(edition, site))
-    }
+    let bytes = encode_hello(edition, site);
+    answer.bytes(&bytes)
+}
+
+/// `header EDITION SITE`: the bytes with which a journal begins.
+pub fn header(words: &mut Words<'_>, answer: &mut Answer) -> Called {
+    let edition = edition(words)?;
+    let site = site(words)?;
+    let bytes = encode_header(edition, site);
+    answer.bytes(&bytes)
 }
 
 /// `greet EDITION B`: the site whose hello the bytes begin with, or `none`.
@@ -138,23 +147,32 @@ pub fn make_bytes(objects: &mut Objects, words: &mut Words<'_>, answer: &mut Ans
 pub fn make_text(objects: &mut Objects, words: &mut Words<'_>, answer: &mut Answer) -> Called {
     let name = word(words)?;
     let mut text = Vec::new(objects.alloc);
-    let mut is_behind_word = false;
+    add_words(&mut text, words)?;
+    keep(objects, name, Object::Bytes(text), answer)
+}
+
+fn add_words(text: &mut Vec<u8>, words: &mut Words<'_>) -> Called {
+    let mut is_after_word = false;
     for _ in 0..u64::MAX {
         let Some(next) = words.next_word() else {
             break;
         };
-        if next == b"/".as_slice() {
-            text.push(b'\n')?;
-            is_behind_word = false;
-        } else {
-            if is_behind_word {
-                text.push(b' ')?;
-            }
-            text.extend_from_slice(next)?;
-            is_behind_word = true;
-        }
+        is_after_word = add_word(text, next, is_after_word)?;
     }
-    keep(objects, name, Object::Bytes(text), answer)
+    Ok(())
+}
+
+/// Adds a word; answers whether the next one needs a space before it.
+fn add_word(text: &mut Vec<u8>, word: &[u8], is_after_word: bool) -> Result<bool, Unanswered> {
+    if word == b"/".as_slice() {
+        text.push(b'\n')?;
+        return Ok(false);
+    }
+    if is_after_word {
+        text.push(b' ')?;
+    }
+    text.extend_from_slice(word)?;
+    Ok(true)
 }
 
 /// `B front`, `B show`, `B len`, `B add BYTES`, `B repeat COUNT BYTES`, `B cut LEN`.

@@ -15,12 +15,10 @@ mod readers;
 mod sinks;
 mod waits;
 
-use crate::object::{Called, Object, Objects, keep, word};
+use crate::object::{Called, Object, Objects, word};
 use crate::plays::Command;
-use cmh_dependents::DependentSets;
 use cmh_lab_lines::{Answer, Lab, Slots, Unanswered, run_lab};
 use cmh_script::{Input, Output, Words};
-use cmh_world::Links;
 use std::io::{BufReader, BufWriter};
 use std::process::ExitCode;
 use std::rt::Env;
@@ -61,23 +59,17 @@ impl Lab for Core {
 }
 
 impl Core {
-    /// Makes what takes no words but a name, or else a call.
+    /// Makes dependents or links, or a call that needs no object that is named.
     fn make_or_call(&mut self, first: &[u8], words: &mut Words<'_>, answer: &mut Answer) -> Called {
         match first {
-            b"dependents" => {
-                let dependents = Object::Dependents(DependentSets::new(self.objects.alloc));
-                keep(&mut self.objects, word(words)?, dependents, answer)
-            }
-            b"links" => {
-                let links = Object::Links(Links::new(self.objects.alloc));
-                keep(&mut self.objects, word(words)?, links, answer)
-            }
+            b"dependents" => waits::make_dependents(&mut self.objects, words, answer),
+            b"links" => readers::make_links(&mut self.objects, words, answer),
             b"limits" => frames::limits(words, answer),
             b"number" => frames::numbers(words, answer),
             b"encode" => frames::encode(words, answer),
             b"decode" => frames::decode(self.objects.alloc, words, answer),
-            b"hello" => frames::beginning(true, words, answer),
-            b"header" => frames::beginning(false, words, answer),
+            b"hello" => frames::hello(words, answer),
+            b"header" => frames::header(words, answer),
             b"greet" => frames::greet(&self.objects, words, answer),
             first => self.call_over(first, words, answer),
         }

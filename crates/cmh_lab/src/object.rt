@@ -71,7 +71,11 @@ pub fn topology<'a>(
     objects: &'a Objects,
     words: &mut Words<'_>,
 ) -> Result<&'a Topology, Unanswered> {
-    match objects.get(word(words)?) {
+    topology_of(objects, word(words)?)
+}
+
+fn topology_of<'a>(objects: &'a Objects, name: &[u8]) -> Result<&'a Topology, Unanswered> {
+    match objects.get(name) {
         Some(Object::Topology(topology)) => Ok(topology),
         _ => Err(Unanswered::BadLine),
     }
@@ -87,7 +91,11 @@ pub fn bytes<'a>(objects: &'a Objects, words: &mut Words<'_>) -> Result<&'a [u8]
 
 /// The journal that the next word names.
 pub fn journal<'a>(objects: &'a Objects, words: &mut Words<'_>) -> Result<&'a Journal, Unanswered> {
-    match objects.get(word(words)?) {
+    journal_of(objects, word(words)?)
+}
+
+fn journal_of<'a>(objects: &'a Objects, name: &[u8]) -> Result<&'a Journal, Unanswered> {
+    match objects.get(name) {
         Some(Object::Journal(journal)) => Ok(journal),
         _ => Err(Unanswered::BadLine),
     }
@@ -101,7 +109,8 @@ pub fn keep(objects: &mut Objects, name: &[u8], object: Object, answer: &mut Ans
 
 /// A refusal or a fault and its number; one of the numbers says that memory was refused.
 pub fn refused(kind: &str, number: u8, memory: u8, answer: &mut Answer) -> Called {
-    answer.word(format_args!("{kind} {number}"))?;
+    answer.word(kind)?;
+    answer.word(number)?;
     if number == memory {
         Err(Unanswered::OutOfMemory)
     } else {

@@ -17,6 +17,13 @@ pub fn make(objects: &mut Objects, words: &mut Words<'_>, answer: &mut Answer) -
     keep(objects, name, Object::Reader(reader), answer)
 }
 
+/// `links NAME`: with no frame under way.
+pub fn make_links(objects: &mut Objects, words: &mut Words<'_>, answer: &mut Answer) -> Called {
+    let name = word(words)?;
+    let links = Links::new(objects.alloc);
+    keep(objects, name, Object::Links(links), answer)
+}
+
 /// `R feed BYTES`, `R take B`, `R rest`, `R sender`, `R starved`.
 pub fn of_reader(
     reader: &mut FrameReader,

@@ -21,6 +21,17 @@ pub fn make(objects: &mut Objects, words: &mut Words<'_>, answer: &mut Answer) -
     keep(objects, name, Object::Waits(waits), answer)
 }
 
+/// `dependents NAME`: none yet.
+pub fn make_dependents(
+    objects: &mut Objects,
+    words: &mut Words<'_>,
+    answer: &mut Answer,
+) -> Called {
+    let name = word(words)?;
+    let dependents = DependentSets::new(objects.alloc);
+    keep(objects, name, Object::Dependents(dependents), answer)
+}
+
 /// The calls that change waits, or look at two processes.
 pub fn of_waits(
     waits: &mut LocalWaits,
@@ -81,9 +92,10 @@ fn told(
 
 /// The member with a number, the row of the members for which it waits, and the others for which it waits.
 fn at(waits: &LocalWaits, place: usize, answer: &mut Answer) -> Called {
-    let row = waits.row(place);
     put_or_none(waits.member(place), answer)?;
-    answer.word(format_args!("row {row} remote"))?;
+    answer.word("row")?;
+    answer.word(waits.row(place))?;
+    answer.word("remote")?;
     put_processes(waits.remote_at(place), answer)
 }
 
@@ -96,14 +108,19 @@ fn ask(
 ) -> Called {
     let asker = process(words)?;
     let targets = processes(alloc, words)?;
+    ask_for(waits, asker, &targets)?;
+    answer.word("ok")
+}
+
+fn ask_for(waits: &mut LocalWaits, asker: ProcId, targets: &[ProcId]) -> Called {
     if !waits.is_member(asker) || waits.is_blocked(asker) {
         return Err(Unanswered::BadLine);
     }
-    if !is_ascending(&targets) || targets.contains(&asker) {
+    if !is_ascending(targets) || targets.contains(&asker) {
         return Err(Unanswered::BadLine);
     }
-    waits.ask(asker, &targets)?;
-    answer.word("ok")
+    waits.ask(asker, targets)?;
+    Ok(())
 }
 
 /// The holder is an active member that owes the asker: whether this became active.

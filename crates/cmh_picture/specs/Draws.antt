@@ -11,7 +11,7 @@ use Rattle.cmh_draw.specs.declared.picture.Kind.TheVariants.{Waits, Run}
 use Rattle.cmh_draw.specs.declared.picture.Picture.{Picture}
 use Rattle.cmh_files.specs.Audits.{Audits, IsCause}
 use Rattle.cmh_files.specs.Faults.{NamesFault}
-use Rattle.cmh_picture.specs.PictureTexts.{picture_text}
+use Rattle.cmh_picture.specs.PictureTexts.{IsDrawn}
 use Rattle.cmh_picture.specs.declared.format.Format.{Format}
 
 -- the picture of this kind of journals on which this is the verdict: each site, wait, process, frame and entry is
@@ -28,12 +28,14 @@ pub record DrawsFiles (topology : List ℕ) (files : List (List ℕ)) (kind : Ki
   pub audits : Audits topology files edition cuts verdict
   pub is_picture : IsPictureOf kind audits.world audits.journals verdict picture
 
--- what was written is the text of the picture of the files
+-- what was written is a text of the picture of the files
 pub record WroteDrawing (topology : List ℕ) (files : List (List ℕ)) (kind : Kind) (format : Format)
     (old new : Option (List ℕ)) : Type 0 where
   pub picture : Picture
+  pub text : List ℕ
   pub draws : DrawsFiles topology files kind picture
-  pub wrote : Appends old new (picture_text format picture)
+  pub is_drawn : IsDrawn format picture.marks.items text
+  pub wrote : Appends old new text
 
 -- a picture was written and flushed, and nothing else, or it is named why it couldn't be: the faults are those of an
 -- audit

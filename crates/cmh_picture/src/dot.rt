@@ -1,120 +1,355 @@
-//! Marks as text for Graphviz.
+//! Marks as text for Graphviz. Labels are nodes of their own with a white ground: in runs Graphviz draws edges first, so
+//! that no arrow lies on a label.
 
-ghost use Rattle.std.specs.Prelude.{Some};
-ghost use Rattle.std.specs.List.{flat_map};
-ghost use Rattle.cmh_picture.specs.Dot as spec;
-
-use crate::dot_run::{EntryNode, FrameEdge, SiteNodes, StopNode};
-use crate::dot_waits::{Cluster, Halted, ProcessNode, WaitEdge};
-use cmh_draw::Mark;
+use crate::label::{DeclaredText, OpenText, SiteText, StepText, StopText};
+use crate::layout::{Layout, length_of, place_of};
+use crate::look::{Look, look_of};
+use crate::point::Point;
+use crate::scene::Scene;
+use crate::svg_run::{is_below, way_of};
+use cmh_draw::{Arrow, EntryMark, EntrySpot, Kind, Mark, Process, Site, Spot, Stop, Wait};
+use cmh_frames::{Frame, SiteId};
+use cmh_model::Event;
+use std::alloc::{AllocError, Global};
 use std::fmt;
 
-/// The marks of a picture, one after the other.
-#[derive(Drop)]
-pub struct DotMarks<'a> {
-    pub marks: &'a [Mark],
-}
-
-impl<'a> fmt::Display for DotMarks<'a> {
-    ghost output = { λ text. Some (flat_map spec.mark_text text.marks.now) };
-
-    fn fmt<W: fmt::Write>(&self, f: &mut fmt::Formatter<W>) -> fmt::Result {
-        for mark in self.marks {
-            let text = DotMark { mark };
-            write!(f, "{text}")?;
-        }
-        Ok(())
+/// What stands before the marks, but for the first word.
+pub fn head_of(alloc: Global, kind: Kind) -> Result<String, AllocError> {
+    match kind {
+        Kind::Waits => String::from_str(alloc, WAITS_HEAD),
+        Kind::Run => String::from_str(alloc, RUN_HEAD),
     }
 }
 
-/// The text of a mark.
-#[derive(Drop)]
-struct DotMark<'a> {
-    mark: &'a Mark,
+const WAITS_HEAD: &str = "\
+waits {
+rankdir=LR
+fontname=Helvetica
+node [style=filled, fontname=Helvetica]
+";
+
+const RUN_HEAD: &str = "\
+run {
+layout=neato
+inputscale=72
+outputorder=edgesfirst
+fontname=Helvetica
+fontsize=10
+label=\"an arrow with an open end: nobody got the frame, which is lost or waiting\"
+node [style=filled, fontname=Helvetica, fontsize=10, height=0.28, width=0.28]
+";
+
+/// The nodes and edges of a mark.
+pub fn shape_of(alloc: Global, scene: Scene<'_>, mark: &Mark) -> Result<String, AllocError> {
+    let mut text = String::new(alloc);
+    match mark {
+        Mark::Site(site) => match scene.picture.kind {
+            Kind::Waits => add_home(*site, &mut text)?,
+            Kind::Run => add_line(scene, *site, &mut text)?,
+        },
+        Mark::Process(process) => add_process(*process, &mut text)?,
+        Mark::Wait(wait) => add_wait(*wait, &mut text)?,
+        Mark::Entry(entry) => add_entry(alloc, scene, entry, &mut text)?,
+        Mark::Arrow(arrow) => add_arrow(alloc, scene, arrow, &mut text)?,
+        Mark::Stop(stop) => match scene.picture.kind {
+            Kind::Waits => add_halt(*stop, &mut text)?,
+            Kind::Run => add_stop(alloc, scene, *stop, &mut text)?,
+        },
+    }
+    Ok(text)
 }
 
-impl<'a> fmt::Display for DotMark<'a> {
-    ghost output = { λ text. Some (spec.mark_text text.mark.now) };
+// ---- waits
 
-    fn fmt<W: fmt::Write>(&self, f: &mut fmt::Formatter<W>) -> fmt::Result {
-        match self.mark {
-            Mark::Home { site, .. } => {
-                let text = Cluster { site: *site };
-                write!(f, "{text}")
-            }
-            Mark::Halt { site, number, .. } => {
-                let text = Halted {
-                    site: *site,
-                    number: *number,
-                };
-                write!(f, "{text}")
-            }
-            Mark::Process {
-                process,
-                site,
-                is_declared,
-                ..
-            } => {
-                let text = ProcessNode {
-                    process: *process,
-                    site: *site,
-                    is_declared: *is_declared,
-                };
-                write!(f, "{text}")
-            }
-            Mark::Wait {
-                asker,
-                holder,
-                is_on_cycle,
-                ..
-            } => {
-                let text = WaitEdge {
-                    asker: *asker,
-                    holder: *holder,
-                    is_on_cycle: *is_on_cycle,
-                };
-                write!(f, "{text}")
-            }
-            Mark::Site { site, row, width } => {
-                let text = SiteNodes {
-                    site: *site,
-                    row: *row,
-                    width: *width,
-                };
-                write!(f, "{text}")
-            }
-            Mark::Entry {
-                at,
-                event,
-                declared,
-            } => {
-                let text = EntryNode {
-                    at: *at,
-                    event,
-                    declared: *declared,
-                };
-                write!(f, "{text}")
-            }
-            Mark::Frame {
-                frame,
-                to,
-                place,
-                from,
-                got,
-            } => {
-                let text = FrameEdge {
-                    frame: *frame,
-                    to: *to,
-                    place: *place,
-                    from: *from,
-                    got: *got,
-                };
-                write!(f, "{text}")
-            }
-            Mark::Stop { at } => {
-                let text = StopNode { at: *at };
-                write!(f, "{text}")
-            }
+fn add_home(home: Site, text: &mut String) -> Result<(), AllocError> {
+    let site = home.site;
+    write!(
+        text,
+        "subgraph cluster_{site} {{ label=\"site {site}\" }}\n"
+    )
+}
+
+fn add_halt(stop: Stop, text: &mut String) -> Result<(), AllocError> {
+    let site = stop.at.site;
+    let number = stop.at.number;
+    write!(
+        text,
+        "subgraph cluster_{site} {{ label=\"site {site} stops at entry {number}\" }}\n"
+    )
+}
+
+fn add_process(of: Process, text: &mut String) -> Result<(), AllocError> {
+    let site = of.site;
+    let process = of.process;
+    let look = if of.is_declared {
+        "shape=doubleoctagon, fillcolor=\"#E69F00\""
+    } else {
+        "shape=circle, fillcolor=white"
+    };
+    write!(
+        text,
+        "subgraph cluster_{site} {{ p{process} [label={process}, {look}] }}\n"
+    )
+}
+
+fn add_wait(wait: Wait, text: &mut String) -> Result<(), AllocError> {
+    let asker = wait.asker;
+    let holder = wait.holder;
+    let look = if wait.is_on_cycle {
+        "color=\"#D55E00\", penwidth=4"
+    } else {
+        "style=dashed"
+    };
+    write!(text, "p{asker} -> p{holder} [{look}]\n")
+}
+
+// ---- a run
+
+/// A line from the name of a site to the right.
+fn add_line(scene: Scene<'_>, line: Site, text: &mut String) -> Result<(), AllocError> {
+    let site = line.site;
+    let right = scene.layout.point(Spot {
+        column: line.length,
+        row: line.place,
+    });
+    let end = Position { at: right };
+    let left = Position {
+        at: Point { x: 40, y: right.y },
+    };
+    let name = SiteText { site };
+    write!(
+        text,
+        "s{site} [label=\"{name}\", shape=plaintext, style=\"\", {left}]\n"
+    )?;
+    write!(text, "s{site}_end [shape=point, width=0.05, {end}]\n")?;
+    write!(
+        text,
+        "s{site} -> s{site}_end [arrowhead=none, color=gray]\n"
+    )
+}
+
+/// A node with the number of the entry, and one with its labels.
+fn add_entry(
+    alloc: Global,
+    scene: Scene<'_>,
+    entry: &EntryMark,
+    text: &mut String,
+) -> Result<(), AllocError> {
+    let at = scene.layout.point(entry.at.spot);
+    let node = Node { at: entry.at };
+    let number = entry.at.number;
+    let position = Position { at };
+    let look = match look_of(entry) {
+        Look::Act => "shape=circle, fillcolor=\"#56B4E9\"",
+        Look::Got => "shape=box, fillcolor=white",
+        Look::Declared => "shape=doubleoctagon, fillcolor=\"#E69F00\"",
+    };
+    write!(
+        text,
+        "{node} [label={number}, fixedsize=true, {position}, {look}]\n"
+    )?;
+    match &entry.event {
+        Event::Got { from, frame } => { add_got(alloc, scene, entry, *from, *frame, text) }
+        event => {
+            let words = StepText { event };
+            let length = length_of(alloc, &words)?;
+            let words = StepText { event };
+            add_label(text, node, "step", left_of(at, length, -17), words)?;
+            add_declared(alloc, entry, at, -31, text)
         }
+    }
+}
+
+/// The label of what came, on the side that its arrow does not come from.
+fn add_got(
+    alloc: Global,
+    scene: Scene<'_>,
+    entry: &EntryMark,
+    from: SiteId,
+    frame: Frame,
+    text: &mut String,
+) -> Result<(), AllocError> {
+    let at = scene.layout.point(entry.at.spot);
+    let node = Node { at: entry.at };
+    let length = length_of(alloc, &frame)?;
+    if is_below(scene, from, entry.at) {
+        add_label(text, node, "got", left_of(at, length, -17), frame)?;
+        add_declared(alloc, entry, at, -31, text)
+    } else {
+        add_label(text, node, "got", left_of(at, length, 17), frame)?;
+        add_declared(alloc, entry, at, 31, text)
+    }
+}
+
+fn add_declared(
+    alloc: Global,
+    entry: &EntryMark,
+    at: Point,
+    down: i32,
+    text: &mut String,
+) -> Result<(), AllocError> {
+    match entry.declared {
+        Some(process) => {
+            let words = DeclaredText { process };
+            let length = length_of(alloc, &words)?;
+            let node = Node { at: entry.at };
+            add_label(text, node, "who", left_of(at, length, down), words)
+        }
+        None => Ok(()),
+    }
+}
+
+/// The middle of a label of so many characters that ends on the left of a point.
+fn left_of(at: Point, length: i32, down: i32) -> Point {
+    let half = length.saturating_mul(27) / 10;
+    at.moved(-14, down).moved(0i32.saturating_sub(half), 0)
+}
+
+/// The middle of a label of so many characters that begins on the right of a point.
+fn right_of(at: Point, length: i32, down: i32) -> Point {
+    let half = length.saturating_mul(27) / 10;
+    at.moved(16, down).moved(half, 0)
+}
+
+/// How the node of a label looks.
+const LABEL: &str = "shape=plaintext, fillcolor=white, width=0, height=0, margin=0";
+
+/// A node for a label, named after that of its entry.
+fn add_label<T: fmt::Display + Drop>(
+    text: &mut String,
+    node: Node,
+    name: &str,
+    at: Point,
+    words: T,
+) -> Result<(), AllocError> {
+    let position = Position { at };
+    write!(
+        text,
+        "{node}_{name} [label=\"{words}\", {LABEL}, {position}]\n"
+    )
+}
+
+/// An edge to the entry that got the frame; to a label under the entry where none did.
+fn add_arrow(
+    alloc: Global,
+    scene: Scene<'_>,
+    arrow: &Arrow,
+    text: &mut String,
+) -> Result<(), AllocError> {
+    match arrow.got {
+        Some(got) => add_edge(scene.layout, arrow, &got, text),
+        None => add_open(alloc, scene, arrow, text),
+    }
+}
+
+const fn look_of_frame(frame: &Frame) -> &'static str {
+    match frame {
+        Frame::Request(_) => "color=\"#0072B2\", style=solid, penwidth=1.5",
+        Frame::Reply(_) => "color=\"#009E73\", style=dashed, penwidth=1.5",
+        Frame::Probe(_) => "color=\"#D55E00\", style=dotted, penwidth=1.5",
+    }
+}
+
+fn add_open(
+    alloc: Global,
+    scene: Scene<'_>,
+    arrow: &Arrow,
+    text: &mut String,
+) -> Result<(), AllocError> {
+    let words = OpenText {
+        frame: arrow.sent.frame,
+        to: arrow.sent.to,
+    };
+    let length = length_of(alloc, &words)?;
+    let at = scene.layout.point(arrow.from.spot);
+    let at = left_of(at, length, 42).moved(0, place_of(arrow).saturating_mul(13));
+    let node = Node { at: arrow.from };
+    let position = Position { at };
+    let look = look_of_frame(&arrow.sent.frame);
+    let place = arrow.sent.place;
+    write!(
+        text,
+        "{node}_{place} [label=\"{words}\", {LABEL}, {position}]\n"
+    )?;
+    write!(
+        text,
+        "{node}:sw -> {node}_{place}:e [arrowhead=odot, {look}]\n"
+    )
+}
+
+/// An edge, by two points of its own where it passes the lines of other sites: there it stays away from their entries.
+fn add_edge(
+    layout: Layout,
+    arrow: &Arrow,
+    got: &EntrySpot,
+    text: &mut String,
+) -> Result<(), AllocError> {
+    let look = look_of_frame(&arrow.sent.frame);
+    let from = Node { at: arrow.from };
+    let way = way_of(layout, arrow, got);
+    let got = Node { at: *got };
+    let Some(past) = way.past else {
+        return write!(text, "{from} -> {got} [{look}]\n");
+    };
+    let place = arrow.sent.place;
+    let off = Position { at: way.off };
+    let past = Position { at: past };
+    write!(
+        text,
+        "{from}_{place}_a [shape=point, width=0.02, style=invis, {off}]\n"
+    )?;
+    write!(
+        text,
+        "{from}_{place}_b [shape=point, width=0.02, style=invis, {past}]\n"
+    )?;
+    write!(
+        text,
+        "{from} -> {from}_{place}_a -> {from}_{place}_b [arrowhead=none, {look}]\n"
+    )?;
+    write!(text, "{from}_{place}_b -> {got} [{look}]\n")
+}
+
+/// The entry's node gets a frame, and a label on its line.
+fn add_stop(
+    alloc: Global,
+    scene: Scene<'_>,
+    stop: Stop,
+    text: &mut String,
+) -> Result<(), AllocError> {
+    let node = Node { at: stop.at };
+    let words = StopText {
+        number: stop.at.number,
+    };
+    let length = length_of(alloc, &words)?;
+    write!(text, "{node} [shape=Msquare, height=0.36, width=0.36]\n")?;
+    let at = right_of(scene.layout.point(stop.at.spot), length, 0);
+    add_label(text, node, "stop", at, words)
+}
+
+/// The name of an entry's node.
+#[derive(Clone, Copy)]
+struct Node {
+    at: EntrySpot,
+}
+
+impl fmt::Display for Node {
+    fn fmt<W: fmt::Write>(&self, f: &mut fmt::Formatter<W>) -> fmt::Result {
+        let site = self.at.site;
+        let number = self.at.number;
+        write!(f, "s{site}_{number}")
+    }
+}
+
+/// Where a node stands.
+#[derive(Clone, Copy)]
+struct Position {
+    at: Point,
+}
+
+impl fmt::Display for Position {
+    fn fmt<W: fmt::Write>(&self, f: &mut fmt::Formatter<W>) -> fmt::Result {
+        let x = self.at.x;
+        let y = self.at.y;
+        write!(f, "pos=\"{x},-{y}!\"")
     }
 }

@@ -6,7 +6,7 @@ ghost use Rattle.cmh_files.specs.Status.{IsStatus};
 ghost use Rattle.cmh_picture.specs.Draws.{DrawEnds, DrawsFiles, IsPictureOf, WroteDrawing};
 
 use crate::format::Format;
-use crate::picture_text::PictureText;
+use crate::picture_text::picture_text;
 use cmh_draw::{Kind, Picture, run_picture, waits_picture};
 use cmh_files::{Audited, Fault, audit_files};
 use cmh_script::Output;
@@ -58,10 +58,7 @@ fn draw_into<W: Write>(
         (W.contents out.old.inner) (W.contents out.new.inner) out.new.has_failed) }
 {
     let picture = picture_of_files(alloc, topology, journals, kind)?;
-    let text = PictureText {
-        format,
-        picture: &picture,
-    };
+    let text = picture_text(alloc, format, &picture)?;
     out.write_text(text)?;
     out.flush()?;
     Ok(())

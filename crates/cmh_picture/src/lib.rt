@@ -1,14 +1,17 @@
 //! The text of pictures, for Graphviz and as SVG, and the command `draw`, which writes it.
 #![tactic(auto)]
 
+mod curve;
 mod dot;
-mod dot_run;
-mod dot_waits;
 mod drawing;
 mod format;
+mod label;
+mod layout;
 mod look;
+mod name;
 mod picture_text;
-mod place;
+mod point;
+mod scene;
 mod style;
 mod svg;
 mod svg_run;
@@ -16,5 +19,4 @@ mod svg_waits;
 
 pub use crate::drawing::run_draw;
 pub use crate::format::{Format, NoFormat};
-pub use crate::picture_text::PictureText;
 pub use cmh_draw::{Kind, NoKind};

@@ -1,9 +1,7 @@
-//! How an entry looks.
+//! How entries and frames look.
 
-ghost use Rattle.std.specs.Prelude.{◌≡◌};
-ghost use Rattle.cmh_picture.specs.Looks as spec;
-
-use cmh_frames::ProcId;
+use cmh_draw::EntryMark;
+use cmh_frames::Frame;
 use cmh_model::Event;
 
 /// How an entry looks.
@@ -17,12 +15,19 @@ pub enum Look {
     Declared,
 }
 
-pub fn look_of(event: &Event, declared: Option<ProcId>) -> Look
-    ensures { result ≡ spec.look_of event.now declared }
-{
-    match (declared, event) {
+pub fn look_of(entry: &EntryMark) -> Look {
+    match (entry.declared, &entry.event) {
         (Some(_), _) => Look::Declared,
         (None, Event::Got { .. }) => Look::Got,
         (None, _) => Look::Act,
+    }
+}
+
+/// The word for a kind of frame, as style sheets have it.
+pub fn word_of(frame: &Frame) -> &'static str {
+    match frame {
+        Frame::Request(_) => "request",
+        Frame::Reply(_) => "reply",
+        Frame::Probe(_) => "probe",
     }
 }

@@ -1,112 +1,89 @@
 //! The text of a picture.
 
-ghost use Rattle.std.specs.Prelude.{Some};
-ghost use Rattle.cmh_picture.specs.PictureTexts as spec;
+ghost use Rattle.std.specs.Prelude.{IfOk, OnOk, string_bytes};
+ghost use Rattle.cmh_picture.specs.PictureTexts.{AddsMark, IsDrawn};
+ghost use Rattle.cmh_picture.specs.declared.format.Format.TheVariants.{Dot, Svg};
 
-use crate::dot::DotMarks;
 use crate::format::Format;
-use crate::place::{home_x, process_y, x_of, y_of};
-use crate::style::{RUN_LEGEND, STYLE, WAITS_LEGEND};
-use crate::svg::SvgMarks;
-use cmh_draw::{Kind, Picture};
-use std::fmt;
+use crate::layout::Layout;
+use crate::name::MarkName;
+use crate::scene::{Scene, processes_of};
+use crate::{dot, svg};
+use cmh_draw::{Mark, Picture};
+use std::alloc::{AllocError, Global};
 
 /// A picture as text: a head, the text of each mark, and a foot.
 ///
-/// Nothing in it has to be escaped: it is made of numbers and of words that stand here.
-#[derive(Drop)]
-pub struct PictureText<'a> {
-    pub format: Format,
-    pub picture: &'a Picture,
-}
-
-impl<'a> fmt::Display for PictureText<'a> {
-    ghost output = { λ text. Some (spec.picture_text text.format text.picture.now) };
-
-    fn fmt<W: fmt::Write>(&self, f: &mut fmt::Formatter<W>) -> fmt::Result {
-        let kind = self.picture.kind;
-        match self.format {
-            Format::Dot => {
-                let head = DotHead { kind };
-                let marks = DotMarks {
-                    marks: &self.picture.marks,
-                };
-                write!(f, "{head}{marks}}}\n")
-            }
-            Format::Svg => {
-                let size = SvgSize {
-                    kind,
-                    columns: self.picture.columns,
-                    rows: self.picture.rows,
-                };
-                let legend = SvgLegend { kind };
-                let marks = SvgMarks {
-                    marks: &self.picture.marks,
-                };
-                write!(f, "{size}{STYLE}{legend}{marks}</svg>\n")
-            }
-        }
+/// Nothing in it has to be escaped: it is made of numbers and of words that stand here. What a mark's text says but its
+/// name is shown by files that were looked at (`scripts/lessons/run`). The only error is out of memory.
+pub fn picture_text(alloc: Global, format: Format, picture: &Picture) -> Result<String, AllocError>
+    ensures { IfOk result (λ text. IsDrawn format picture.now.marks.items (string_bytes text)) }
+{
+    let processes = processes_of(alloc, &picture.marks)?;
+    let layout = Layout::new(alloc, format, &picture.marks)?;
+    let scene = Scene {
+        picture,
+        layout,
+        processes: &processes,
+    };
+    match format {
+        Format::Svg => svg_text(alloc, picture, scene),
+        Format::Dot => dot_text(alloc, picture, scene),
     }
 }
 
-#[derive(Clone, Copy)]
-struct DotHead {
-    kind: Kind,
-}
-
-impl fmt::Display for DotHead {
-    ghost output = { λ head. Some (spec.dot_head head.kind) };
-
-    fn fmt<W: fmt::Write>(&self, f: &mut fmt::Formatter<W>) -> fmt::Result {
-        match self.kind {
-            Kind::Waits => write!(f, "digraph waits {{\nrankdir=LR\nnode [style=filled]\n"),
-            Kind::Run => write!(
-                f,
-                "digraph run {{\nlayout=neato\ninputscale=72\nnode [style=filled]\n"
-            ),
-        }
+fn svg_text(alloc: Global, picture: &Picture, scene: Scene<'_>) -> Result<String, AllocError>
+    ensures { IfOk result (λ text. IsDrawn Svg picture.now.marks.items (string_bytes text)) }
+{
+    let head = svg::head_of(alloc, scene)?;
+    let mut text = format!(in alloc; "<svg {head}")?;
+    for mark in &picture.marks {
+        add_svg(alloc, scene, mark, &mut text)?;
     }
+    text.push_str("</svg>\n")?;
+    Ok(text)
 }
 
-#[derive(Clone, Copy)]
-struct SvgSize {
-    kind: Kind,
-    columns: u32,
-    rows: u32,
+fn add_svg(
+    alloc: Global,
+    scene: Scene<'_>,
+    mark: &Mark,
+    text: &mut String,
+) -> Result<(), AllocError>
+    ensures { OnOk result (AddsMark mark.now (string_bytes text.old) (string_bytes text.new)) }
+{
+    let class = svg::class_of(mark);
+    let shape = svg::shape_of(alloc, scene, mark)?;
+    let name = MarkName { mark };
+    write!(
+        text,
+        "<g class='{class}'><title>{name}</title>{shape}</g>\n"
+    )?;
+    Ok(())
 }
 
-impl fmt::Display for SvgSize {
-    ghost output = { λ size. Some (spec.svg_size size.kind size.columns size.rows) };
-
-    fn fmt<W: fmt::Write>(&self, f: &mut fmt::Formatter<W>) -> fmt::Result {
-        let width = match self.kind {
-            Kind::Waits => home_x(self.columns) + 420,
-            Kind::Run => x_of(self.columns) + 420,
-        };
-        let height = match self.kind {
-            Kind::Waits => process_y(self.rows) + 20,
-            Kind::Run => y_of(self.rows),
-        };
-        write!(
-            f,
-            "<svg xmlns='http://www.w3.org/2000/svg' width='{width}' height='{height}' viewBox='0 0 {width} {height}'>\n"
-        )
+fn dot_text(alloc: Global, picture: &Picture, scene: Scene<'_>) -> Result<String, AllocError>
+    ensures { IfOk result (λ text. IsDrawn Dot picture.now.marks.items (string_bytes text)) }
+{
+    let head = dot::head_of(alloc, picture.kind)?;
+    let mut text = format!(in alloc; "digraph {head}")?;
+    for mark in &picture.marks {
+        add_dot(alloc, scene, mark, &mut text)?;
     }
+    text.push_str("}\n")?;
+    Ok(text)
 }
 
-/// What the shapes, colours and dashes mean.
-#[derive(Clone, Copy)]
-struct SvgLegend {
-    kind: Kind,
-}
-
-impl fmt::Display for SvgLegend {
-    ghost output = { λ legend. Some (spec.svg_legend legend.kind) };
-
-    fn fmt<W: fmt::Write>(&self, f: &mut fmt::Formatter<W>) -> fmt::Result {
-        match self.kind {
-            Kind::Waits => write!(f, "{WAITS_LEGEND}"),
-            Kind::Run => write!(f, "{RUN_LEGEND}"),
-        }
-    }
+fn add_dot(
+    alloc: Global,
+    scene: Scene<'_>,
+    mark: &Mark,
+    text: &mut String,
+) -> Result<(), AllocError>
+    ensures { OnOk result (AddsMark mark.now (string_bytes text.old) (string_bytes text.new)) }
+{
+    let shape = dot::shape_of(alloc, scene, mark)?;
+    let name = MarkName { mark };
+    write!(text, "// {name}\n{shape}")?;
+    Ok(())
 }

@@ -1,171 +1,81 @@
 //! Marks as SVG.
 
-ghost use Rattle.std.specs.Prelude.{Some};
-ghost use Rattle.std.specs.List.{flat_map};
-ghost use Rattle.cmh_picture.specs.Svg as spec;
-
-use crate::svg_run::{Crossed, EntryShape, FrameArrow, SiteLine};
-use crate::svg_waits::{Halted, HomeBox, ProcessShape, WaitArrow};
-use cmh_draw::Mark;
+use crate::look::{Look, look_of, word_of};
+use crate::point::Point;
+use crate::scene::Scene;
+use crate::style::{RUN_LEGEND, STYLE, WAITS_LEGEND};
+use crate::svg_run::{add_arrow, add_entry, add_line, add_stop};
+use crate::svg_waits::{add_halt, add_home, add_process, add_wait};
+use cmh_draw::{Kind, Mark};
+use cmh_frames::Frame;
+use std::alloc::{AllocError, Global};
 use std::fmt;
 
-/// The marks of a picture, one after the other.
-#[derive(Drop)]
-pub struct SvgMarks<'a> {
-    pub marks: &'a [Mark],
+/// What stands before the marks, but for the first word.
+pub fn head_of(alloc: Global, scene: Scene<'_>) -> Result<String, AllocError> {
+    let end = scene.end();
+    let width = end.x;
+    let height = end.y;
+    let legend = match scene.picture.kind {
+        Kind::Waits => WAITS_LEGEND,
+        Kind::Run => RUN_LEGEND,
+    };
+    format!(in alloc;
+        "xmlns='http://www.w3.org/2000/svg' width='{width}' height='{height}' viewBox='0 0 {width} {height}'>\n{STYLE}{legend}"
+    )
 }
 
-impl<'a> fmt::Display for SvgMarks<'a> {
-    ghost output = { λ text. Some (flat_map spec.mark_text text.marks.now) };
-
-    fn fmt<W: fmt::Write>(&self, f: &mut fmt::Formatter<W>) -> fmt::Result {
-        for mark in self.marks {
-            let text = SvgMark { mark };
-            write!(f, "{text}")?;
-        }
-        Ok(())
+/// The class of a mark's group.
+pub fn class_of(mark: &Mark) -> &'static str {
+    match mark {
+        Mark::Site(_) => "site",
+        Mark::Process(process) if process.is_declared => "process declared",
+        Mark::Process(_) => "process",
+        Mark::Wait(wait) if wait.is_on_cycle => "cycle",
+        Mark::Wait(_) => "wait",
+        Mark::Entry(entry) => match look_of(entry) {
+            Look::Act => "act",
+            Look::Got => "got",
+            Look::Declared => "declared",
+        },
+        Mark::Arrow(arrow) if arrow.got.is_some() => word_of(&arrow.sent.frame),
+        Mark::Arrow(arrow) => match arrow.sent.frame {
+            Frame::Request(_) => "request open",
+            Frame::Reply(_) => "reply open",
+            Frame::Probe(_) => "probe open",
+        },
+        Mark::Stop(_) => "stop",
     }
 }
 
-/// The text of a mark.
-#[derive(Drop)]
-struct SvgMark<'a> {
-    mark: &'a Mark,
-}
-
-impl<'a> fmt::Display for SvgMark<'a> {
-    ghost output = { λ text. Some (spec.mark_text text.mark.now) };
-
-    fn fmt<W: fmt::Write>(&self, f: &mut fmt::Formatter<W>) -> fmt::Result {
-        match self.mark {
-            Mark::Home {
-                site,
-                column,
-                members,
-            } => {
-                let text = HomeBox {
-                    site: *site,
-                    column: *column,
-                    members: *members,
-                };
-                write!(f, "{text}")
-            }
-            Mark::Halt {
-                site,
-                column,
-                number,
-            } => {
-                let text = Halted {
-                    site: *site,
-                    column: *column,
-                    number: *number,
-                };
-                write!(f, "{text}")
-            }
-            Mark::Process {
-                process,
-                site,
-                spot,
-                is_declared,
-            } => {
-                let text = ProcessShape {
-                    process: *process,
-                    site: *site,
-                    spot: *spot,
-                    is_declared: *is_declared,
-                };
-                write!(f, "{text}")
-            }
-            Mark::Wait {
-                asker,
-                holder,
-                from,
-                to,
-                is_on_cycle,
-            } => {
-                let text = WaitArrow {
-                    asker: *asker,
-                    holder: *holder,
-                    from: *from,
-                    to: *to,
-                    is_on_cycle: *is_on_cycle,
-                };
-                write!(f, "{text}")
-            }
-            Mark::Site { site, row, width } => {
-                let text = SiteLine {
-                    site: *site,
-                    row: *row,
-                    width: *width,
-                };
-                write!(f, "{text}")
-            }
-            Mark::Entry {
-                at,
-                event,
-                declared,
-            } => {
-                let text = EntryShape {
-                    at: *at,
-                    event,
-                    declared: *declared,
-                };
-                write!(f, "{text}")
-            }
-            Mark::Frame {
-                frame,
-                to,
-                place,
-                from,
-                got,
-            } => {
-                let text = FrameArrow {
-                    frame: *frame,
-                    to: *to,
-                    place: *place,
-                    from: *from,
-                    got: *got,
-                };
-                write!(f, "{text}")
-            }
-            Mark::Stop { at } => {
-                let text = Crossed { at: *at };
-                write!(f, "{text}")
-            }
-        }
+/// The shapes and labels of a mark.
+pub fn shape_of(alloc: Global, scene: Scene<'_>, mark: &Mark) -> Result<String, AllocError> {
+    let mut text = String::new(alloc);
+    match mark {
+        Mark::Site(site) => match scene.picture.kind {
+            Kind::Waits => add_home(*site, &mut text)?,
+            Kind::Run => add_line(scene.layout, *site, &mut text)?,
+        },
+        Mark::Process(process) => add_process(*process, &mut text)?,
+        Mark::Wait(wait) => add_wait(scene, *wait, &mut text)?,
+        Mark::Entry(entry) => add_entry(scene, entry, &mut text)?,
+        Mark::Arrow(arrow) => add_arrow(scene.layout, arrow, &mut text)?,
+        Mark::Stop(stop) => match scene.picture.kind {
+            Kind::Waits => add_halt(*stop, &mut text)?,
+            Kind::Run => add_stop(scene.layout, *stop, &mut text)?,
+        },
     }
+    Ok(text)
 }
 
-/// A point of a path.
-#[derive(Clone, Copy)]
-pub struct Point {
-    pub x: u64,
-    pub y: u64,
-}
-
-impl fmt::Display for Point {
-    ghost output = { λ point. Some (spec.point point.x point.y) };
-
-    fn fmt<W: fmt::Write>(&self, f: &mut fmt::Formatter<W>) -> fmt::Result {
-        let x = self.x;
-        let y = self.y;
-        write!(f, "{x} {y}")
-    }
-}
-
-/// Where an element begins.
-#[derive(Clone, Copy)]
-pub struct Place {
-    pub x: u64,
-    pub y: u64,
-}
-
-impl fmt::Display for Place {
-    ghost output = { λ place. Some (spec.place place.x place.y) };
-
-    fn fmt<W: fmt::Write>(&self, f: &mut fmt::Formatter<W>) -> fmt::Result {
-        let x = self.x;
-        let y = self.y;
-        write!(f, "x='{x}' y='{y}'")
-    }
+/// Adds a label. Its class says on which side of its point it stands, and its colour.
+pub fn add_label<T: fmt::Display + Drop>(
+    text: &mut String,
+    class: &str,
+    at: Point,
+    words: T,
+) -> Result<(), AllocError> {
+    let x = at.x;
+    let y = at.y;
+    write!(text, "<text class='{class}' x='{x}' y='{y}'>{words}</text>")
 }

@@ -1,352 +1,224 @@
-//! The marks of a run as SVG.
+//! The marks of a run as SVG. Arrows leave an entry to its right, so all labels of an entry but its number stand on its
+//! left.
 
-ghost use Rattle.std.specs.Prelude.{Some};
-ghost use Rattle.cmh_picture.specs.Svg as spec;
-
-use crate::look::{Look, look_of};
-use crate::place::{x_of, y_of};
-use crate::svg::{Place, Point};
-use cmh_draw::EntrySpot;
+use crate::label::{DeclaredText, OpenText, SiteText, StepText, StopText};
+use crate::layout::{Layout, place_of};
+use crate::look::{Look, look_of, word_of};
+use crate::point::Point;
+use crate::scene::Scene;
+use crate::svg::add_label;
+use cmh_draw::{Arrow, EntryMark, EntrySpot, Site, Spot, Stop};
 use cmh_frames::{Frame, ProcId, SiteId};
 use cmh_model::Event;
-use cmh_show::EventText;
+use std::alloc::AllocError;
 use std::fmt;
 
-/// A site: a line from the left to the right.
-#[derive(Clone, Copy)]
-pub struct SiteLine {
-    pub site: SiteId,
-    pub row: u32,
-    pub width: u32,
+/// A line from the left to the right.
+pub fn add_line(layout: Layout, line: Site, text: &mut String) -> Result<(), AllocError> {
+    let site = line.site;
+    let end = layout.point(Spot {
+        column: line.length,
+        row: line.place,
+    });
+    let x = end.x;
+    let y = end.y;
+    write!(text, "<path d='M80 {y}H{x}'/>")?;
+    add_label(
+        text,
+        "name",
+        Point { x: 20, y }.moved(0, 4),
+        SiteText { site },
+    )
 }
 
-impl fmt::Display for SiteLine {
-    ghost output = { λ text. Some (spec.site_text text.site text.row text.width) };
-
-    fn fmt<W: fmt::Write>(&self, f: &mut fmt::Formatter<W>) -> fmt::Result {
-        let site = self.site;
-        let y = y_of(self.row);
-        let end = x_of(self.width);
-        let label = Place { x: 20, y: y + 4 };
-        write!(
-            f,
-            "<g class='site'><path d='M80 {y}H{end}'/><text {label}>site {site}</text></g>\n"
-        )
-    }
-}
-
-/// An entry: a disk where a process did something, a square where a frame came, an octagon where one was declared.
-#[derive(Drop)]
-pub struct EntryShape<'a> {
-    pub at: EntrySpot,
-    pub event: &'a Event,
-    pub declared: Option<ProcId>,
-}
-
-impl<'a> fmt::Display for EntryShape<'a> {
-    ghost output = { λ text. Some (spec.entry_text text.at text.event.now text.declared) };
-
-    fn fmt<W: fmt::Write>(&self, f: &mut fmt::Formatter<W>) -> fmt::Result {
-        let look = look_of(self.event, self.declared);
-        let class = LookClass { look };
-        let title = EntryTitle {
-            at: self.at,
-            event: self.event,
-        };
-        let centre = Point {
-            x: x_of(self.at.spot.column),
-            y: y_of(self.at.spot.row),
-        };
-        let shape = LookShape { look };
-        let labels = EntryLabels {
-            at: self.at,
-            event: self.event,
-            declared: self.declared,
-        };
-        write!(
-            f,
-            "<g class='entry {class}'>{title}<path d='M{centre}{shape}'/>{labels}</g>\n"
-        )
-    }
-}
-
-/// What a browser tells of an entry.
-#[derive(Drop)]
-struct EntryTitle<'a> {
-    at: EntrySpot,
-    event: &'a Event,
-}
-
-impl<'a> fmt::Display for EntryTitle<'a> {
-    ghost output = { λ title. Some (spec.entry_title title.at title.event.now) };
-
-    fn fmt<W: fmt::Write>(&self, f: &mut fmt::Formatter<W>) -> fmt::Result {
-        let site = self.at.site;
-        let number = self.at.number;
-        let text = EventText { event: self.event };
-        write!(f, "<title>site {site} entry {number}: {text}</title>")
-    }
-}
-
-#[derive(Clone, Copy)]
-struct LookClass {
-    look: Look,
-}
-
-impl fmt::Display for LookClass {
-    ghost output = { λ class. Some (spec.look_class class.look) };
-
-    fn fmt<W: fmt::Write>(&self, f: &mut fmt::Formatter<W>) -> fmt::Result {
-        match self.look {
-            Look::Act => write!(f, "act"),
-            Look::Got => write!(f, "got"),
-            Look::Declared => write!(f, "declared"),
+/// A disk where a process did something, a square where a frame came, an octagon where one was declared, with the
+/// entry's number in it.
+pub fn add_entry(scene: Scene<'_>, entry: &EntryMark, text: &mut String) -> Result<(), AllocError> {
+    let at = scene.layout.point(entry.at.spot);
+    let shape = match look_of(entry) {
+        Look::Act => "m-10 0a10 10 0 1 0 20 0a10 10 0 1 0 -20 0",
+        Look::Got => "m-9 -9h18v18h-18z",
+        Look::Declared => "m-5 -12h10l7 7v10l-7 7h-10l-7 -7v-10z",
+    };
+    write!(text, "<path d='M{at}{shape}'/>")?;
+    add_label(text, "number", at.moved(0, 3), entry.at.number)?;
+    match &entry.event {
+        Event::Got { from, frame } => {
+            let is_from_below = is_below(scene, *from, entry.at);
+            add_got(at, is_from_below, *frame, entry.declared, text)
         }
+        event => add_step(at, event, entry.declared, text),
     }
 }
 
-#[derive(Clone, Copy)]
-struct LookShape {
-    look: Look,
-}
-
-impl fmt::Display for LookShape {
-    ghost output = { λ shape. Some (spec.look_shape shape.look) };
-
-    fn fmt<W: fmt::Write>(&self, f: &mut fmt::Formatter<W>) -> fmt::Result {
-        match self.look {
-            Look::Act => write!(f, "m-7 0a7 7 0 1 0 14 0a7 7 0 1 0 -14 0"),
-            Look::Got => write!(f, "m-6 -6h12v12h-12z"),
-            Look::Declared => write!(f, "m-6 -13h12l7 7v12l-7 7h-12l-7 -7v-12z"),
-        }
+/// Whether the line of a site is below that of an entry, or the same.
+pub fn is_below(scene: Scene<'_>, site: SiteId, at: EntrySpot) -> bool {
+    match scene.row_of(site) {
+        Some(row) => row >= at.spot.row,
+        None => false,
     }
 }
 
-/// The number of an entry, what was done and who was declared.
-#[derive(Drop)]
-struct EntryLabels<'a> {
-    at: EntrySpot,
-    event: &'a Event,
+/// What a process did, climbing away to the left, and who was declared then.
+fn add_step(
+    at: Point,
+    event: &Event,
     declared: Option<ProcId>,
-}
-
-impl<'a> fmt::Display for EntryLabels<'a> {
-    ghost output = { λ labels. Some (spec.entry_labels labels.at labels.event.now labels.declared) };
-
-    fn fmt<W: fmt::Write>(&self, f: &mut fmt::Formatter<W>) -> fmt::Result {
-        let number = self.at.number;
-        let place = Place {
-            x: x_of(self.at.spot.column) + 10,
-            y: y_of(self.at.spot.row) + 17,
-        };
-        let step = StepLabel {
-            at: self.at,
-            event: self.event,
-        };
-        let declared = DeclaredLabel {
-            at: self.at,
-            declared: self.declared,
-        };
-        write!(
-            f,
-            "<text class='number' {place}>{number}</text>{step}{declared}"
-        )
+    text: &mut String,
+) -> Result<(), AllocError> {
+    add_slanted(text, "step", at.moved(-8, -14), StepText { event })?;
+    match declared {
+        Some(process) => add_slanted(
+            text,
+            "step who",
+            at.moved(-2, -27),
+            DeclaredText { process },
+        ),
+        None => Ok(()),
     }
 }
 
-/// What a process did, above its mark. What came stands at the arrow.
-#[derive(Drop)]
-struct StepLabel<'a> {
-    at: EntrySpot,
-    event: &'a Event,
+fn add_slanted<T: fmt::Display + Drop>(
+    text: &mut String,
+    class: &str,
+    at: Point,
+    words: T,
+) -> Result<(), AllocError> {
+    let x = at.x;
+    let y = at.y;
+    write!(
+        text,
+        "<text class='{class}' x='{x}' y='{y}' transform='rotate(25 {at})'>{words}</text>"
+    )
 }
 
-impl<'a> fmt::Display for StepLabel<'a> {
-    ghost output = { λ label. Some (spec.step_label label.at label.event.now) };
-
-    fn fmt<W: fmt::Write>(&self, f: &mut fmt::Formatter<W>) -> fmt::Result {
-        let text = StepText {
-            at: self.at,
-            event: self.event,
-        };
-        match self.event {
-            Event::Got { .. } => Ok(()),
-            Event::Ask { .. } => write!(f, "{text}"),
-            Event::Reply { .. } => write!(f, "{text}"),
-            Event::Start { .. } => write!(f, "{text}"),
-        }
-    }
-}
-
-#[derive(Drop)]
-struct StepText<'a> {
-    at: EntrySpot,
-    event: &'a Event,
-}
-
-impl<'a> fmt::Display for StepText<'a> {
-    ghost output = { λ step. Some (spec.step_text step.at step.event.now) };
-
-    fn fmt<W: fmt::Write>(&self, f: &mut fmt::Formatter<W>) -> fmt::Result {
-        let x = x_of(self.at.spot.column);
-        let y = y_of(self.at.spot.row) - 14;
-        let place = Place { x, y };
-        let centre = Point { x, y };
-        let text = EventText { event: self.event };
-        write!(
-            f,
-            "<text {place} transform='rotate(-25 {centre})'>{text}</text>"
-        )
-    }
-}
-
-#[derive(Clone, Copy)]
-struct DeclaredLabel {
-    at: EntrySpot,
-    declared: Option<ProcId>,
-}
-
-impl fmt::Display for DeclaredLabel {
-    ghost output = { λ label. Some (spec.declared_label label.at label.declared) };
-
-    fn fmt<W: fmt::Write>(&self, f: &mut fmt::Formatter<W>) -> fmt::Result {
-        let place = Place {
-            x: x_of(self.at.spot.column),
-            y: y_of(self.at.spot.row) + 32,
-        };
-        match self.declared {
-            Some(process) => write!(f, "<text {place}>declared {process}</text>"),
-            None => Ok(()),
-        }
-    }
-}
-
-/// A frame: an arrow to the entry that got it, or a short one with an open end.
-#[derive(Clone, Copy)]
-pub struct FrameArrow {
-    pub frame: Frame,
-    pub to: SiteId,
-    pub place: usize,
-    pub from: EntrySpot,
-    pub got: Option<EntrySpot>,
-}
-
-impl fmt::Display for FrameArrow {
-    ghost output = { λ text. Some (spec.arrow_text text.frame text.to text.place text.from text.got) };
-
-    fn fmt<W: fmt::Write>(&self, f: &mut fmt::Formatter<W>) -> fmt::Result {
-        let frame = self.frame;
-        let class = FrameClass { frame };
-        match self.got {
-            Some(at) => {
-                let way = Way {
-                    from: self.from,
-                    to: at,
-                };
-                write!(f, "<g class='frame {class}'>{way}{frame}</text></g>\n")
-            }
-            None => {
-                let way = OpenWay {
-                    from: self.from,
-                    place: self.place,
-                };
-                let to = self.to;
-                write!(
-                    f,
-                    "<g class='frame open {class}'>{way}{frame} to {to}: lost or waiting</text></g>\n"
-                )
-            }
-        }
-    }
-}
-
-#[derive(Clone, Copy)]
-struct FrameClass {
+/// What came, on the side that its arrow does not come from, and who was declared then.
+fn add_got(
+    at: Point,
+    is_from_below: bool,
     frame: Frame,
+    declared: Option<ProcId>,
+    text: &mut String,
+) -> Result<(), AllocError> {
+    let place = if is_from_below {
+        at.moved(-13, -7)
+    } else {
+        at.moved(-13, 17)
+    };
+    add_label(text, word_of(&frame), place, frame)?;
+    let further = if is_from_below { -14 } else { 14 };
+    match declared {
+        Some(process) => add_label(
+            text,
+            "who",
+            place.moved(0, further),
+            DeclaredText { process },
+        ),
+        None => Ok(()),
+    }
 }
 
-impl fmt::Display for FrameClass {
-    ghost output = { λ class. Some (spec.frame_class class.frame) };
+/// An arrow to the entry that got the frame; a short one with an open end, and its label, under the entry where none did.
+pub fn add_arrow(layout: Layout, arrow: &Arrow, text: &mut String) -> Result<(), AllocError> {
+    match arrow.got {
+        Some(got) => add_way(way_of(layout, arrow, &got), text),
+        None => add_open(layout, arrow, text),
+    }
+}
 
-    fn fmt<W: fmt::Write>(&self, f: &mut fmt::Formatter<W>) -> fmt::Result {
-        match self.frame {
-            Frame::Request(_) => write!(f, "request"),
-            Frame::Reply(_) => write!(f, "reply"),
-            Frame::Probe(_) => write!(f, "probe"),
+fn add_open(layout: Layout, arrow: &Arrow, text: &mut String) -> Result<(), AllocError> {
+    let start = layout.point(arrow.from.spot);
+    let corner = start.moved(-9, 9);
+    let end = start
+        .moved(-13, 42)
+        .moved(0, place_of(arrow).saturating_mul(13));
+    write!(text, "<path d='M{corner}L{end}'/>")?;
+    let words = OpenText {
+        frame: arrow.sent.frame,
+        to: arrow.sent.to,
+    };
+    add_label(text, word_of(&arrow.sent.frame), end.moved(-8, 4), words)
+}
+
+/// The way of a frame: steeply off its line, where the labels are, straight past the lines between, on the right of the
+/// entry that sent it, across between two lines, and steeply to its end.
+#[derive(Clone, Copy)]
+pub struct Way {
+    pub start: Point,
+    pub off: Point,
+    /// Where it has passed the lines between, if there are some.
+    pub past: Option<Point>,
+    pub near: Point,
+    pub end: Point,
+}
+
+/// The way of a frame to the entry that got it. Frames from one entry, and those that pass its column from other lines,
+/// keep apart.
+pub fn way_of(layout: Layout, arrow: &Arrow, got: &EntrySpot) -> Way {
+    let start = layout.point(arrow.from.spot);
+    let end = layout.point(got.spot);
+    let lane = (arrow.sent.place % 7 + arrow.from.spot.row as usize * 2) % 7;
+    let aside = lane as i32 * 4 + 26;
+    let (up, down) = (0i32.saturating_sub(layout.up), layout.down);
+    let back = 0i32.saturating_sub(layout.row);
+    let sheer = if layout.has_open_ends { -2 } else { -26 };
+    if start.y < end.y {
+        let past = end.moved(0, back).moved(0, down);
+        Way {
+            start,
+            off: start.moved(aside, down),
+            past: past_if(
+                start.y.saturating_add(layout.row) < end.y,
+                start.moved(aside, 0),
+                past,
+            ),
+            near: end.moved(-26, up),
+            end: end.moved(-9, -13),
+        }
+    } else {
+        let past = end.moved(0, layout.row).moved(0, up);
+        Way {
+            start,
+            off: start.moved(aside, up),
+            past: past_if(
+                end.y.saturating_add(layout.row) < start.y,
+                start.moved(aside, 0),
+                past,
+            ),
+            near: end.moved(sheer, down),
+            end: end.moved(sheer / 3, 13),
         }
     }
 }
 
-/// A straight line, with a label at two thirds of the way.
-#[derive(Clone, Copy)]
-struct Way {
-    from: EntrySpot,
-    to: EntrySpot,
-}
-
-impl fmt::Display for Way {
-    ghost output = { λ way. Some (spec.way_text way.from way.to) };
-
-    fn fmt<W: fmt::Write>(&self, f: &mut fmt::Formatter<W>) -> fmt::Result {
-        let x = x_of(self.from.spot.column);
-        let y = y_of(self.from.spot.row);
-        let end_x = x_of(self.to.spot.column);
-        let end_y = y_of(self.to.spot.row);
-        let start = Point { x, y };
-        let end = Point { x: end_x, y: end_y };
-        let label = Place {
-            x: (x + 2 * end_x) / 3,
-            y: (y + 2 * end_y) / 3,
-        };
-        write!(f, "<path d='M{start}L{end}'/><text {label}>")
+/// The point in this column and in this row, if the way passes lines.
+fn past_if(passes: bool, column: Point, row: Point) -> Option<Point> {
+    if passes {
+        Some(Point {
+            x: column.x,
+            y: row.y,
+        })
+    } else {
+        None
     }
 }
 
-/// A short line. The frames of an entry, by their places, go to one of four ends.
-#[derive(Clone, Copy)]
-struct OpenWay {
-    from: EntrySpot,
-    place: usize,
-}
-
-impl fmt::Display for OpenWay {
-    ghost output = { λ way. Some (spec.open_way way.from way.place) };
-
-    fn fmt<W: fmt::Write>(&self, f: &mut fmt::Formatter<W>) -> fmt::Result {
-        let x = x_of(self.from.spot.column);
-        let y = y_of(self.from.spot.row);
-        let low = y + 16 * (self.place % 4) as u64;
-        let start = Point { x, y };
-        let end = Point {
-            x: x + 40,
-            y: low + 34,
-        };
-        let label = Place {
-            x: x + 48,
-            y: low + 39,
-        };
-        write!(f, "<path d='M{start}L{end}'/><text {label}>")
+fn add_way(way: Way, text: &mut String) -> Result<(), AllocError> {
+    let start = way.start;
+    let off = way.off;
+    write!(text, "<path d='M{start}L{off}")?;
+    if let Some(past) = way.past {
+        write!(text, "L{past}")?;
     }
+    let near = way.near;
+    let end = way.end;
+    write!(text, "L{near}L{end}'/>")
 }
 
 /// A cross over an entry that can't be taken.
-#[derive(Clone, Copy)]
-pub struct Crossed {
-    pub at: EntrySpot,
-}
-
-impl fmt::Display for Crossed {
-    ghost output = { λ text. Some (spec.stop_text text.at) };
-
-    fn fmt<W: fmt::Write>(&self, f: &mut fmt::Formatter<W>) -> fmt::Result {
-        let x = x_of(self.at.spot.column);
-        let y = y_of(self.at.spot.row);
-        let centre = Point { x, y };
-        let label = Place { x, y: y + 32 };
-        let number = self.at.number;
-        write!(
-            f,
-            "<g class='stop'><path d='M{centre}m-13 -13l26 26m0 -26l-26 26'/><text {label}>stop at {number}</text></g>\n"
-        )
-    }
+pub fn add_stop(layout: Layout, stop: Stop, text: &mut String) -> Result<(), AllocError> {
+    let at = layout.point(stop.at.spot);
+    write!(text, "<path d='M{at}m-11 -11l22 22m0 -22l-22 22'/>")?;
+    let number = stop.at.number;
+    add_label(text, "who", at.moved(18, 4), StopText { number })
 }

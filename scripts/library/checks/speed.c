@@ -1,12 +1,20 @@
-/* How long a step takes, in nanoseconds of processor time: starts of a process that waits, as `cmh_bench station steps
- * controller 1 1` takes them.
+/* How long calls take, in nanoseconds of processor time. `starts` and `asks` are the events of `cmh_bench seat`: starts of
+ * a process that waits; a reply to it and its next ask.
  */
 #define _POSIX_C_SOURCE 200809L
 #include "spell.h"
 
 #include <time.h>
 
-enum { STEPS = 900000, CALLS = 5000000 };
+enum { ROUNDS = 450000, CALLS = 5000000, HOLDER = 1000 };
+
+typedef struct {
+    size_t count, len[2];
+    uint8_t bytes[2][64];
+} events;
+
+static const uint16_t rows[] = {1, 1, 1, 2, 1, HOLDER};
+static const uint16_t holder = HOLDER;
 
 static double now(void)
 {
@@ -15,37 +23,57 @@ static double now(void)
     return (double)time.tv_sec * 1e9 + (double)time.tv_nsec;
 }
 
-int main(int words, char **word)
+/* A step of these events, after an ask: the least of so many runs. */
+static double step(const events *again, int runs)
 {
-    static const uint16_t rows[] = {1, 1, 1, 2, 1, 2};
-    int rounds = words > 1 ? atoi(word[1]) : 5;
-    uint8_t event[64], out[256];
-    uint16_t holder = 2;
-    size_t count, len;
-    double opening = 0, least = 0, began;
-    cmh_site site = {0};
-    for (int round = 0; round < rounds; round++) {
-        double took;
+    uint8_t ask[64], out[64];
+    size_t count, len = spell_ask(ask, 1, 1, &holder);
+    double least = 0;
+    for (int run = 0; run < runs; run++) {
+        double began, took;
+        cmh_site site = {0};
+        EXPECT(cmh_site_new(&site, 2, rows, 6, 1) == CMH_OK);
+        EXPECT(cmh_site_step(&site, ask, len, out, sizeof out, &count) == CMH_OK);
         began = now();
-        EXPECT(cmh_site_new(&site, 1, rows, 6, 1) == CMH_OK);
-        opening += now() - began;
-        EXPECT(cmh_site_step(&site, event, spell_ask(event, 1, 1, &holder), out, sizeof out, &count) == CMH_OK);
-        len = spell_start(event, 1);
-        began = now();
-        for (int i = 0; i < STEPS; i++) EXPECT(cmh_site_step(&site, event, len, out, sizeof out, &count) == CMH_OK);
-        took = (now() - began) / STEPS;
-        if (round == 0 || took < least) least = took;
+        for (int round = 0; round < ROUNDS; round++)
+            for (size_t i = 0; i < again->count; i++)
+                EXPECT(cmh_site_step(&site, again->bytes[i], again->len[i], out, sizeof out, &count) == CMH_OK);
+        took = (now() - began) / ((double)ROUNDS * (double)again->count);
+        if (run == 0 || took < least) least = took;
         cmh_site_free(&site);
     }
-    printf("step %.1f\n", least);
-    EXPECT(cmh_site_new(&site, 1, rows, 6, 1) == CMH_OK);
+    return least;
+}
+
+/* A call that is answered this. */
+static double call(cmh_site *site, cmh_code wanted)
+{
+    uint8_t start[64], out[64];
+    size_t count, len = spell_start(start, 1);
+    double began = now();
+    for (int i = 0; i < CALLS; i++) EXPECT(cmh_site_step(site, start, len, out, sizeof out, &count) == wanted);
+    return (now() - began) / CALLS;
+}
+
+int main(int words, char **word)
+{
+    static const uint8_t reply[] = {2, HOLDER >> 8, HOLDER & 255, 0, 1};
+    int runs = words > 1 ? atoi(word[1]) : 5;
+    events starts = {0}, asks = {0};
+    cmh_site site = {0};
+    double began;
+    starts.count = 1;
+    starts.len[0] = spell_start(starts.bytes[0], 1);
+    asks.count = 2;
+    asks.len[0] = spell_got(asks.bytes[0], 2, reply);
+    asks.len[1] = spell_ask(asks.bytes[1], 1, 1, &holder);
+    printf("starts %.1f\n", step(&starts, runs));
+    printf("asks %.1f\n", step(&asks, runs));
     began = now();
-    for (int i = 0; i < CALLS; i++) EXPECT(cmh_site_step(&site, event, len, out, sizeof out, &count) == CMH_NOT_BLOCKED);
-    printf("refused %.1f\n", (now() - began) / CALLS);
+    EXPECT(cmh_site_new(&site, 2, rows, 6, 1) == CMH_OK);
+    printf("new %.0f\n", now() - began);
+    printf("refused %.1f\n", call(&site, CMH_NOT_BLOCKED));
     cmh_site_free(&site);
-    began = now();
-    for (int i = 0; i < CALLS; i++) EXPECT(cmh_site_step(&site, event, len, out, sizeof out, &count) == CMH_CLOSED);
-    printf("closed %.1f\n", (now() - began) / CALLS);
-    printf("new %.0f\n", opening / rounds);
+    printf("closed %.1f\n", call(&site, CMH_CLOSED));
     return 0;
 }

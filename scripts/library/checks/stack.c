@@ -1,8 +1,12 @@
 /* How much stack each call takes: the stack below is painted, the call is made, and what is left of the paint is counted.
- * A call that reads JSON may take 24 KB, any other 16 KB. */
+ * A call that reads JSON may take 24 KB, and 64 KB where it nests as deep as JSON may; any other 16 KB.
+ */
 #include "spell.h"
 
-enum { DEPTH = 1 << 20, PAINT = 0xA5, MOST = 16384, MOST_FOR_JSON = 24576 };
+enum { DEPTH = 1 << 20, PAINT = 0xA5, MOST = 16384, MOST_FOR_JSON = 24576, MOST_FOR_NESTED = 65536 };
+
+/* How deep JSON may nest, how many processes a site may have, and how many an ask may name. */
+enum { LEVELS = 127, MEMBERS = 64, TARGETS = 32 };
 
 static __attribute__((noinline)) void paint(void)
 {
@@ -29,13 +33,58 @@ static int exceeded;
         call; \
         size = used(); \
         if (size > most) exceeded = 1; \
-        printf("%-12s %zu\n", name, size); \
+        printf("%-14s %zu\n", name, size); \
     } while (0)
+
+/* A topology of two sites; the second of `nested` has a member that nests as deep as JSON may, with a number at its end
+ * that takes long to read. */
+static const char plain[] = "{\"edition\":1,\"sites\":[{\"site\":1,\"processes\":[1]},{\"site\":2,\"processes\":[2]}]}";
+static const char number[] = "0.1000000000000000055511151231257827021181583404541015625";
+static char nested[sizeof plain + sizeof number + 2 * LEVELS + 16];
+
+static void nest(void)
+{
+    enum { ABOVE = 3, LEFT = LEVELS - ABOVE };
+    char *at = nested + sprintf(nested, "%.*s,\"x\":", (int)(sizeof plain - 4), plain);
+    memset(at, '[', LEFT);
+    at += LEFT;
+    at += sprintf(at, "%s", number);
+    memset(at, ']', LEFT);
+    strcpy(at + LEFT, "}]}");
+}
+
+/* A site of as many processes as one may have: each waits for as many as it may, and is waited for by as many. */
+static void fullest(void)
+{
+    static uint8_t journal[MEMBERS * CMH_ENTRY_MAX], told[65536];
+    uint16_t rows[2 + MEMBERS] = {1, MEMBERS}, holders[TARGETS], processes[MEMBERS];
+    char json[512];
+    uint8_t event[4 + 2 * TARGETS], status;
+    size_t count, kept = CMH_HEADER_LEN, len;
+    cmh_site site = {0};
+    for (unsigned i = 0; i < MEMBERS; i++) rows[2 + i] = (uint16_t)(1 + i);
+    MEASURE("new, 64", MOST, EXPECT(cmh_site_new(&site, 2, rows, 2 + MEMBERS, 1) == CMH_OK));
+    EXPECT(cmh_site_header(&site, journal, sizeof journal) == CMH_OK);
+    for (unsigned asker = 1; asker <= MEMBERS; asker++) {
+        for (unsigned i = 0; i < TARGETS; i++) holders[i] = (uint16_t)(1 + i + (asker <= TARGETS ? TARGETS : 0));
+        len = spell_ask(event, asker, TARGETS, holders);
+        MEASURE("ask for 32", MOST, EXPECT(cmh_site_step(&site, event, len, journal + kept, CMH_ENTRY_MAX, &count) == CMH_OK));
+        kept += count;
+    }
+    MEASURE("waits, 32", MOST, EXPECT(cmh_site_waits(&site, 1, processes, MEMBERS, &count) == CMH_OK && count == TARGETS));
+    MEASURE("owed, 32", MOST, EXPECT(cmh_site_owed(&site, 1, processes, MEMBERS, &count) == CMH_OK && count == TARGETS));
+    MEASURE("declared", MOST, EXPECT(cmh_site_declared(&site, processes, MEMBERS, &count) == CMH_OK && count > 0));
+    MEASURE("free, 64", MOST, cmh_site_free(&site));
+    len = (size_t)sprintf(json, "{\"edition\":2,\"sites\":[{\"site\":1,\"processes\":[1");
+    for (unsigned i = 2; i <= MEMBERS; i++) len += (size_t)sprintf(json + len, ",%u", i);
+    len += (size_t)sprintf(json + len, "]}]}");
+    MEASURE("audit, 64", MOST_FOR_JSON, EXPECT(cmh_audit((const uint8_t *)json, len, journal, kept, &kept, 1, told, sizeof told, &count, &status) == CMH_OK));
+    EXPECT(status == 0);
+}
 
 int main(void)
 {
     static const uint16_t rows[] = {1, 1, 1, 2, 1, 2};
-    static const char json[] = "{\"edition\":1,\"sites\":[{\"site\":1,\"processes\":[1]},{\"site\":2,\"processes\":[2]}]}";
     static uint8_t out[CMH_ENTRY_MAX], files[64];
     cmh_site site = {0}, other = {0};
     cmh_reader reader = {0};
@@ -44,7 +93,7 @@ int main(void)
     size_t len, count = 0, lens[2] = {CMH_HEADER_LEN, CMH_HEADER_LEN};
     cmh_sending sending;
     MEASURE("new", MOST, cmh_site_new(&site, 1, rows, 6, 1));
-    MEASURE("new_json", MOST_FOR_JSON, cmh_site_new_json(&other, (const uint8_t *)json, sizeof json - 1, 2));
+    MEASURE("new_json", MOST_FOR_JSON, cmh_site_new_json(&other, (const uint8_t *)plain, sizeof plain - 1, 2));
     MEASURE("header", MOST, cmh_site_header(&site, files, sizeof files));
     cmh_site_header(&other, files + CMH_HEADER_LEN, sizeof files - CMH_HEADER_LEN);
     len = spell_ask(event, 1, 1, &holder);
@@ -64,11 +113,17 @@ int main(void)
     memcpy(event + CMH_HELLO_LEN, "\1\0\2\0\1", 5);
     MEASURE("feed", MOST, cmh_reader_feed(&reader, event, 11, out, sizeof out, &count));
     EXPECT(count == 5);
-    MEASURE("audit", MOST_FOR_JSON, cmh_audit((const uint8_t *)json, sizeof json - 1, files, 2 * CMH_HEADER_LEN, lens, 2, out, sizeof out,
-                               &count, &status));
+    MEASURE("audit", MOST_FOR_JSON, cmh_audit((const uint8_t *)plain, sizeof plain - 1, files, 2 * CMH_HEADER_LEN, lens, 2, out,
+                                              sizeof out, &count, &status));
     EXPECT(count > 0 && status == 0);
     MEASURE("free", MOST, cmh_site_free(&site));
     cmh_site_free(&other);
     cmh_reader_free(&reader);
+    fullest();
+    nest();
+    MEASURE("new, nested", MOST_FOR_NESTED, EXPECT(cmh_site_new_json(&other, (const uint8_t *)nested, strlen(nested), 2) == CMH_OK));
+    cmh_site_free(&other);
+    MEASURE("audit, nested", MOST_FOR_NESTED, EXPECT(cmh_audit((const uint8_t *)nested, strlen(nested), files, 2 * CMH_HEADER_LEN, lens, 2,
+                                                               out, sizeof out, &count, &status) == CMH_OK && status == 0));
     return exceeded;
 }

@@ -1,3 +1,4 @@
+use Rattle.std.specs.Prelude.{string_bytes}
 use Rattle.cmh_files.proofs.TextLemmas.{appends-kept}
 use Rattle.cmh_picture.proofs.drawing.draw_into.Goals as goal
 
@@ -5,6 +6,8 @@ pub returns-clause-wrote : goal.returns-clause-wrote
 returns-clause-wrote g c =
     record {
       picture = c.in_ok-picture.picture;
+      text = string_bytes c.in_ok-text.text;
       draws = c.in_ok-picture.ensures.draws;
+      is_drawn = c.in_ok-text.ensures;
       wrote = appends-kept _ _ _ _ c.in_ok-write_text.ensures.bytes c.flush.ensures.bytes;
     }

@@ -1,0 +1,4 @@
+mod LengthLemmas
+mod ReadLemmas
+mod StopLemmas
+mod WalkLemmas
