@@ -2,8 +2,8 @@
 
     threads.py PROGRAM SHIM      SHIM is refuse.c as a library; the last line is 'N passed, M failed'
 
-A site of two makes three threads: one that accepts connections, one that writes to the other site, and one that reads from
-it. Where one is refused, the site says so: it ends out of memory before it listens, or the link is closed or stays new. It
+A site of two makes four threads: one that watches the clock, one that accepts connections, one that writes to the other
+site, and one that reads from it. Where one is refused, the site says so: it ends out of memory before it listens, or the link is closed or stays new. It
 answers all else, it ends when it is told to, and the journals are those of one run.
 """
 import os
@@ -13,13 +13,14 @@ sys.path.insert(0, os.path.join(os.path.dirname(os.path.abspath(__file__)), '..'
 from world import Collided, Missed, World, wait_until
 
 PAIR = {1: [1], 2: [2]}
-THREADS = ('accepting', 'writing', 'reading')
+THREADS = ('watching', 'accepting', 'writing', 'reading')
+AT_ITS_START = 2  # of these
 MOST_COLLISIONS = 5
 
 
 def talk(site, peer, place):
     """Both sites connect and ask for each other's process; yields what holds where the thread at a place is refused."""
-    writes, reads = place != 1, place != 2
+    writes, reads = THREADS[place:place + 1] != ('writing',), THREADS[place:place + 1] != ('reading',)
     yield 'connect', site.ask('connect') == ('connected 1 failed 0' if writes else 'connected 0 failed 1')
     yield 'connect of the peer', peer.ask('connect') == 'connected 1 failed 0'
     yield 'each ask', (site.ask('ask 1 2'), peer.ask('ask 2 1')) == ('ok sent 1', 'ok sent 1')
@@ -46,7 +47,7 @@ def run(program, shim, place):
         peer = world.start(2)
         peer.await_listening()
         site = world.start(1, before=('env', f'REFUSE=thread:{place + 1}', f'REFUSE_MARK={mark}', f'LD_PRELOAD={shim}'))
-        if place == 0:
+        if place < AT_ITS_START:
             yield 'it ends before it listens', site.hear_all() == []
             yield 'it says why', (site.wait(), site.process.stderr.read()) == (1, b'fault memory\n')
         else:

@@ -11,7 +11,7 @@ import subprocess
 import threading
 import time
 
-from world import Missed, World, patience, read_answer, wait_until
+from world import Collided, Missed, World, patience, read_answer, wait_until
 
 PAIR = {1: [1], 2: [2]}
 HELLO = bytes.fromhex('434D48010001')
@@ -74,12 +74,20 @@ def reset(peer):
     peer.close()
 
 
+def take_port(listener, world, site):
+    """A stranger that has the port of a site makes the run count for nothing."""
+    try:
+        listener.bind(('127.0.0.1', world.ports[site]))
+    except OSError:
+        raise Collided(world.ports[site]) from None
+
+
 def listen_as(world, site, backlog=16):
     """A socket in place of a site, which takes little that it doesn't read."""
     listener = socket.socket()
     listener.setsockopt(socket.SOL_SOCKET, socket.SO_REUSEADDR, 1)
     listener.setsockopt(socket.SOL_SOCKET, socket.SO_RCVBUF, 4096)
-    listener.bind(('127.0.0.1', world.ports[site]))
+    take_port(listener, world, site)
     listener.listen(backlog)
     listener.settimeout(patience())
     return listener
@@ -487,19 +495,20 @@ LOOK_PROCESSOR_SECONDS = 0.5  # that looks may take which pause
 
 
 def frames_that_dont_come(program):
-    """A cluster whose frames don't come says so within the bound, and its looks take no processor."""
-    with World(program, PAIR) as world:
-        before = traced(world, 'recvfrom', 'recvfrom:delay_enter=14000000:when=2+')
-        begin = time.monotonic()
-        process = start_cluster(world, ['ask 1 2', 'start 1'], world.path('out'), before=before)
-        seen = threading.Timer(18, process.kill)  # the system holds it until the delay has passed
-        seen.start()
-        lines = [line.decode().strip() for line in iter(process.stdout.readline, b'')]
-        status, seconds = reaped(process)
-        seen.cancel()
-        yield 'it says that it is not settled', lines[-1:] == ['not settled'] and status == 1
-        yield 'it takes %.1f s of processor time' % seconds, seconds < LOOK_PROCESSOR_SECONDS
-        yield 'it ends: after %.1f s' % (time.monotonic() - begin), time.monotonic() - begin < 18
+    """A cluster waits for frames that come late, and says within the bound that they don't come; its looks take no processor."""
+    for delay, wanted, ending in ((14, 1, 'not settled'), (5, 0, 'accepted')):
+        with World(program, {site: [site] for site in range(1, 9)}) as world:
+            before = traced(world, 'recvfrom', 'recvfrom:delay_enter=%d000000:when=2' % delay)
+            begin = time.monotonic()
+            process = start_cluster(world, ['ask 1 2', 'start 1'], world.path('out'), before=before)
+            seen = threading.Timer(18, process.kill)  # the system holds it until the delay has passed
+            seen.start()
+            lines = [line.decode().strip() for line in iter(process.stdout.readline, b'')]
+            status, seconds = reaped(process)
+            seen.cancel()
+            yield 'after %d s: %s' % (delay, lines[2:3]), ending in lines and status == wanted
+            yield 'it takes %.1f s of processor time' % seconds, seconds < LOOK_PROCESSOR_SECONDS
+            yield 'it ends: after %.1f s' % (time.monotonic() - begin), time.monotonic() - begin < 18
 
 
 def cluster_of_few_files(program):
@@ -608,7 +617,7 @@ def last_place(lines, pattern):
 
 def taken_port_leaves_nothing(program):
     with World(program, {1: [1, 2]}) as world, socket.socket() as stranger:
-        stranger.bind(('127.0.0.1', world.ports[1]))
+        take_port(stranger, world, 1)
         stranger.listen(1)
         site = world.start(1)
         yield 'the port is taken', site.hear() is None and site.wait() == 3 and named(site) == b'fault listen\n'
@@ -681,7 +690,7 @@ def linked_journal(program):
 
 
 def shortened_journal(program):
-    """A journal that somebody made shorter takes no further entry."""
+    """A journal that somebody made shorter or longer takes no further entry."""
     for size in (0, 7, 20):
         with World(program, PAIR) as world:
             site = world.start(1)
@@ -691,6 +700,33 @@ def shortened_journal(program):
             answers = [site.ask('start 1'), site.ask('start 1')]
             yield 'cut to %d bytes it is sealed: %s' % (size, answers), answers == ['refused 10', 'refused 9']
             yield 'it ends', site.end()
+    with World(program, PAIR) as world:
+        site = world.start(1)
+        site.await_listening()
+        os.truncate(world.journal(1), 30)
+        answers = [site.ask('ask 1 2'), site.ask('start 1')]
+        yield 'made longer it is sealed: %s' % answers, answers == ['refused 10', 'refused 9']
+        yield 'it ends', site.end()
+
+
+def standing_journals(program):
+    """A site takes an empty file for its journal, or makes one, behind a link, and keeps one that may be read alone."""
+    with World(program, {1: [1, 2]}) as world:
+        journal, target = world.journal(1), world.path('target')
+
+        def has_run():
+            site = world.start(1)
+            site.await_listening()
+            return site.end()
+        os.symlink(target, journal)
+        for name in ('no file', 'an empty file'):
+            yield '%s behind a link' % name, has_run() and os.path.islink(journal) and of_site(read(target)) == 1
+            os.truncate(target, 0)
+        os.remove(journal)
+        with open(journal, 'wb') as file:
+            file.write(b'an older journal')
+        os.chmod(journal, 0o444)
+        yield 'it is kept', has_run() and read(journal + '.1') == b'an older journal' and of_site(read(journal)) == 1
 
 
 def many_kept_journals(program):
@@ -768,4 +804,5 @@ OPERATIONS = [interrupted_calls, stopped_and_continued, spent_connections, stand
               failed_accepts, few_descriptors, accepting_ended, second_on_a_journal, at_one_moment, second_in_a_folder,
               quit_with_slow_peers, refused_sender, sender_of_another_edition, peer_that_restarted, frames_that_dont_come,
               cluster_of_few_files, audit_of_running_sites, synced_folder, taken_port_leaves_nothing, no_regular_file,
-              size_limit, full_backlog, linked_journal, shortened_journal, many_kept_journals, notes_of_links, notes_are_few]
+              size_limit, full_backlog, linked_journal, shortened_journal, standing_journals, many_kept_journals,
+              notes_of_links, notes_are_few]

@@ -15,14 +15,9 @@ from operations import CROWD, MORE_SECONDS, PROBES, QUIT_SECONDS, dial, listen_a
 from world import Collided, Missed, World, allow, wait_until
 
 WAVE_SECONDS = 8.0
-FEW = 60  # hostile connections to a site while spent ones still count
 MOST_HELD = 100  # hostile connections to a site that stand at once
 FLOOD = 600  # starts that send 7 KB each to a peer that reads next to nothing
 ENTRY_BYTES = 600  # of memory that an entry may take
-
-# What is spared on request, by the number of the fault of operation that it meets.
-SPARED = {2: 'more connections than a site takes in its life', 5: 'quit while a peer reads nothing',
-          10: 'the signal of a file that may not grow'}
 
 
 class Figures:
@@ -71,13 +66,11 @@ def drive(site, draw, pause, ending, figures):
         ending.wait(pause * draw.random())
 
 
-def attack(world, number, draw, most, ending, figures):
+def attack(world, number, draw, ending, figures):
     """Hostile connections to a site: silent, bad, cut, reset, of strangers."""
     held = []
     hello = bytes.fromhex('434D48%02X%04X' % (world.edition, 1))
-    for _ in range(most):
-        if ending.wait(draw.random() * 0.05):
-            break
+    while not ending.wait(draw.random() * 0.05):
         try:
             peer = dial(world, number)
             kind = draw.randrange(6)
@@ -95,7 +88,6 @@ def attack(world, number, draw, most, ending, figures):
                 reset(held.pop(0))
         else:
             (reset if draw.random() < 0.5 else socket.socket.close)(peer)
-    ending.wait()
     for peer in held:
         reset(peer)
 
@@ -109,10 +101,8 @@ def stop_and_continue(sites, draw, ending, figures):
         figures.count('stops')
 
 
-def of_disk(limit, is_ignored):
+def of_disk(limit):
     def apply():
-        if is_ignored:
-            signal.signal(signal.SIGXFSZ, signal.SIG_IGN)
         resource.setrlimit(resource.RLIMIT_FSIZE, (limit, limit))
     return apply
 
@@ -134,10 +124,9 @@ def memory(site):
 class Wave:
     """Sites 1 and 2 that live on, 3 that is killed, 4 that runs out of disk, and in place of 5 a peer that reads slowly."""
 
-    def __init__(self, program, seed, spared, figures):
+    def __init__(self, program, seed, figures):
         self.draw = random.Random(seed)
         self.seed = seed
-        self.spared = spared
         self.figures = figures
         self.is_crowded = self.draw.random() < 0.34
         sites = {1: list(range(1, 34)) if self.is_crowded else [1, 11], 2: [42, 43], 3: [63, 64], 4: [74, 75], 5: CROWD[2]}
@@ -162,7 +151,7 @@ class Wave:
 
     def run_in(self, world, listener):
         limit = self.draw.choice([300, 3000, 20000])
-        sites = {number: world.start(number, limit=of_disk(limit, 10 in self.spared) if number == 4 else None)
+        sites = {number: world.start(number, limit=of_disk(limit) if number == 4 else None)
                  for number in (1, 2, 3, 4)}
         for site in sites.values():
             site.await_listening()
@@ -200,13 +189,12 @@ class Wave:
     def disturb(self, sites, survivors):
         for number, site in sites.items():
             self.begin(drive, site, random.Random(self.draw.random()), 0.02, self.ending, self.figures)
-            most = FEW if 2 in self.spared else 1000
-            self.begin(attack, self.world, number, random.Random(self.draw.random()), most, self.ending, self.figures)
+            self.begin(attack, self.world, number, random.Random(self.draw.random()), self.ending, self.figures)
         self.begin(stop_and_continue, survivors, random.Random(self.draw.random()), self.ending, self.figures)
         self.begin(audit_live, self.world, self.ending, self.figures)
 
     def read_as_five(self, listener):
-        """Each sender has a reader of its own, which takes 50 bytes a second; and all, once the sites may end."""
+        """Each sender has a reader of its own, which takes 50 bytes a second, and nothing once the sites are to end."""
         peers = []
         readers = []
         for _ in range(4):
@@ -220,14 +208,7 @@ class Wave:
         self.figures.count('slow peers', len(peers))
         for reader in readers:
             reader.join()
-        if 5 in self.spared:
-            readers = [threading.Thread(target=drain, args=(peer,), daemon=True) for peer in peers]
-            for reader in readers:
-                reader.start()
-            for reader in readers:
-                reader.join()
-        else:
-            self.done.wait()
+        self.done.wait()
         for peer in peers:
             peer.close()
 
@@ -240,8 +221,7 @@ class Wave:
         hold = self.figures.hold
         for site, (threads, files) in zip(survivors, began):
             hold(wave + 'threads of site %d' % site.number, becomes(lambda: site.threads() <= threads))
-            if 2 not in self.spared:
-                hold(wave + 'descriptors of site %d' % site.number, becomes(lambda: site.open_files() <= files))
+            hold(wave + 'descriptors of site %d' % site.number, becomes(lambda: site.open_files() <= files))
         sites[3].hear_all()
         sites[3].wait()
         for site in survivors + [sites[4]]:
@@ -258,15 +238,6 @@ class Wave:
         hold(wave + 'the audit: %s' % lines[:6], status == 0 and 'accepted' in lines)
 
 
-def drain(peer):
-    peer.settimeout(30)
-    try:
-        while peer.recv(1 << 16):
-            pass
-    except OSError:
-        pass
-
-
 def becomes(holds):
     try:
         return bool(wait_until(holds, ''))
@@ -279,9 +250,8 @@ def becomes(holds):
 class Keepers:
     """Two sites that are attacked and stopped all the time, and are asked little."""
 
-    def __init__(self, program, spared, figures):
+    def __init__(self, program, figures):
         self.figures = figures
-        self.spared = spared
         self.world = World(program, {1: [1, 11], 2: [2, 12]}, edition=2)
         self.sites = list(self.world.start_all().values())
         for site in self.sites:
@@ -289,10 +259,9 @@ class Keepers:
         self.began = [(site.threads(), site.open_files()) for site in self.sites]
         self.ending = threading.Event()
         self.threads = []
-        most = FEW if 2 in spared else 10 ** 9
         for site in self.sites:
             for run, arguments in ((drive, (site, random.Random(site.number), 0.6)),
-                                   (attack, (self.world, site.number, random.Random(site.number), most))):
+                                   (attack, (self.world, site.number, random.Random(site.number)))):
                 self.threads.append(threading.Thread(target=run, args=(*arguments, self.ending, figures), daemon=True))
         self.threads.append(threading.Thread(target=stop_and_continue,
                                              args=(self.sites, random.Random(3), self.ending, figures), daemon=True))
@@ -316,8 +285,7 @@ class Keepers:
             grown = memory_after - memory_before
             self.figures.hold('memory is flat', grown <= (1 << 20) + ENTRY_BYTES * (entries - entries_before))
             self.figures.hold('threads come back', becomes(lambda: site.threads() <= threads))
-            if 2 not in self.spared:
-                self.figures.hold('descriptors come back', becomes(lambda: site.open_files() <= files))
+            self.figures.hold('descriptors come back', becomes(lambda: site.open_files() <= files))
         for site in self.sites:
             self.figures.hold('links stay open', set(site.links().values()) == {'open'})
         for site in self.sites:
@@ -328,18 +296,18 @@ class Keepers:
         self.figures.hold('the audit of the sites that ran all the time', self.world.is_accepted())
 
 
-def soak(program, minutes, spared):
+def soak(program, minutes):
     allow(minutes * 60 + 600)
     figures = Figures()
     end = time.monotonic() + minutes * 60
-    keepers = Keepers(program, spared, figures)
+    keepers = Keepers(program, figures)
     with keepers.world:
         time.sleep(min(20, minutes * 10))
         before = keepers.measure()
         seed = int(time.time()) if minutes > 5 else 1
         while time.monotonic() < end:
             try:
-                Wave(program, seed, spared, figures).run()
+                Wave(program, seed, figures).run()
                 figures.count('waves')
             except Collided as collided:
                 print('again: a stranger took the port %s' % collided, flush=True)
@@ -349,7 +317,5 @@ def soak(program, minutes, spared):
         keepers.judge(before)
     counts = figures.counts
     print(', '.join('%s: %d' % (name, counts[name]) for name in sorted(counts) if name not in ('held', 'failed')))
-    for number in sorted(spared):
-        print('spared: %s' % SPARED[number])
     print('%d passed, %d failed' % (counts['held'], counts['failed']))
     return counts['failed'] > 0

@@ -14,7 +14,7 @@ import time
 
 from client import lost_sites, python_client
 from operations import OPERATIONS, LeftOut
-from soak import SPARED, soak
+from soak import soak
 from world import Collided, Missed, World, allow, is_free, patience, read_answer, wait_until
 
 PAIR = {1: [1], 2: [2]}
@@ -47,6 +47,21 @@ def three_sites(program):
         wait_until(lambda: balance(world) == 0, 'all frames')
         yield 'each quit ends', all(site.end() for site in sites.values())
         yield 'accepted and drained', world.is_accepted('drained', 'wait 1 2', 'wait 2 3', 'wait 3 10', 'wait 10 1')
+
+
+def storm(program):
+    """Thousands of frames on each of three links at once."""
+    members = {n: list(range(17 * n - 16, 17 * n + 1)) for n in (1, 2, 3)}
+    with World(program, members, edition=2) as world:
+        sites = world.start_all()
+        for n, site in sites.items():
+            first, asked = members[n][0], ' '.join(map(str, members[n % 3 + 1][1:]))
+            site.say('ask %d %s' % (first, asked), *['start %d' % first] * 150)
+        yield 'each is taken', all(site.hear().startswith('ok sent') for site in sites.values() for _ in range(151))
+        wait_until(lambda: balance(world) == 0, 'all frames')
+        yield 'thousands of frames came', all(len(world.entries(n)) > 2500 for n in sites)
+        yield 'each quit ends', all(site.end() for site in sites.values())
+        yield 'accepted and drained', world.is_accepted('drained')
 
 
 def balance(world):
@@ -510,39 +525,9 @@ def few_files(program):
 
 # ---- all trials
 
-TRIALS = [two_sites, three_sites, killed_peer, full_disk, kept_journals, started_twice, silent_peers, slow_hello, noise, cut_frame,
+TRIALS = [two_sites, three_sites, storm, killed_peer, full_disk, kept_journals, started_twice, silent_peers, slow_hello, noise, cut_frame,
           second_connection, own_hello, resets, many_connections, held_by_silent_peers, closed_output, clusters,
           full_disk_of_a_cluster, two_clusters, few_files, python_client, lost_sites, ends_by_signal, kills]
-
-# The trials of operation that are known to fail, each with what is not there yet. They run only where they are named, and
-# the word 'operations' names all of them, these among them.
-BEFORE = {
-    'interrupted_calls': 'a write of the journal that a signal interrupted seals the site',
-    'spent_connections': 'connections that ended count for ever, and keep their descriptors',
-    'standing_connections': 'the same',
-    'silent_for_long': 'a connection without a hello is never closed',
-    'failed_accepts': 'one failed accept ends accepting',
-    'few_descriptors': 'the same',
-    'accepting_ended': 'there are no notes',
-    'second_on_a_journal': 'a journal that is being written is moved away',
-    'at_one_moment': 'the same',
-    'second_in_a_folder': 'the journals of a cluster that runs are made anew',
-    'quit_with_slow_peers': 'writing threads are waited for',
-    'refused_sender': 'a refused sender learns nothing before it writes, and there are no notes',
-    'sender_of_another_edition': 'the same',
-    'peer_that_restarted': 'a sender learns nothing before it writes',
-    'frames_that_dont_come': 'a million looks without a pause',
-    'cluster_of_few_files': 'the same, in one run of eight',
-    'synced_folder': 'the folder of a journal is not synced',
-    'no_regular_file': 'a pipe is opened, and waits for its other end',
-    'size_limit': 'the signal of a file that may not grow kills the site',
-    'full_backlog': 'connecting waits for as long as the system does',
-    'linked_journal': 'a cluster writes to what a link leads to',
-    'shortened_journal': 'a journal goes on over a hole',
-    'many_kept_journals': 'each name that is taken is looked at',
-    'notes_of_links': 'there are no notes',
-    'notes_are_few': 'the same',
-}
 
 OPERATION_SECONDS = 40.0  # that a trial of operation may take
 SIDE_BY_SIDE = 3  # trials of operation: most of them wait
@@ -586,22 +571,16 @@ def outcomes(trial, program):
     return found
 
 
-def run_long(program, minutes, spared=''):
-    """The long form; what is spared is named by numbers with commas between them, or by the word 'known'."""
-    numbers = SPARED if spared == 'known' else {int(number) for number in spared.split(',') if number}
-    return soak(program, float(minutes), set(numbers))
-
-
 def main(program, names):
     if names[:1] == ['--minutes']:
-        return run_long(program, names[1], ''.join(names[3:]) if names[2:3] == ['--spare'] else '')
+        return soak(program, float(names[1]))
     trials = TRIALS + ([small_disk] if has_small_disks() else [])
     if 'operations' in names:
         names = [name for name in names if name != 'operations'] + [trial.__name__ for trial in OPERATIONS]
     unknown = set(names) - {trial.__name__ for trial in TRIALS + [small_disk] + OPERATIONS}
     if unknown:
         sys.exit('no such trial: %s' % ' '.join(sorted(unknown)))
-    operations = [trial for trial in OPERATIONS if trial.__name__ in names or not names and trial.__name__ not in BEFORE]
+    operations = [trial for trial in OPERATIONS if not names or trial.__name__ in names]
     allow(OPERATION_SECONDS * len(operations))
     # A job in the background of a shell ignores Ctrl-C, and so would each site that it starts.
     signal.signal(signal.SIGINT, signal.default_int_handler)

@@ -30,6 +30,8 @@ pub const WHY: &str = "why";
 
 pub const RUN: &str = "run";
 
+pub const NOTES: &str = "notes";
+
 pub const KIND: &str = "kind";
 
 pub const FORMAT: &str = "format";
@@ -128,7 +130,8 @@ fn site_command<'a>(alloc: Global, help: &'a Help) -> Result<Command<'a>, Error>
         .after_help(help.site.as_str())
         .arg(topology_arg(alloc))?
         .arg(site)?
-        .arg(journal)?;
+        .arg(journal)?
+        .arg(notes_arg(alloc))?;
     Ok(command)
 }
 
@@ -144,7 +147,8 @@ fn cluster_command<'a>(alloc: Global, help: &'a Help) -> Result<Command<'a>, Err
         .after_help(help.cluster.as_str())
         .arg(topology_arg(alloc))?
         .arg(script)?
-        .arg(out)?;
+        .arg(out)?
+        .arg(notes_arg(alloc))?;
     Ok(command)
 }
 
@@ -166,6 +170,13 @@ fn run_arg<'a>(alloc: Global) -> Result<Arg<'a>, Error> {
         .action(ArgAction::SetTrue)
         .conflicts_with(WHY)?;
     Ok(run)
+}
+
+fn notes_arg<'a>(alloc: Global) -> Arg<'a> {
+    Arg::new(alloc, NOTES)
+        .long(NOTES)
+        .help("Notes on standard error what is noticed and no line asks for")
+        .action(ArgAction::SetTrue)
 }
 
 /// The files of journals, one at least.

@@ -41,7 +41,8 @@ Lines of standard input; a line that fits none is answered `bad line`, and each 
   quit           ends the site, as the end of the input does
 
 The first line that it prints is `listening`, the last one `stopped`. An answer `ok` comes after its entry is in the
-journal and synced, so the journal can be audited whenever and however the site ends.
+journal and synced, so the journal can be audited whenever and however the site ends. It is locked until then: a second site
+on it, and one whose journal is no regular file, ends with `fault journal disk`.
 ";
 
 const CLUSTER_LINES: &str = "\
@@ -55,6 +56,9 @@ Lines of the script; a line that fits none is answered `bad line`:
 After the script it prints `link A B closed N` for each link that had closed, and then the audit.
 Each link takes two open files, so N sites take about 2 N N. The usual limit of 1,024 open files is enough for some 20
 sites, and `ulimit -n 20000` for all 64.
+
+The journals are made anew in place of those of an earlier run. Where a site still writes to one of them, none is touched:
+that is `fault file out`.
 ";
 
 const LINK_FAULTS: &str = "\
@@ -68,6 +72,20 @@ Why a link is closed, as in `closed 5`:
    7  the station takes no more steps
 ";
 
+const NOTES: &str = "\
+With --notes a line on standard error, at most ten a second, for each of these (`note at S ..` in a cluster):
+  note out S closed N, note in S closed N            a link closed, for the reason N
+  note refused a hello of site S: its link is X      a connection of a site whose link isn't new
+  note refused a hello of no other site              a connection of nobody in the topology, or of another edition
+  note closed a connection without a hello           30 seconds after it came
+  note turned a connection away                      256 stand
+  note accepting ended                               no connection can come any more
+  note no thread for a connection, note no thread for the link to S
+  note the journal is sealed                         it can't be written, and no more steps are taken
+  note kept the old journal as .N                    under the journal's name with .N behind
+  note left out N                                    so many more were noticed in a second
+";
+
 const SITE_STATUSES: &str = "\
 Statuses: 0 at the end, 1 where memory ran out, 2 for a command line that isn't understood, 3 at a fault, which is named
 on standard error: `fault file topology`, `fault json`, `fault topology N`, `fault site` (it isn't in the topology),
@@ -77,9 +95,10 @@ Example: (echo connect; echo ask 1 2; cat) | cmh site --topology world.json --si
 ";
 
 const CLUSTER_STATUSES: &str = "\
-Statuses: 0 accepted, 1 refused, out of memory, or `not settled` (frames didn't come), 2 for a command line that isn't
-understood, 3 at a fault, which is named on standard error: `fault file P` (P is `topology`, `script` or `out`),
-`fault json`, `fault topology N`, `fault listen` (a port is taken), `fault journal P N`, `fault output`.
+Statuses: 0 accepted, 1 refused, out of memory, or `not settled` (frames were under way and none came within 10 seconds),
+2 for a command line that isn't understood, 3 at a fault, which is named on standard error: `fault file P` (P is
+`topology`, `script` or `out`), `fault json`, `fault topology N`, `fault listen` (a port is taken), `fault journal P N`,
+`fault output`.
 
 Example: cmh cluster --topology world.json --script asks --out journals
 ";
@@ -234,7 +253,7 @@ fn running(alloc: Global, lines: &str, statuses: &str) -> Result<String, AllocEr
         "   9  the journal could not be written, and no more steps are taken\n"
     )?;
     write!(text, "  10  the journal can't be written\n")?;
-    write!(text, "\n{LINK_FAULTS}\n{statuses}")?;
+    write!(text, "\n{LINK_FAULTS}\n{NOTES}\n{statuses}")?;
     Ok(text)
 }
 

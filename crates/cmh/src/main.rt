@@ -23,7 +23,8 @@ mod files;
 mod help;
 
 use crate::commands::{
-    AUDIT, CLUSTER, DRAW, JOURNAL, JOURNALS, OUT, PLAY, RUN, SHOW, SITE, TOPOLOGY, WHY, command,
+    AUDIT, CLUSTER, DRAW, JOURNAL, JOURNALS, NOTES, OUT, PLAY, RUN, SHOW, SITE, TOPOLOGY, WHY,
+    command,
 };
 use crate::drawing::draw;
 use crate::files::{cluster_files_of, files_of, journals_of, read_file};
@@ -32,14 +33,14 @@ use clap::{ArgMatches, Error, error};
 use cmh_files::{run_audit_run, run_audit_why};
 use cmh_frames::SiteId;
 use cmh_site::{
-    Ahead, Fault, Folder, Input, Output, run_audit, run_cluster, run_play, run_play_keeping,
-    run_show, run_site,
+    Ahead, Fault, Folder, Input, Noted, Output, Voice, run_audit, run_cluster_noting, run_play,
+    run_play_keeping, run_show, run_site_noting,
 };
 use std::fs::File;
 use std::io::{BufRead, BufReader, BufWriter, ErrorKind, Write};
 use std::net::{Net, TcpListener, TcpStream};
 use std::process::ExitCode;
-use std::rt::{Env, Files};
+use std::rt::{Clock, Env, Files};
 use std::sync::Wait;
 use std::thread::Threads;
 use std::{env, io};
@@ -65,6 +66,7 @@ where
         + Eprint
         + AllocGlobal
         + Files<File = File>
+        + Clock
         + Wait
         + Threads
         + Net<Listener = TcpListener, Stream = TcpStream>
@@ -121,7 +123,9 @@ fn carry_out<R, I: BufRead + Ahead, W: Write, E: Write>(
 ) -> u8
 where
     R: AllocGlobal
+        + Eprint
         + Files<File = File>
+        + Clock
         + Wait
         + Threads
         + Net<Listener = TcpListener, Stream = TcpStream>
@@ -295,9 +299,11 @@ fn serve_site<R, I: BufRead, W: Write, E: Write>(
 ) -> u8
 where
     R: AllocGlobal
+        + Eprint
         + Files<File = File>
         + Wait
         + Threads
+        + Clock
         + Net<Listener = TcpListener, Stream = TcpStream>
         + Copy
         + Send
@@ -323,7 +329,40 @@ where
         return Fault::Site.name_on(err);
     };
     let journal = words.get_str(JOURNAL).unwrap_or("");
-    run_site(*rt, rt.alloc(), &topology, site, journal, input, out, err)
+    let voice = voice_of(rt, words);
+    run_site_noting(
+        *rt,
+        rt.alloc(),
+        &topology,
+        site,
+        journal,
+        input,
+        out,
+        err,
+        voice,
+    )
+}
+
+/// Tells notes on standard error.
+#[derive(Drop)]
+struct OnError<R: Eprint + Drop> {
+    rt: R,
+}
+
+impl<R: Eprint + Drop> Voice for OnError<R> {
+    fn tell(&self, noted: &Noted) {
+        // A write to standard error that fails is ignored.
+        let _ = eprintln!(self.rt; "{noted}");
+    }
+}
+
+/// What tells the notes of sites, where the words ask for them.
+fn voice_of<R: Eprint + Copy + Drop>(rt: &R, words: &ArgMatches<'_>) -> Option<OnError<R>> {
+    if words.get_flag(NOTES) {
+        Some(OnError { rt: *rt })
+    } else {
+        None
+    }
 }
 
 /// The number of the site that the words name. The command line takes no word that is none.
@@ -343,7 +382,9 @@ fn serve_cluster<R, W: Write, E: Write>(
 ) -> u8
 where
     R: AllocGlobal
+        + Eprint
         + Files<File = File>
+        + Clock
         + Wait
         + Threads
         + Net<Listener = TcpListener, Stream = TcpStream>
@@ -357,7 +398,7 @@ where
 {
     let dir = words.get_str(OUT).unwrap_or("");
     match cluster_files_of(rt, words) {
-        Ok(files) => run_cluster(
+        Ok(files) => run_cluster_noting(
             *rt,
             rt.alloc(),
             &files.topology,
@@ -365,6 +406,7 @@ where
             dir,
             out,
             err,
+            voice_of(rt, words),
         ),
         Err(fault) => fault.name_on(err),
     }

@@ -45,11 +45,18 @@ fn start_sending<R>(
     rt: R,
     alloc: Global,
     world: &World,
-    own: TcpListen,
+    own: TcpListen<R>,
     port: u16,
 ) -> io::Result<(Running<R>, Sending<R>)>
 where
-    R: Wait + Threads + Net<Stream = TcpStream> + Copy + Send + Drop + 'static,
+    R: Wait
+        + Threads
+        + Clock
+        + Net<Listener = TcpListener, Stream = TcpStream>
+        + Copy
+        + Send
+        + Drop
+        + 'static,
     requires { own.faults ≡ 0 }
 {
     let (here, topology) = (world.here, &world.topology);

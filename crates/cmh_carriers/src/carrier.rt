@@ -13,9 +13,9 @@ use thiserror::Error;
 #[error("the connection failed")]
 pub struct IoFault;
 
-/// Another handle of a connection, by which whoever waits in its `read` is let go.
+/// Another handle of a connection, by which whoever waits in its `read` or `write` is let go.
 pub trait Line {
-    /// Ends the connection in both directions. A `read` that is under way answers the end.
+    /// Ends the connection in both directions. A `read` that is under way answers the end, and a `write` fails.
     fn shut(&self);
 }
 
@@ -76,6 +76,17 @@ pub trait Outgoing {
         ensures err { OnErr result (failures self.new ≡ failures self.old + 1) }
         ensures gives { write_gives self.old piece.now result self.new };
 
+    /// Looks whether the other end is gone, without a write: then the call fails. A carrier that can't see that never fails
+    /// here. It may wait for some milliseconds.
+    fn look(&mut self) -> Result<(), IoFault>
+        requires countable { failures self.old < 2 ^ 64 - 1 }
+        ensures taken { taken self.new ≡ taken self.old }
+        ensures ok { OnOk result (failures self.new ≡ failures self.old) }
+        ensures err { OnErr result (failures self.new ≡ failures self.old + 1) }
+    {
+        Ok(())
+    }
+
     /// How many calls have failed.
     fn faults(&self) -> u64
         ensures { result ≡ failures self.now };
@@ -117,6 +128,8 @@ pub trait Listen {
 pub trait Dial {
     type Out: Outgoing + Send + Drop + 'static;
 
+    type Line: Line + Send + Drop + 'static;
+
     /// How many calls have failed.
     ghost failures: { Self → ℕ };
 
@@ -127,6 +140,9 @@ pub trait Dial {
         ensures unwritten { IfOk result (λ outgoing. IfSome (Self.Out.taken outgoing) (λ bytes. bytes ≡ [])) }
         ensures ok { OnOk result (failures self.new ≡ failures self.old) }
         ensures err { OnErr result (failures self.new ≡ failures self.old + 1) };
+
+    /// Another handle of a connection. `None` where memory for one was refused.
+    fn line(&self, outgoing: &Self::Out) -> Option<Self::Line>;
 
     /// How many calls have failed.
     fn faults(&self) -> u64

@@ -8,7 +8,7 @@ mod stream;
 mod tcp;
 
 pub use crate::carrier::{Dial, Incoming, IoFault, Line, Listen, Outgoing};
-pub use crate::gate::Gate;
+pub use crate::gate::{Door, Gate};
 pub use crate::memory::{MemIncoming, MemOutgoing};
-pub use crate::stream::{Accept, StreamIncoming, StreamListen, StreamOutgoing};
+pub use crate::stream::{Accept, Look, StreamIncoming, StreamListen, StreamOutgoing};
 pub use crate::tcp::{TcpDial, TcpIncoming, TcpLine, TcpListen, TcpOutgoing, TcpPort};

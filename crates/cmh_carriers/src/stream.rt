@@ -81,6 +81,12 @@ impl<S: Read + Line + Drop> Incoming for StreamIncoming<S> {
     }
 }
 
+/// A stream that can tell whether its other end is gone.
+pub trait Look {
+    /// Whether it ended or failed. Bytes that came from the other end are no end, and hide one behind them.
+    fn has_ended(&self) -> bool;
+}
+
 /// The sending end of a connection over a stream, which gives the stream what it takes.
 #[derive(Drop)]
 pub struct StreamOutgoing<S: Write + Drop> {
@@ -104,9 +110,14 @@ impl<S: Write + Drop> StreamOutgoing<S> {
     {
         StreamOutgoing { stream, faults: 0 }
     }
+
+    /// What it writes.
+    pub fn stream(&self) -> &S {
+        &self.stream
+    }
 }
 
-impl<S: Write + Drop> Outgoing for StreamOutgoing<S> {
+impl<S: Write + Look + Drop> Outgoing for StreamOutgoing<S> {
     ghost failures = { λ s. s.faults };
 
     ghost taken = { λ _. None };
@@ -123,6 +134,15 @@ impl<S: Write + Drop> Outgoing for StreamOutgoing<S> {
                 Err(IoFault)
             }
         }
+    }
+
+    /// A stream that ended takes nothing more, which is a fault.
+    fn look(&mut self) -> Result<(), IoFault> {
+        if self.stream.has_ended() {
+            self.faults += 1;
+            return Err(IoFault);
+        }
+        Ok(())
     }
 
     fn faults(&self) -> u64 {

@@ -3,28 +3,44 @@
 ghost use Rattle.std.specs.Prelude.{◌≡◌, IfOk};
 
 use crate::carrier::{Dial, IoFault, Line};
-use crate::gate::Gate;
-use crate::stream::{Accept, StreamIncoming, StreamListen, StreamOutgoing};
+use crate::gate::{Door, Gate};
+use crate::stream::{Accept, Look, StreamIncoming, StreamListen, StreamOutgoing};
 use cmh_frames::SiteId;
 use std::alloc::Global;
-use std::io;
-use std::io::{ErrorKind, Read};
+use std::io::{ErrorKind, Read, Write};
 use std::net::{Ipv4Addr, Net, Shutdown, SocketAddr, TcpListener, TcpStream};
 use std::os::fd::OwnedFd;
 use std::sync::Arc;
-use std::time::Duration;
+use std::time::{Clock, Duration};
+use std::{io, thread};
 
 /// A write that moves no byte for so long has failed, so that a peer that reads nothing holds nobody for good.
 const MOST_WRITE_SECONDS: u64 = 60;
 
-/// A handle of a socket, which reads it and shuts it.
+/// A site whose connection isn't open by then could not be connected.
+const MOST_CONNECT_SECONDS: u64 = 10;
+
+/// How long a look waits for what the other end did.
+const LOOK_MILLISECONDS: u64 = 1;
+
+/// How long accepting pauses where there is no descriptor or no memory for one more connection.
+const PAUSE_MILLISECONDS: u64 = 100;
+
+/// A handle of a socket, which reads it, writes it and shuts it.
 #[derive(Drop)]
 pub struct TcpLine {
-    /// `None` where memory to share it was refused: then it is closed, and each read fails.
+    /// `None` where memory to share it was refused: then it is closed, and each read and write fails.
     socket: Option<Arc<TcpStream>>,
 }
 
 impl TcpLine {
+    /// The only handle of a socket.
+    fn new(alloc: Global, stream: TcpStream) -> TcpLine {
+        TcpLine {
+            socket: Arc::new(alloc, stream).ok(),
+        }
+    }
+
     /// Another handle of the same socket. `None` where there is none, or memory for one was refused.
     fn another(&self) -> Option<TcpLine> {
         match &self.socket {
@@ -51,6 +67,43 @@ impl Read for TcpLine {
     }
 }
 
+impl Write for TcpLine {
+    fn write(&mut self, piece: &[u8]) -> io::Result<usize> {
+        match &self.socket {
+            Some(socket) => {
+                let mut stream: &TcpStream = socket;
+                stream.write(piece)
+            }
+            None => Err(io::Error::from(ErrorKind::OutOfMemory)),
+        }
+    }
+
+    /// A socket holds nothing back.
+    fn flush(&mut self) -> io::Result<()> {
+        Ok(())
+    }
+}
+
+impl Look for TcpLine {
+    fn has_ended(&self) -> bool {
+        match &self.socket {
+            Some(socket) => match socket.peek(&mut [0]) {
+                Ok(count) => count == 0,
+                Err(error) => !is_silence(error.kind()),
+            },
+            None => true,
+        }
+    }
+}
+
+/// Whether an error of a read says only that nothing came in time.
+fn is_silence(kind: ErrorKind) -> bool {
+    matches!(
+        kind,
+        ErrorKind::WouldBlock | ErrorKind::TimedOut | ErrorKind::Interrupted
+    )
+}
+
 impl Line for TcpLine {
     fn shut(&self) {
         if let Some(socket) = &self.socket {
@@ -63,26 +116,63 @@ impl Line for TcpLine {
 pub type TcpIncoming = StreamIncoming<TcpLine>;
 
 /// The sending end of a connection that was opened here.
-pub type TcpOutgoing = StreamOutgoing<TcpStream>;
+pub type TcpOutgoing = StreamOutgoing<TcpLine>;
 
 /// A socket of a port.
 #[derive(Drop)]
-pub struct TcpPort {
+pub struct TcpPort<R: Clock + Drop> {
+    rt: R,
     alloc: Global,
     listener: TcpListener,
     /// Another handle of it, made here, so that closing it later needs no descriptor. `None` where memory for it was
     /// refused.
-    socket: Option<Arc<TcpStream>>,
+    door: Option<Arc<Door>>,
 }
 
-impl Accept for TcpPort {
+impl<R: Clock + Drop> TcpPort<R> {
+    fn is_shut(&self) -> bool {
+        match &self.door {
+            Some(door) => door.is_shut(),
+            None => false,
+        }
+    }
+}
+
+/// How long accepting pauses before it is tried again; `None` where it has failed for good. The numbers are those of Linux.
+fn pause_after(error: &io::Error) -> Option<Duration> {
+    /// The connection failed before it was accepted.
+    const EPROTO: i32 = 71;
+    /// No memory, no descriptor of the system or of the process, or no buffer.
+    const WANTS: [i32; 4] = [12, 23, 24, 105];
+    if error.kind() == ErrorKind::ConnectionAborted {
+        return Some(Duration::ZERO);
+    }
+    match error.raw_os_error() {
+        Some(EPROTO) => Some(Duration::ZERO),
+        Some(number) if WANTS.contains(&number) => Some(Duration::from_millis(PAUSE_MILLISECONDS)),
+        _ => None,
+    }
+}
+
+impl<R: Clock + Drop> Accept for TcpPort<R> {
     type Stream = TcpLine;
 
+    /// It is tried again after a connection that failed before it was accepted, and, with a pause, where a descriptor or
+    /// memory is missing.
     fn accept(&mut self) -> io::Result<TcpLine> {
-        let (stream, _) = self.listener.accept()?;
-        Ok(TcpLine {
-            socket: Arc::new(self.alloc, stream).ok(),
-        })
+        for _ in 0..u64::MAX {
+            if self.is_shut() {
+                break;
+            }
+            match self.listener.accept() {
+                Ok((stream, _)) => return Ok(TcpLine::new(self.alloc, stream)),
+                Err(error) => match pause_after(&error) {
+                    Some(pause) => thread::sleep(&self.rt, pause),
+                    None => return Err(error),
+                },
+            }
+        }
+        Err(io::Error::from(ErrorKind::NotConnected))
     }
 
     fn another(&self, stream: &TcpLine) -> Option<TcpLine> {
@@ -90,9 +180,9 @@ impl Accept for TcpPort {
     }
 
     fn gate(&self) -> Option<Gate> {
-        match &self.socket {
-            Some(socket) => match Arc::try_clone(socket) {
-                Ok(socket) => Some(Gate::new(socket)),
+        match &self.door {
+            Some(door) => match Arc::try_clone(door) {
+                Ok(door) => Some(Gate::new(door)),
                 Err(_) => None,
             },
             None => None,
@@ -100,22 +190,21 @@ impl Accept for TcpPort {
     }
 
     fn shut(&self) {
-        if let Some(socket) = &self.socket {
-            let _ = socket.shutdown(Shutdown::Both);
+        if let Some(door) = &self.door {
+            door.shut();
         }
     }
 }
 
 /// A port on which connections arrive.
-pub type TcpListen = StreamListen<TcpPort>;
+pub type TcpListen<R> = StreamListen<TcpPort<R>>;
 
-impl StreamListen<TcpPort> {
+impl<R> StreamListen<TcpPort<R>>
+where
+    R: Net<Listener = TcpListener, Stream = TcpStream> + Clock + Copy + Drop,
+{
     /// Listens on a port of 127.0.0.1; on a free one where the port is 0.
-    pub fn bind<R: Net<Listener = TcpListener, Stream = TcpStream>>(
-        rt: &R,
-        alloc: Global,
-        port: u16,
-    ) -> Result<TcpListen, IoFault>
+    pub fn bind(rt: &R, alloc: Global, port: u16) -> Result<TcpListen<R>, IoFault>
         ensures { IfOk result (λ listen. listen.faults ≡ 0) }
     {
         let Ok(listener) = TcpListener::bind(rt, SocketAddr::from((Ipv4Addr::LOCALHOST, port)))
@@ -125,11 +214,12 @@ impl StreamListen<TcpPort> {
         let Ok(other) = listener.try_clone() else {
             return Err(IoFault);
         };
-        let socket = TcpStream::from(OwnedFd::from(other));
+        let door = Door::new(TcpStream::from(OwnedFd::from(other)));
         Ok(StreamListen::new(TcpPort {
+            rt: *rt,
             alloc,
             listener,
-            socket: Arc::new(alloc, socket).ok(),
+            door: Arc::new(alloc, door).ok(),
         }))
     }
 
@@ -173,16 +263,21 @@ impl<R: Net<Stream = TcpStream> + Drop> TcpDial<R> {
     }
 }
 
-/// A connection whose writes are sent at once and don't wait for good.
+/// A connection whose writes are sent at once, and whose calls don't wait for good.
 fn open_stream<R: Net<Stream = TcpStream>>(
     rt: &R,
     address: SocketAddr,
 ) -> Result<TcpStream, IoFault> {
-    let Ok(stream) = TcpStream::connect(rt, address) else {
+    let connect = Duration::from_secs(MOST_CONNECT_SECONDS);
+    let Ok(stream) = TcpStream::connect_timeout(rt, &address, connect) else {
         return Err(IoFault);
     };
-    let timeout = Some(Duration::from_secs(MOST_WRITE_SECONDS));
-    if stream.set_nodelay(true).is_err() || stream.set_write_timeout(timeout).is_err() {
+    let write = Some(Duration::from_secs(MOST_WRITE_SECONDS));
+    let look = Some(Duration::from_millis(LOOK_MILLISECONDS));
+    if stream.set_nodelay(true).is_err()
+        || stream.set_write_timeout(write).is_err()
+        || stream.set_read_timeout(look).is_err()
+    {
         return Err(IoFault);
     }
     Ok(stream)
@@ -191,16 +286,23 @@ fn open_stream<R: Net<Stream = TcpStream>>(
 impl<R: Net<Stream = TcpStream> + Drop> Dial for TcpDial<R> {
     type Out = TcpOutgoing;
 
+    type Line = TcpLine;
+
     ghost failures = { λ s. s.faults };
 
     fn connect(&mut self, site: SiteId) -> Result<TcpOutgoing, IoFault> {
+        let alloc = *self.ports.allocator();
         match self.open(site) {
-            Ok(stream) => Ok(StreamOutgoing::new(stream)),
+            Ok(stream) => Ok(StreamOutgoing::new(TcpLine::new(alloc, stream))),
             Err(fault) => {
                 self.faults += 1;
                 Err(fault)
             }
         }
+    }
+
+    fn line(&self, outgoing: &TcpOutgoing) -> Option<TcpLine> {
+        outgoing.stream().another()
     }
 
     fn faults(&self) -> u64 {

@@ -9,7 +9,7 @@ use crate::telling::refusal_of;
 use cmh_carriers::MemIncoming;
 use cmh_frames::{Frame, SiteId};
 use cmh_lab_lines::{Answer, Unanswered, frame, number, size};
-use cmh_links::{FrameSource, Handover, ReaderEnd, SharedLinks, run_reader};
+use cmh_links::{FrameSource, Handover, Next, ReaderEnd, SharedLinks, run_reader};
 use cmh_reader::FrameReader;
 use cmh_script::Words;
 use cmh_station::StationRefusal;
@@ -100,27 +100,26 @@ impl Hands {
     }
 }
 
-/// Gives frames, so many times over. It tells no contract which.
+/// Gives frames, and looks between them, so many times over. It tells no contract which.
 #[derive(Drop)]
 pub struct Frames {
-    frames: Vec<Frame>,
+    turns: Vec<Next>,
     times: u64,
     at: usize,
     over: bool,
 }
 
 impl Frames {
-    fn give(&mut self) -> Option<Frame> {
-        if self.at >= self.frames.len() {
+    /// What comes next, which stays there.
+    fn ahead(&mut self) -> Next {
+        if self.at >= self.turns.len() {
             self.times = self.times.saturating_sub(1);
             self.at = 0;
         }
-        if self.times == 0 {
-            return None;
+        match self.turns.get(self.at) {
+            Some(next) if self.times > 0 => *next,
+            _ => Next::End,
         }
-        let frame = self.frames.get(self.at).copied();
-        self.at = self.at.saturating_add(1);
-        frame
     }
 }
 
@@ -131,20 +130,28 @@ impl FrameSource for Frames {
 
     ghost link_to = { λ _. 0 };
 
-    fn next(&mut self) -> Option<Frame> {
-        let frame = self.give();
-        if frame.is_none() {
+    fn next(&mut self) -> Next {
+        let next = self.ahead();
+        self.at = self.at.saturating_add(1);
+        if next == Next::End {
             self.over = true;
         }
-        frame
+        next
     }
 
     fn try_next(&mut self) -> Option<Frame> {
-        self.give()
+        match self.ahead() {
+            Next::Frame(frame) => {
+                self.at = self.at.saturating_add(1);
+                Some(frame)
+            }
+            Next::Look | Next::End => None,
+        }
     }
 }
 
-/// `frames NAME TIMES FRAME / FRAME ..`: a source that gives these, so many times over.
+/// `frames NAME TIMES FRAME / FRAME ..`: a source that gives these, so many times over. `look` in place of `/` is a look
+/// after the frame.
 pub fn make_frames<R: Wait + Copy + Drop>(
     alloc: Global,
     objects: &mut Objects<R>,
@@ -153,19 +160,20 @@ pub fn make_frames<R: Wait + Copy + Drop>(
 ) -> Result<(), Unanswered> {
     let name = word(words)?;
     let times = number(words)?;
-    let mut frames = Vec::new(alloc);
+    let mut turns = Vec::new(alloc);
     for _ in 0..u64::MAX {
         if words.is_empty() {
             break;
         }
-        frames.push(frame(words)?)?;
+        turns.push(Next::Frame(frame(words)?))?;
         match words.next_word() {
             None | Some(b"/") => {}
+            Some(b"look") => turns.push(Next::Look)?,
             Some(_) => return Err(Unanswered::BadLine),
         }
     }
     let frames = Frames {
-        frames,
+        turns,
         times,
         at: 0,
         over: false,

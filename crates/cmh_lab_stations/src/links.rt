@@ -31,7 +31,7 @@ pub fn make_links<R: Wait + Copy + Drop>(
     answer.word("ok")
 }
 
-fn fault_of(number: u64) -> Result<LinkFault, Unanswered> {
+pub fn fault_of(number: u64) -> Result<LinkFault, Unanswered> {
     Ok(match number {
         1 => LinkFault::Connect,
         2 => LinkFault::Read,
@@ -44,15 +44,20 @@ fn fault_of(number: u64) -> Result<LinkFault, Unanswered> {
     })
 }
 
+/// `new`, `open` or `closed FAULT`.
+pub fn state_of(words: &mut Words<'_>) -> Result<LinkState, Unanswered> {
+    match word(words)? {
+        b"new" => Ok(LinkState::Fresh),
+        b"open" => Ok(LinkState::Running),
+        b"closed" => Ok(LinkState::Closed(fault_of(number(words)?)?)),
+        _ => Err(Unanswered::BadLine),
+    }
+}
+
 fn put_state(state: Option<LinkState>, answer: &mut Answer) -> Result<(), Unanswered> {
     match state {
         None => answer.word("none"),
-        Some(LinkState::Fresh) => answer.word("new"),
-        Some(LinkState::Running) => answer.word("open"),
-        Some(LinkState::Closed(fault)) => {
-            answer.word("closed")?;
-            answer.word(fault.number())
-        }
+        Some(state) => answer.word(state),
     }
 }
 

@@ -12,6 +12,7 @@ mod hands;
 mod left;
 mod links;
 mod making;
+mod noting;
 mod object;
 mod shared;
 mod station;
@@ -66,6 +67,8 @@ impl<R: Wait + Copy + Drop> Lab for Stations<R> {
             b"links" => links::make_links(alloc, objects, words, answer),
             b"reader" => links::read_link(self.rt, alloc, objects, words, answer),
             b"writer" => links::write_link(self.rt, objects, words, answer),
+            b"note" => noting::tell_note(words, answer),
+            b"meter" => noting::make_meter(objects, words, answer),
             b"refusal" => {
                 let refusal = telling::refusal_of(number(words)?)?;
                 answer.word(refusal.number())?;
@@ -127,6 +130,10 @@ fn call<R: Wait + Copy + Drop>(
         Object::Links(links) => {
             let called = links::call_links(&rt, &links, words, answer);
             (Object::Links(links), called)
+        }
+        Object::Meter(mut meter) => {
+            let called = noting::call_meter(&mut meter, words, answer);
+            (Object::Meter(meter), called)
         }
         Object::Topology(_) | Object::Bytes(_) | Object::Frames(_) => (
             object,

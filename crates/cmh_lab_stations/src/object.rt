@@ -10,6 +10,7 @@ use cmh_carriers::MemIncoming;
 use cmh_frames::Topology;
 use cmh_lab_lines::{Slots, Unanswered};
 use cmh_links::SharedLinks;
+use cmh_notes::Meter;
 use std::sync::Wait;
 
 /// What a name stands for.
@@ -26,6 +27,7 @@ pub enum Object<R: Wait + Copy + Drop> {
     Hands(Hands),
     Frames(Frames),
     Links(SharedLinks),
+    Meter(Meter),
 }
 
 pub type Objects<R> = Slots<Object<R>>;

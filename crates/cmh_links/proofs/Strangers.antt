@@ -9,9 +9,9 @@ use Rattle.cmh_reader.specs.declared.standing.Standing.TheVariants.{Stranger}
 use Rattle.cmh_reader.proofs.Hellos.{one_hello}
 use Rattle.cmh_reader.proofs.OneReading.{reads_once}
 use Rattle.cmh_station.specs.declared.refusal.StationRefusal.{StationRefusal}
-use Rattle.cmh_links.specs.declared.reading.ReaderEnd.{ReaderEnd}
-use Rattle.cmh_links.specs.declared.reading.ReaderEnd.TheVariants.{NoLink, Refused, Closed}
-use Rattle.cmh_links.specs.Reading.{AreRead, EndedBy, Stopped, from_sender}
+use Rattle.cmh_loops.specs.declared.reading.ReaderEnd.{ReaderEnd}
+use Rattle.cmh_loops.specs.declared.reading.ReaderEnd.TheVariants.{NoLink, Refused, Closed}
+use Rattle.cmh_loops.specs.Reading.{AreRead, EndedBy, Stopped, from_sender}
 
 -- a stream that begins with such a hello has no frames
 no_more : (reader : Reader) (bytes : List ℕ) (all : List Frame) → BeginsStrange reader.edition reader.senders bytes → HasMore reader.edition reader.senders bytes all → ⊥

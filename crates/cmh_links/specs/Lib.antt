@@ -1,6 +1,2 @@
-pub mod Table
-pub mod Writing
-pub mod Reading
-pub mod Lent
 pub mod Threads
 pub mod TurnedAway

@@ -5,17 +5,17 @@ use Rattle.cmh_journal.specs.Sink.{known_and}
 use Rattle.cmh_reader.specs.Reader.{Reader}
 use Rattle.cmh_reader.specs.Stream.{BeginsStrange}
 use Rattle.cmh_station.specs.declared.refusal.StationRefusal.{StationRefusal}
-use Rattle.cmh_links.specs.declared.reading.ReaderEnd.{ReaderEnd}
-use Rattle.cmh_links.specs.declared.reading.ReaderEnd.TheVariants.{NoLink}
-use Rattle.cmh_links.specs.Reading.{Stopped}
+use Rattle.cmh_loops.specs.declared.reading.ReaderEnd.{ReaderEnd}
+use Rattle.cmh_loops.specs.declared.reading.ReaderEnd.TheVariants.{NoLink}
+use Rattle.cmh_loops.specs.Reading.{Stopped}
 
--- how many connections a site takes, ended ones among them
+-- how many connections of a site stand at once
 abbrev pub connection_limit : ℕ
 connection_limit = 256
 
--- at so many that were taken, the next one is turned away
+-- while so many stand, the next one is turned away
 abbrev pub is_turned_away : ℕ → Bool
-is_turned_away taken = nat_le connection_limit taken
+is_turned_away standing = nat_le connection_limit standing
 
 -- A connection whose bytes begin with the hello of a site that isn't expected got no link, and none of its bytes was
 -- handed over.

@@ -5,11 +5,13 @@ ghost use Rattle.cmh_reader.specs.Reader.{StandsFor, fresh};
 ghost use Rattle.cmh_links.specs.TurnedAway.{is_turned_away};
 
 use crate::hub::{Entrance, Hub};
-use crate::reading::run_reader;
+use crate::seats::{Seat, Seats};
 use crate::turned_away::turns_away;
 use cmh_carriers::{Incoming, Line, Listen};
 use cmh_journal::Sink;
-use cmh_reader::FrameReader;
+use cmh_loops::{ReaderEnd, run_reader};
+use cmh_notes::Note;
+use cmh_reader::{FrameReader, ReadFault};
 use cmh_station::Listing;
 use crossbeam_utils::sync::Parker;
 use std::alloc::{AllocError, Global};
@@ -17,9 +19,10 @@ use std::sync::atomic::Ordering;
 use std::sync::{Arc, Wait};
 use std::thread;
 use std::thread::{JoinHandle, Threads};
+use std::time::Clock;
 
-/// A reading thread, and another handle of its connection.
-type Reading<L> = (JoinHandle<()>, L);
+/// A reading thread, and its connection.
+type Reading<L> = (JoinHandle<()>, Arc<Seat<L>>);
 
 /// Accepts connections and starts a reading thread for each, until accepting fails or the site is ending. Once it is
 /// ending it waits for these threads.
@@ -27,11 +30,12 @@ pub(crate) fn accept_all<R, S, B, L>(
     rt: R,
     alloc: Global,
     hub: Arc<Hub<S, B>>,
+    seats: Arc<Seats<L::Line>>,
     mut listen: L,
     parker: Parker,
 )
 where
-    R: Wait + Threads + Copy + Send + Drop + 'static,
+    R: Wait + Threads + Clock + Copy + Send + Drop + 'static,
     S: Sink + Send + 'static,
     B: Listing + Send + 'static,
     L: Listen + Drop,
@@ -45,8 +49,10 @@ where
         if hub.ending.load(Ordering::SeqCst) {
             break;
         }
-        admit(rt, alloc, &hub, &listen, incoming, &mut readers);
+        give_up(&rt, &mut readers);
+        admit(rt, alloc, &hub, &seats, &listen, incoming, &mut readers);
     }
+    hub.note(&rt, Note::AcceptingEnded);
     listen.shut();
     drop(listen);
     for _ in rt.forever() {
@@ -55,11 +61,25 @@ where
         }
         parker.park(&rt);
     }
-    for (reader, line) in readers {
+    for (reader, seat) in readers {
         if hub.cutting.load(Ordering::SeqCst) {
-            line.shut();
+            seat.shut(&rt);
         }
         reader.join(&rt);
+    }
+}
+
+/// Gives up the threads whose connections have ended, so that these count no more.
+fn give_up<R: Wait + Threads, L: Line + Drop>(rt: &R, readers: &mut Vec<Reading<L>>)
+    ensures fewer { vec_len readers.new ≤ vec_len readers.old }
+{
+    let mut left = readers.len();
+    while left > 0 {
+        left -= 1;
+        if readers[left].1.is_over() {
+            let (reader, _) = readers.swap_remove(left);
+            reader.join(rt);
+        }
     }
 }
 
@@ -69,12 +89,13 @@ fn admit<R, S, B, L>(
     rt: R,
     alloc: Global,
     hub: &Arc<Hub<S, B>>,
+    seats: &Seats<L::Line>,
     listen: &L,
     incoming: L::In,
     readers: &mut Vec<Reading<L::Line>>,
 )
 where
-    R: Wait + Threads + Copy + Send + Drop + 'static,
+    R: Wait + Threads + Clock + Copy + Send + Drop + 'static,
     S: Sink + Send + 'static,
     B: Listing + Send + 'static,
     L: Listen,
@@ -82,17 +103,47 @@ where
     ensures turned_away { is_turned_away (vec_len readers.old) ≡ true → readers.new.items ≡ readers.old.items }
     ensures one { vec_len readers.new ≤ vec_len readers.old + 1 }
 {
-    if turns_away(readers.len()) || readers.reserve(1).is_err() {
+    if turns_away(readers.len()) {
+        hub.note(&rt, Note::TurnedAway);
         return;
     }
-    let Ok(theirs) = Arc::try_clone(hub) else {
-        return;
+    if readers.reserve(1).is_ok() {
+        if let Some(reading) = start_reader(rt, alloc, hub, seats, listen, incoming) {
+            let _ = readers.push(reading);
+            return;
+        }
+    }
+    hub.note(&rt, Note::NoThread);
+}
+
+/// Starts a reading thread. `None` where no memory or no thread can be had; then the connection is closed.
+fn start_reader<R, S, B, L>(
+    rt: R,
+    alloc: Global,
+    hub: &Arc<Hub<S, B>>,
+    seats: &Seats<L::Line>,
+    listen: &L,
+    incoming: L::In,
+) -> Option<Reading<L::Line>>
+where
+    R: Wait + Threads + Clock + Copy + Send + Drop + 'static,
+    S: Sink + Send + 'static,
+    B: Listing + Send + 'static,
+    L: Listen,
+    requires { L.In.failures incoming ≡ 0 }
+{
+    let theirs = Arc::try_clone(hub).ok()?;
+    let seat = seats.seat(&rt, listen.line(&incoming)?)?;
+    let Ok(taken) = Arc::try_clone(&seat) else {
+        seat.leave(&rt);
+        return None;
     };
-    let Some(line) = listen.line(&incoming) else {
-        return;
-    };
-    if let Ok(reader) = thread::spawn(&rt, move || serve(rt, alloc, theirs, incoming)) {
-        let _ = readers.push((reader, line));
+    match thread::spawn(&rt, move || serve(rt, alloc, theirs, taken, incoming)) {
+        Ok(reader) => Some((reader, seat)),
+        Err(_) => {
+            seat.leave(&rt);
+            None
+        }
     }
 }
 
@@ -106,18 +157,56 @@ fn reader_of<S: Sink, B: Listing>(alloc: Global, hub: &Hub<S, B>) -> Result<Fram
 }
 
 /// Reads a connection to its end, and closes it.
-fn serve<R, S, B, I>(rt: R, alloc: Global, hub: Arc<Hub<S, B>>, mut incoming: I)
+fn serve<R, S, B, I, L>(
+    rt: R,
+    alloc: Global,
+    hub: Arc<Hub<S, B>>,
+    seat: Arc<Seat<L>>,
+    mut incoming: I,
+)
 where
     R: Wait + Copy + Drop,
     S: Sink,
     B: Listing,
     I: Incoming + Drop,
+    L: Line + Drop,
     requires { I.failures incoming ≡ 0 }
 {
-    if let (Ok(mine), Ok(mut reader)) = (Arc::try_clone(&hub), reader_of(alloc, &hub)) {
-        let mut entrance = Entrance::new(rt, mine);
-        let _ = run_reader(&rt, &mut incoming, &mut reader, &hub.links, &mut entrance);
+    if let (Ok(mine), Ok(taken), Ok(mut reader)) = (
+        Arc::try_clone(&hub),
+        Arc::try_clone(&seat),
+        reader_of(alloc, &hub),
+    ) {
+        let mut entrance = Entrance::new(rt, mine, taken);
+        let end = run_reader(&rt, &mut incoming, &mut reader, &hub.links, &mut entrance);
+        note_end(&rt, &hub, &mut reader, end);
     }
-    // The accepting thread has another handle of it.
+    // Its seat has another handle of it.
     incoming.shut();
+    drop(incoming);
+    seat.leave(&rt);
+}
+
+/// Notes how reading ended: that a hello was refused, or that the link closed.
+fn note_end<R: Wait, S: Sink, B: Listing>(
+    rt: &R,
+    hub: &Hub<S, B>,
+    reader: &mut FrameReader,
+    end: ReaderEnd,
+) {
+    match end {
+        ReaderEnd::NoLink => {
+            // The reader answers its fault again. A connection that ended within its hello has none.
+            if let Err(ReadFault::BadHello | ReadFault::WrongSite) = reader.feed(&[]) {
+                hub.note(rt, Note::StrangeHello);
+            }
+        }
+        ReaderEnd::Refused(site) => {
+            let state = hub.links.lock(rt).state_in(site);
+            if let Some(state) = state {
+                hub.note(rt, Note::RefusedHello(site, state));
+            }
+        }
+        ReaderEnd::Closed(site, fault) => hub.note(rt, Note::ClosedIn(site, fault)),
+    }
 }

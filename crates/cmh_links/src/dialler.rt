@@ -36,4 +36,9 @@ impl<D: Dial> Dialler<D> {
     {
         self.dial.connect(site)
     }
+
+    /// Another handle of a connection. `None` where memory for one was refused.
+    pub fn line(&self, outgoing: &D::Out) -> Option<D::Line> {
+        self.dial.line(outgoing)
+    }
 }

@@ -1,18 +1,22 @@
 //! What the threads of a site share, and the two ways between its links and its station.
 
-ghost use Rattle.std.specs.Prelude.{◌≡◌, ◌==◌, ◌≤◌, [], ◌∷◌, ◌++◌, None, Some, filter, length, not, IfNone, IfOk, IfSome, OnOk};
+ghost use Rattle.std.specs.Prelude.{◌≡◌, ◌==◌, ◌≤◌, [], ◌∷◌, ◌++◌, None, Some, filter, length, not, true, IfOk, OnOk};
 ghost use Rattle.std.specs.Arc.{arc_value};
 ghost use Rattle.cmh_station.specs.Journaled.{others};
+ghost use Rattle.cmh_loops.specs.Writing.{Gave};
 
-use crate::reading::Handover;
-use crate::table::{LinkTable, SharedLinks};
-use crate::writing::FrameSource;
+use crate::seats::Seat;
+use cmh_carriers::Line;
 use cmh_frames::{Edition, Frame, SiteId, Topology};
 use cmh_journal::Sink;
+use cmh_loops::{FrameSource, Handover, Next};
+use cmh_notes::{Note, Speaker};
 use cmh_station::{Listing, ParkingTap, SharedStation, StationRefusal};
+use cmh_table::{LinkTable, SharedLinks};
 use std::alloc::{AllocError, Global};
-use std::sync::atomic::{AtomicBool, AtomicU16, Ordering};
+use std::sync::atomic::{AtomicBool, AtomicU16, AtomicU64, Ordering};
 use std::sync::{Arc, Wait};
+use std::thread::Parker;
 
 /// What the threads of a site share.
 #[derive(Drop)]
@@ -25,10 +29,18 @@ pub(crate) struct Hub<S: Sink, B: Listing> {
     pub others: Vec<SiteId>,
     /// Its writing threads end once they have nothing left.
     pub ending: AtomicBool,
-    /// Its reading threads end without waiting for their peers.
+    /// Its reading threads end without waiting for their peers, and its writing threads soon.
     pub cutting: AtomicBool,
+    /// Its watching thread ends.
+    pub is_done: AtomicBool,
+    /// What its watching thread sleeps on.
+    pub watcher: Parker,
+    /// How often its writing threads were to look at their connections.
+    pub looks: AtomicU64,
     /// The site to which no writing thread could be started, or 0.
     pub abandoned: AtomicU16,
+    /// What makes its notes, where they are wanted.
+    pub speaker: Option<Speaker>,
 }
 
 impl<S: Sink, B: Listing> Hub<S, B> {
@@ -38,6 +50,7 @@ impl<S: Sink, B: Listing> Hub<S, B> {
         topology: &Topology,
         site: SiteId,
         station: Arc<SharedStation<S, B>>,
+        speaker: Option<Speaker>,
     ) -> Result<Arc<Hub<S, B>>, AllocError>
         ensures edition { IfOk result (λ hub. (arc_value hub).edition ≡ topology.now.edition) }
         ensures site { IfOk result (λ hub. (arc_value hub).site ≡ site) }
@@ -55,10 +68,29 @@ impl<S: Sink, B: Listing> Hub<S, B> {
                 others,
                 ending: AtomicBool::new(false),
                 cutting: AtomicBool::new(false),
+                is_done: AtomicBool::new(false),
+                watcher: Parker::new(),
+                looks: AtomicU64::new(0),
                 abandoned: AtomicU16::new(0),
+                speaker,
             },
         )?;
         Ok(hub)
+    }
+
+    /// Notes something, where notes are wanted, unless the site is ending.
+    pub fn note<R: Wait>(&self, rt: &R, note: Note) {
+        if let Some(speaker) = &self.speaker {
+            if !self.ending.load(Ordering::SeqCst) {
+                speaker.note(rt, note);
+            }
+        }
+    }
+
+    /// Has the writing threads look at their connections. It waits for nobody.
+    pub fn look(&self) {
+        self.looks.fetch_add(1, Ordering::SeqCst);
+        self.station.wake();
     }
 }
 
@@ -84,26 +116,28 @@ fn push_other(sites: &mut Vec<SiteId>, other: SiteId, site: SiteId) -> Result<()
 
 /// Where a reading thread hands its frames to the station that all share.
 #[derive(Drop)]
-pub(crate) struct Entrance<R: Wait + Drop, S: Sink, B: Listing> {
+pub(crate) struct Entrance<R: Wait + Drop, S: Sink, B: Listing, L: Line + Drop> {
     rt: R,
     hub: Arc<Hub<S, B>>,
+    seat: Arc<Seat<L>>,
     refused: Option<StationRefusal>,
 }
 
-impl<R: Wait + Drop, S: Sink, B: Listing> Entrance<R, S, B> {
+impl<R: Wait + Drop, S: Sink, B: Listing, L: Line + Drop> Entrance<R, S, B, L> {
     /// It has refused nothing.
-    pub fn new(rt: R, hub: Arc<Hub<S, B>>) -> Self
+    pub fn new(rt: R, hub: Arc<Hub<S, B>>, seat: Arc<Seat<L>>) -> Self
         ensures { result.refused ≡ None }
     {
         Entrance {
             rt,
             hub,
+            seat,
             refused: None,
         }
     }
 }
 
-impl<R: Wait + Drop, S: Sink, B: Listing> Handover for Entrance<R, S, B> {
+impl<R: Wait + Drop, S: Sink, B: Listing, L: Line + Drop> Handover for Entrance<R, S, B, L> {
     ghost accepted = { λ _. None };
 
     ghost refused = { λ s. s.refused };
@@ -112,9 +146,11 @@ impl<R: Wait + Drop, S: Sink, B: Listing> Handover for Entrance<R, S, B> {
         self.hand_all(from, &[frame])
     }
 
-    /// The station, for as long as it is locked, takes the frames. The threads that write are woken then.
-    #[tactic(auto, using(crate::proofs::Batches::handed_untold, crate::proofs::Batches::some_left))]
+    /// The station, for as long as it is locked, takes the frames. The threads that write are woken then. A link is claimed
+    /// before, by a good hello.
+    #[tactic(auto, using(cmh_loops::proofs::Batches::handed_untold, cmh_loops::proofs::Batches::some_left))]
     fn hand_all(&mut self, from: SiteId, frames: &[Frame]) -> Result<(), StationRefusal> {
+        self.seat.tell();
         let answer = self
             .hub
             .station
@@ -124,6 +160,9 @@ impl<R: Wait + Drop, S: Sink, B: Listing> Handover for Entrance<R, S, B> {
         match answer {
             Ok(()) => Ok(()),
             Err(refusal) => {
+                if refusal == StationRefusal::Disk {
+                    self.hub.note(&self.rt, Note::Sealed);
+                }
                 self.refused = Some(refusal);
                 Err(refusal)
             }
@@ -137,6 +176,8 @@ pub(crate) struct Exit<R: Wait + Drop, S: Sink, B: Listing> {
     rt: R,
     hub: Arc<Hub<S, B>>,
     tap: ParkingTap,
+    /// How many looks it told.
+    looks: u64,
     over: bool,
 }
 
@@ -148,6 +189,7 @@ impl<R: Wait + Drop, S: Sink, B: Listing> Exit<R, S, B> {
             rt,
             hub,
             tap,
+            looks: 0,
             over: false,
         }
     }
@@ -160,37 +202,43 @@ impl<R: Wait + Drop, S: Sink, B: Listing> Exit<R, S, B> {
             rt: _,
             hub: _,
             tap,
+            looks: _,
             over: _,
         } = self;
         tap
     }
 }
 
-/// The next frame of a link, for which it waits. `None` once the site is ending and the last look at the ring, after one
-/// more release of the backlog, showed nothing.
+/// The next frame of a link, for which it waits, or a look that wasn't told. The end once the site is ending and the last
+/// look at the ring, after one more release of the backlog, showed nothing.
 fn next_of<R: Wait, S: Sink, B: Listing>(
     rt: &R,
     hub: &Hub<S, B>,
     tap: &mut ParkingTap,
-) -> Option<Frame>
+    looks: &mut u64,
+) -> Next
     ensures to { tap.new.to ≡ tap.old.to }
-    ensures some { IfSome result (λ frame. tap.new.taken ≡ tap.old.taken ++ frame ∷ []) }
-    ensures none { IfNone result (tap.new.taken ≡ tap.old.taken) }
+    ensures gave { Gave result (Some tap.old.taken) (Some tap.new.taken) true }
     ensures ring { tap.new.ring ≡ tap.old.ring }
-    ensures empty { IfNone result (tap.new.known ≡ []) }
+    ensures empty { result ≡ Next.End → tap.new.known ≡ [] }
 {
     for _ in rt.forever() {
         if let Some(frame) = tap.take() {
-            return Some(frame);
+            return Next::Frame(frame);
         }
         // Read before the last look, so that no frame that was there at the end is left.
         let ending = hub.ending.load(Ordering::SeqCst);
         hub.station.lock(rt).release();
         if let Some(frame) = tap.take() {
-            return Some(frame);
+            return Next::Frame(frame);
         }
         if ending {
-            return None;
+            return Next::End;
+        }
+        let wanted = hub.looks.load(Ordering::SeqCst);
+        if wanted != *looks {
+            *looks = wanted;
+            return Next::Look;
         }
         tap.park(rt);
     }
@@ -204,9 +252,9 @@ impl<R: Wait + Drop, S: Sink, B: Listing> FrameSource for Exit<R, S, B> {
 
     ghost link_to = { λ s. s.tap.to };
 
-    fn next(&mut self) -> Option<Frame> {
-        let next = next_of(&self.rt, &self.hub, &mut self.tap);
-        if next.is_none() {
+    fn next(&mut self) -> Next {
+        let next = next_of(&self.rt, &self.hub, &mut self.tap, &mut self.looks);
+        if next == Next::End {
             self.over = true;
         }
         next

@@ -2,21 +2,24 @@
 
 ghost use Rattle.std.specs.Prelude.{◌≡◌, ℕ, ◌+◌, ◌-◌, ◌<◌, ◌^◌, Bool, false, [], ◌∷◌, Option, Some, IfOk, OnOk, OnErr, length, not};
 ghost use Rattle.cmh_links.specs.Threads.{closed_with, is_failed, is_idle, leads_to};
-ghost use Rattle.cmh_links.specs.Writing.{Wrote};
-ghost use Rattle.cmh_links.specs.declared.table.LinkFault.{LinkFault};
+ghost use Rattle.cmh_loops.specs.Writing.{Wrote};
+ghost use Rattle.cmh_table.specs.declared.table.LinkFault.{LinkFault};
 
 use crate::dialler::Dialler;
 use crate::hub::{Exit, Hub};
-use crate::table::LinkFault;
-use crate::writing::run_writer;
-use cmh_carriers::{Dial, IoFault, Outgoing};
+use crate::seats::{Seat, Seats};
+use cmh_carriers::{Dial, IoFault, Line, Outgoing};
 use cmh_frames::SiteId;
 use cmh_journal::Sink;
+use cmh_loops::run_writer;
+use cmh_notes::Note;
 use cmh_station::{LinkTap, Listing, ParkingTap};
+use cmh_table::LinkFault;
 use std::sync::atomic::Ordering;
 use std::sync::{Arc, Wait};
 use std::thread;
 use std::thread::{Promise, PromisedHandle, Threads};
+use std::time::Clock;
 
 /// That a writing thread gives the tap of its link back.
 #[derive(Clone, Copy)]
@@ -43,11 +46,12 @@ pub(crate) fn open<R, S, B, D>(
     rt: R,
     hub: &Arc<Hub<S, B>>,
     dial: &mut Dialler<D>,
+    outs: &Seats<D::Line>,
     tap: ParkingTap,
     is_new: bool,
 ) -> Place
 where
-    R: Wait + Threads + Copy + Send + Drop + 'static,
+    R: Wait + Threads + Clock + Copy + Send + Drop + 'static,
     S: Sink + Send + 'static,
     B: Listing + Send + 'static,
     D: Dial,
@@ -62,9 +66,22 @@ where
         return Place::Idle(tap.into_tap());
     }
     match dial.connect(tap.to()) {
-        Ok(out) => start_writer(rt, hub, tap, out),
+        Ok(out) => match seat_of(&rt, dial, outs, &out) {
+            Some(seat) => start_writer(rt, hub, tap, out, seat),
+            None => closed(&rt, hub, tap.into_tap(), LinkFault::Memory),
+        },
         Err(IoFault) => closed(&rt, hub, tap.into_tap(), LinkFault::Connect),
     }
+}
+
+/// A seat for a connection that was opened. `None` where memory was refused.
+fn seat_of<R: Wait + Clock, D: Dial>(
+    rt: &R,
+    dial: &Dialler<D>,
+    outs: &Seats<D::Line>,
+    out: &D::Out,
+) -> Option<Arc<Seat<D::Line>>> {
+    outs.seat(rt, dial.line(out)?)
 }
 
 /// Closes the link of a tap.
@@ -77,16 +94,27 @@ fn closed<R: Wait, S: Sink, B: Listing>(
     ensures { result ≡ Place.Closed tap fault }
 {
     hub.links.lock(rt).close_out(tap.to(), fault);
+    if fault == LinkFault::Memory {
+        hub.note(rt, Note::NoThreadTo(tap.to()));
+    }
+    hub.note(rt, Note::ClosedOut(tap.to(), fault));
     Place::Closed { tap, fault }
 }
 
 /// Starts the writing thread of a link, or closes the link.
-fn start_writer<R, S, B, O>(rt: R, hub: &Arc<Hub<S, B>>, tap: ParkingTap, out: O) -> Place
+fn start_writer<R, S, B, O, L>(
+    rt: R,
+    hub: &Arc<Hub<S, B>>,
+    tap: ParkingTap,
+    out: O,
+    seat: Arc<Seat<L>>,
+) -> Place
 where
     R: Wait + Threads + Copy + Send + Drop + 'static,
     S: Sink + Send + 'static,
     B: Listing + Send + 'static,
     O: Outgoing + Send + Drop + 'static,
+    L: Line + Send + Drop + 'static,
     requires fresh { O.failures out ≡ 0 }
     ensures to { leads_to result ≡ tap.to }
     ensures new { is_idle result ≡ false }
@@ -95,9 +123,10 @@ where
 {
     let to = tap.to();
     let (Ok(theirs), Ok(own)) = (Arc::try_clone(hub), Arc::try_clone(hub)) else {
+        seat.leave(&rt);
         return closed(&rt, hub, tap.into_tap(), LinkFault::Memory);
     };
-    let run = move || write_unless_abandoned(rt, theirs, own, tap, out);
+    let run = move || write_unless_abandoned(rt, theirs, own, tap, out, seat);
     match thread::spawn_with(&rt, GivesBack { to }, run) {
         Ok(writer) => Place::Writing(writer),
         Err(refused) => {
@@ -124,25 +153,32 @@ fn abandon<S: Sink, B: Listing, F: FnOnce() -> LinkTap>(
 }
 
 /// What the writing thread of a link runs. The tap comes back.
-fn write_unless_abandoned<R, S, B, O>(
+fn write_unless_abandoned<R, S, B, O, L>(
     rt: R,
     hub: Arc<Hub<S, B>>,
     own: Arc<Hub<S, B>>,
     tap: ParkingTap,
     mut out: O,
+    seat: Arc<Seat<L>>,
 ) -> LinkTap
 where
     R: Wait + Copy + Drop,
     S: Sink,
     B: Listing,
     O: Outgoing + Drop,
+    L: Line + Drop,
     requires fresh { O.failures out ≡ 0 }
     ensures { result.to ≡ tap.to }
 {
-    if hub.abandoned.load(Ordering::SeqCst) == tap.to().get() {
-        return tap.into_tap();
-    }
-    write_link(rt, &hub, own, tap, &mut out)
+    let tap = if hub.abandoned.load(Ordering::SeqCst) == tap.to().get() {
+        tap.into_tap()
+    } else {
+        write_link(rt, &hub, own, tap, &mut out)
+    };
+    // Its seat has another handle of the connection.
+    drop(out);
+    seat.leave(&rt);
+    tap
 }
 
 /// Writes the frames of a tap until the site ends or a write fails, and closes the link.
@@ -167,8 +203,8 @@ where
     let to = tap.to();
     let mut exit = Exit::new(rt, own, tap);
     let fault = run_writer(&rt, out, hub.edition, hub.site, &mut exit);
-    hub.links
-        .lock(&rt)
-        .close_out(to, fault.unwrap_or(LinkFault::Ended));
+    let why = fault.unwrap_or(LinkFault::Ended);
+    hub.links.lock(&rt).close_out(to, why);
+    hub.note(&rt, Note::ClosedOut(to, why));
     exit.into_tap().into_tap()
 }

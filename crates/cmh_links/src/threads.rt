@@ -8,17 +8,21 @@ use crate::accepting::accept_all;
 use crate::dialler::Dialler;
 use crate::hub::Hub;
 use crate::opening::{Place, open};
-use crate::table::SharedLinks;
-use cmh_carriers::{Dial, Gate, Listen};
+use crate::seats::Seats;
+use crate::watching::{start_watching, stop_watching};
+use cmh_carriers::{Dial, Gate, Line, Listen};
 use cmh_frames::{SiteId, Topology};
 use cmh_journal::Sink;
+use cmh_notes::Speaker;
 use cmh_station::{LinkTap, Listing, ParkingTap, SharedStation};
+use cmh_table::SharedLinks;
 use crossbeam_utils::sync::{Parker, Unparker};
 use std::alloc::{AllocError, Global};
 use std::sync::atomic::Ordering;
 use std::sync::{Arc, Wait};
 use std::thread;
 use std::thread::{JoinHandle, Threads};
+use std::time::Clock;
 
 /// The running threads of a site. It isn't `Drop`: whoever starts it has to stop it.
 pub struct SiteThreads<R, S: Sink, B: Listing, D: Dial> {
@@ -28,6 +32,9 @@ pub struct SiteThreads<R, S: Sink, B: Listing, D: Dial> {
     accepting: JoinHandle<()>,
     accepter: Unparker,
     gate: Gate,
+    watching: JoinHandle<()>,
+    /// The connections that it opened.
+    outs: Arc<Seats<D::Line>>,
     /// The taps of the links that were not opened yet, the next one last.
     waiting: Vec<ParkingTap>,
     /// Those of the others, in their order.
@@ -42,9 +49,11 @@ pub struct SiteThreads<R, S: Sink, B: Listing, D: Dial> {
 }
 
 /// What `start` needs memory for.
-struct Parts<S: Sink, B: Listing> {
+struct Parts<S: Sink, B: Listing, L: Line + Drop, O: Line + Drop> {
     hub: Arc<Hub<S, B>>,
     theirs: Arc<Hub<S, B>>,
+    seats: Arc<Seats<L>>,
+    outs: Arc<Seats<O>>,
     parker: Parker,
     accepter: Unparker,
     places: Vec<Place>,
@@ -52,22 +61,25 @@ struct Parts<S: Sink, B: Listing> {
     ghost empty: { (places.items ≡ []) × (taps.items ≡ []) },
 }
 
-fn make_parts<S: Sink, B: Listing>(
+fn make_parts<S: Sink, B: Listing, L: Line + Drop, O: Line + Drop>(
     alloc: Global,
     topology: &Topology,
     site: SiteId,
     station: Arc<SharedStation<S, B>>,
+    speaker: Option<Speaker>,
     count: usize,
-) -> Result<Parts<S, B>, AllocError>
+) -> Result<Parts<S, B, L, O>, AllocError>
     ensures { IfOk result (λ parts. (count ≤ vec_capacity parts.places) × (count ≤ vec_capacity parts.taps)) }
 {
-    let hub = Hub::open(alloc, topology, site, station)?;
+    let hub = Hub::open(alloc, topology, site, station, speaker)?;
     let theirs = Arc::try_clone(&hub)?;
     let parker = Parker::new(alloc)?;
     let accepter = parker.unparker().clone()?;
     Ok(Parts {
         hub,
         theirs,
+        seats: Arc::new(alloc, Seats::new(alloc))?,
+        outs: Arc::new(alloc, Seats::new(alloc))?,
         parker,
         accepter,
         places: Vec::with_capacity(alloc, count)?,
@@ -77,13 +89,13 @@ fn make_parts<S: Sink, B: Listing>(
 
 impl<R, S, B, D> SiteThreads<R, S, B, D>
 where
-    R: Wait + Threads + Copy + Send + Drop + 'static,
+    R: Wait + Threads + Clock + Copy + Send + Drop + 'static,
     S: Sink + Send + 'static,
     B: Listing + Send + 'static,
     D: Dial,
 {
-    /// Starts the accepting thread. The taps are those of the station's links, ascending; they come back where memory
-    /// or a thread is refused.
+    /// Starts the accepting thread and the watching thread. The taps are those of the station's links, ascending; they
+    /// come back where memory or a thread is refused.
     pub fn start<L: Listen + Send + Drop + 'static>(
         rt: R,
         alloc: Global,
@@ -104,27 +116,58 @@ where
             ≡ map site_of taps.items) }
         ensures back { IfErr result (λ back. back ≡ taps) }
     {
+        SiteThreads::start_noting(rt, alloc, topology, site, station, taps, listen, dial, None)
+    }
+
+    /// As `start`, and what the threads notice is noted, where a speaker is given.
+    pub fn start_noting<L: Listen + Send + Drop + 'static>(
+        rt: R,
+        alloc: Global,
+        topology: &Topology,
+        site: SiteId,
+        station: Arc<SharedStation<S, B>>,
+        taps: Vec<ParkingTap>,
+        listen: L,
+        dial: D,
+        speaker: Option<Speaker>,
+    ) -> Result<SiteThreads<R, S, B, D>, Vec<ParkingTap>>
+    where
+        D: Drop,
+        requires listen { L.failures listen ≡ 0 }
+        requires dial { D.failures dial ≡ 0 }
+        ensures waiting { IfOk result (λ threads. vec_len threads.waiting ≡ vec_len taps) }
+        ensures none_open { IfOk result (λ threads. vec_len threads.places ≡ 0) }
+        ensures links { IfOk result (λ threads. link_sites threads.places.items threads.waiting.items
+            ≡ map site_of taps.items) }
+        ensures back { IfErr result (λ back. back ≡ taps) }
+    {
         let Some(gate) = listen.gate() else {
             return Err(taps);
         };
-        let Ok(parts) = make_parts(alloc, topology, site, station, taps.len()) else {
+        let Ok(parts) = make_parts(alloc, topology, site, station, speaker, taps.len()) else {
             return Err(taps);
         };
         let Parts {
             hub,
             theirs,
+            seats,
+            outs,
             parker,
             accepter,
             places,
             taps: room,
         } = parts;
+        let Some(watching) = start_watching(rt, &hub, &seats, &outs) else {
+            return Err(taps);
+        };
         let spawned = thread::spawn(
             &rt,
             move || -> ()
                 requires { L.failures listen ≡ 0 }
-            { accept_all(rt, alloc, theirs, listen, parker) },
+            { accept_all(rt, alloc, theirs, seats, listen, parker) },
         );
         let Ok(accepting) = spawned else {
+            stop_watching(&rt, &hub, watching);
             return Err(taps);
         };
         let mut waiting = taps;
@@ -136,6 +179,8 @@ where
             accepting,
             accepter,
             gate,
+            watching,
+            outs,
             waiting,
             places,
             taps: room,
@@ -170,7 +215,7 @@ where
         let mut failed = 0;
         while let Some(tap) = self.waiting.pop() {
             let is_new = self.hub.links.lock(&self.rt).open_out(tap.to());
-            let place = open(self.rt, &self.hub, &mut self.dial, tap, is_new);
+            let place = open(self.rt, &self.hub, &mut self.dial, &self.outs, tap, is_new);
             match &place {
                 Place::Idle(_) => {}
                 Place::Closed { .. } => failed += 1,
@@ -188,15 +233,16 @@ where
         self.accepter.unpark();
     }
 
-    /// As `end`, and `stop` will not wait for peers that keep their connections open. Frames that they sent and nobody
-    /// read are lost.
+    /// As `end`, and `stop` will not wait for peers that keep their connections open, nor for longer than some seconds for
+    /// those that read too slowly. Frames that they sent and nobody read are lost, as are those that were not written then.
     pub fn cut_off(&self) {
         self.hub.cutting.store(true, Ordering::SeqCst);
         self.end();
     }
 
     /// Ends and joins all threads, and gives the taps back, those of the links that `start` was given, in their order.
-    /// It waits for the writing threads of the other sites, unless `cut_off` was called before.
+    /// It waits for the writing threads of the other sites, and for their reading of what is written here, unless `cut_off`
+    /// was called before.
     pub fn stop(self) -> Vec<LinkTap>
     where
         D: Drop,
@@ -205,11 +251,13 @@ where
         self.end();
         let SiteThreads {
             rt,
-            hub: _,
+            hub,
             dial: _,
             accepting,
             accepter: _,
             gate,
+            watching,
+            outs: _,
             waiting,
             places,
             taps,
@@ -229,6 +277,7 @@ where
         }
         gate.shut();
         accepting.join(&rt);
+        stop_watching(&rt, &hub, watching);
         taps
     }
 }

@@ -12,5 +12,4 @@ mod reading;
 mod stop;
 mod walk;
 
-pub use crate::lowest::lowest_stop;
 pub use crate::stop::stop_of;

@@ -1,5 +1,5 @@
 -- What is counted of the frames that went on a link.
-use Rattle.std.specs.Prelude.{◌≡◌, ℕ, ◌-◌, ◌^◌, ◌<◌, List, Option, All, length, map, min, option_and_then, slice_get, slice_index_or}
+use Rattle.std.specs.Prelude.{◌≡◌, ℕ, ◌-◌, ◌^◌, ◌<◌, List, Option, All, length, map, min, option_and_then, slice_get, slice_index_or, sum_by}
 use Rattle.cmh_model.specs.Journals.{receipts_of, sendings_of}
 use Rattle.cmh_model.specs.Runs.{IsBeginningOf}
 use Rattle.cmh_model.specs.declared.journal.Entry.{Entry}
@@ -48,6 +48,10 @@ pub record IsNewTally (sites : List ℕ) (tally : Tally) : Type 0 where
   pub received : All (λ row. row.items ≡ map no_receipts sites) tally.received.items
   pub sent_by : length tally.sent.items ≡ length sites
   pub sent : All (λ row. row.items ≡ map no_sendings sites) tally.sent.items
+
+-- how many frames were got, on all links
+abbrev pub receipts_of_all : Tally → ℕ
+receipts_of_all tally = sum_by (λ row. sum_by (λ receipts. receipts.frames) row.items) tally.received.items
 
 -- what was got on the link from one place to another
 abbrev pub received_at : Tally → ℕ → ℕ → Option Receipts

@@ -4,14 +4,20 @@
 
 mod dialogue;
 mod journal_file;
+mod journal_place;
+mod journal_write;
 mod ports;
 mod settling;
+mod shelf;
 mod site_script;
 
 pub use crate::dialogue::Flow;
-pub use crate::journal_file::{Disk, NoFile, NoName, Shelf, Writable, can_be_made, keep_old};
+pub use crate::journal_file::{NoFile, can_be_made, keep_old};
+pub use crate::journal_place::{JournalFolder, JournalSink, NewJournal, make_journal};
+pub use crate::journal_write::JournalFile;
 pub use crate::ports::Ports;
-pub use crate::settling::{ReceiptLook, SendingLook, Tally};
+pub use crate::settling::{ReceiptLook, SendingLook, Silence, Tally};
+pub use crate::shelf::{Disk, NoName, Shelf, Writable};
 pub use crate::site_script::{
     ClusterLine, EventLine, Order, SiteLine, parse_for_cluster, parse_for_site,
 };

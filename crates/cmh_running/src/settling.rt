@@ -1,12 +1,18 @@
 //! Whether all frames that running sites sent have come.
 
-ghost use Rattle.std.specs.Prelude.{◌≡◌, ◌≢◌, ◌↔◌, ◌+◌, ◌-◌, ◌^◌, ◌<◌, ℕ, List, IfOk, IfSome, IsTrue, MatchOption, drop, length, map, min, slice_get, true, false, ⊤};
+ghost use Rattle.std.specs.Prelude.{◌≡◌, ◌≢◌, ◌↔◌, ◌+◌, ◌-◌, ◌^◌, ◌*◌, ◌<◌, ◌≤◌, ℕ, List, IfOk, IfSome, IsTrue, MatchOption, drop, length, map, min, slice_get, sum_by, true, false, ⊤};
+ghost use Rattle.std.specs.Duration.{as_nanos};
 ghost use Rattle.cmh_model.specs.Journals.{frame_from, frames_to, receipts_of, sendings_of};
-ghost use Rattle.cmh_running.specs.Settling.{AtEach, CountsReceipts, CountsSendings, IsNewTally, no_receipts, no_sendings, received_at, sent_at};
+ghost use Rattle.cmh_running.specs.Settling.{AtEach, CountsReceipts, CountsSendings, IsNewTally, no_receipts, no_sendings, received_at, receipts_of_all, sent_at};
 
 use cmh_frames::{Frame, SiteId};
 use cmh_model::{Entry, Event};
 use std::alloc::{AllocError, Global};
+use std::rt::Clock;
+use std::time::Duration;
+
+/// How long no frame comes before no more are waited for.
+const MOST_SILENT_SECONDS: u64 = 10;
 
 /// The frames that came on a link, by the first entries of the receiver's journal. The count stops at its greatest number.
 #[derive(Clone, Copy, Debug, PartialEq, Eq)]
@@ -230,6 +236,17 @@ impl Tally {
         look.places = place + 1;
     }
 
+    /// How many frames were got, on all links. The count stops at its greatest number.
+    pub fn receipts(&self) -> u64
+        ensures { result ≡ min (receipts_of_all self.now) (2 ^ 64 - 1) }
+    {
+        let mut count: u64 = 0;
+        for row in &self.received {
+            count = count.saturating_add(receipts_in(row));
+        }
+        count
+    }
+
     /// Whether as many frames were got as were sent from the site at one place to that at another.
     pub fn is_balanced(&self, from: usize, to: usize) -> bool
         ensures { MatchOption (received_at self.now from to) ⊤ (λ received.
@@ -253,6 +270,17 @@ impl Tally {
     {
         self.sent.get(from)?.get(to).copied()
     }
+}
+
+/// How many frames were got on the links to a site.
+fn receipts_in(row: &[Receipts]) -> u64
+    ensures { result ≡ min (sum_by (λ receipts. receipts.frames) row.now) (2 ^ 64 - 1) }
+{
+    let mut count: u64 = 0;
+    for receipts in row {
+        count = count.saturating_add(receipts.frames);
+    }
+    count
 }
 
 /// The links to a site, of which nothing was looked at.
@@ -292,5 +320,49 @@ fn count_each_sent(row: &mut [Sendings], entries: &[Entry])
 {
     for sendings in row.iter_mut() {
         sendings.count(entries);
+    }
+}
+
+/// The time since a frame came, while a cluster waits for more.
+#[derive(Drop)]
+pub struct Silence {
+    receipts: u64,
+    /// When so many had come first, by the clock.
+    since: Option<Duration>,
+    length: Duration,
+}
+
+impl Silence {
+    pub fn new() -> Silence {
+        Silence {
+            receipts: 0,
+            since: None,
+            length: Duration::ZERO,
+        }
+    }
+
+    /// Whether no frame has come for 10 seconds; so many have come in all. A clock that tells no time never says so.
+    pub fn lasts_too_long<R: Clock>(&mut self, rt: &R, receipts: u64) -> bool
+        // A frame that came ends the silence.
+        ensures ended { receipts ≢ self.old.receipts → result ≡ false }
+        ensures long { result ≡ true → 10 * 10 ^ 9 ≤ as_nanos self.new.length }
+    {
+        let Ok(now) = rt.monotonic() else {
+            return false;
+        };
+        match self.since {
+            Some(since) if receipts == self.receipts => self.length = now.saturating_sub(since),
+            _ => {
+                self.receipts = receipts;
+                self.since = Some(now);
+                self.length = Duration::ZERO;
+            }
+        }
+        self.length >= Duration::from_secs(MOST_SILENT_SECONDS)
+    }
+
+    /// Pauses for a hundredth of it, and at least for a millisecond.
+    pub fn pause<R: Clock>(&self, rt: &R) {
+        rt.sleep(Duration::from_millis(1).max(self.length / 100));
     }
 }

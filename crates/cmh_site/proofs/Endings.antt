@@ -42,3 +42,12 @@ module _ (site : ℕ) (start : Option (List ℕ)) (old : Option (List ℕ)) wher
         is = w.is;
         wrote = appends-more old said kept (codes "listening\n" ++ w.text) (codes "stopped\n") w.wrote (appends-kept _ _ _ _ last same);
       })
+
+  -- the same by a site that was started for this
+  pub served_by : (at : ℕ) (was : Bool) (said stopped kept : Option (List ℕ)) (has_failed : Bool) (r : Result (Unit {0}) Fault) (done : Unit {0})
+      → at ≡ site → was ≡ false → r ≡ Ok done → IfSome start (λ bytes. Welcomed at was bytes old said has_failed r)
+      → Appends said stopped (codes "stopped\n") → Keeps stopped kept → IfSome start (λ bytes. Served site bytes old kept)
+  served_by at was said stopped kept has_failed r done same unconnected is talked last flushed =
+      let here = subst (λ (s : ℕ). IfSome start (λ bytes. Welcomed s was bytes old said has_failed r)) same talked in
+      let fresh = subst (λ (w : Bool). IfSome start (λ bytes. Welcomed site w bytes old said has_failed r)) unconnected here in
+      served said stopped kept has_failed r done is fresh last flushed

@@ -2,20 +2,13 @@
 use Rattle.std.specs.Prelude.{ℕ, List, [], ◌∷◌, ◌++◌, codes}
 use Rattle.std.specs.Fmt.{decimal}
 use Rattle.cmh_files.specs.AuditTexts.{members_text, texts_of}
-use Rattle.cmh_links.specs.Table.{number_of}
-use Rattle.cmh_links.specs.declared.table.LinkState.{LinkState}
-use Rattle.cmh_links.specs.declared.table.LinkState.TheVariants.{Fresh, Running, Closed}
+use Rattle.cmh_table.specs.Table.{number_of, state_text}
 use Rattle.cmh_playground.specs.Texts.{done_text}
 use Rattle.cmh_station.specs.Journaled as station
 use Rattle.cmh_site.specs.declared.site_reply.ClosedLink.{ClosedLink}
 use Rattle.cmh_site.specs.declared.site_reply.LinkEnds.{LinkEnds}
 use Rattle.cmh_site.specs.declared.site_reply.SiteReply.{SiteReply}
 use Rattle.cmh_site.specs.declared.site_reply.SiteReply.TheVariants.{Silent, BadLine, BadLink, Late, Taken, Refused, Declared, Connected, Links}
-
-abbrev pub state_text : LinkState → List ℕ
-state_text Fresh = codes "new"
-state_text Running = codes "open"
-state_text (Closed fault) = codes "closed " ++ decimal (number_of fault)
 
 abbrev pub ends_text : LinkEnds → List ℕ
 ends_text ends = codes "out " ++ decimal ends.site ++ codes " " ++ state_text ends.outgoing

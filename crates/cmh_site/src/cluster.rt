@@ -15,18 +15,21 @@ ghost use Rattle.cmh_station.specs.declared.refusal.StationRefusal.TheVariants.{
 ghost use Rattle.cmh_site.specs.SiteTalk.{AnswersCluster, IsDeclared, IsTurnOfCluster, WasSaidToCluster, WasSteppedOrAway};
 
 use crate::site_reply::{ClosedLink, SiteReply};
-use crate::starting::{FileStation, Opened, Running, declared, open_station, start_threads, step};
+use crate::starting::{
+    FileStation, Opened, Running, declared, fault_of, open_station, start_threads, step,
+};
 use cmh_carriers::{Dial, Listen, TcpDial, TcpListen};
 use cmh_controller::Refusal;
 use cmh_files::{Fault, read_topology_file_with_ports, run_audit};
 use cmh_frames::{ProcId, SiteId, Topology};
-use cmh_journal::{FileSink, Sink};
+use cmh_journal::Sink;
 use cmh_links::{LinkFault, LinkState};
 use cmh_model::Event;
+use cmh_notes::{NoVoice, Noting, Origin, Speaker, Voice};
 use cmh_play::path_in;
 use cmh_running::{
-    ClusterLine, Disk, EventLine, Flow, Ports, ReceiptLook, SendingLook, Tally, can_be_made,
-    parse_for_cluster,
+    ClusterLine, Disk, EventLine, Flow, JournalFolder, JournalSink, Ports, ReceiptLook,
+    SendingLook, Silence, Tally, can_be_made, parse_for_cluster,
 };
 use cmh_script::{Input, NextLine, Output, read_line};
 use cmh_station::{BoardReader, KeptBoard, Listing, StationRefusal};
@@ -34,13 +37,16 @@ use std::alloc::{AllocError, Global};
 use std::fs::File;
 use std::io::{BufRead, ErrorKind, Write};
 use std::net::{Net, TcpListener, TcpStream};
-use std::rt::Files;
+use std::rt::{Clock, Files};
 use std::sync::{Arc, Wait};
 use std::thread::Threads;
 use std::{fs, thread};
 
 /// How often it is looked whether all frames have come, before the sites are said not to settle.
 const MOST_TURNS: u32 = 1_000_000;
+
+/// How many of these looks come without a pause before the next one.
+const BUSY_TURNS: u32 = 1_000;
 
 /// Runs all sites of a topology as threads, over TCP on 127.0.0.1, gives each line of the script to its site and waits
 /// until all frames have come, and then audits the journals that it wrote into the folder, as it reads them back.
@@ -60,6 +66,7 @@ pub fn run_cluster<R, W: Write, E: Write>(
 where
     R: Wait
         + Threads
+        + Clock
         + Net<Listener = TcpListener, Stream = TcpStream>
         + Files<File = File>
         + AllocGlobal
@@ -79,7 +86,52 @@ where
     ensures audit { result ≡ 0 → AuditsSome topology.now (W.contents out.new.inner) out.new.has_failed
         out.new.is_flushed (E.contents err.old.inner) (E.contents err.new.inner) err.new.has_failed result }
 {
-    match cluster_into(rt, alloc, topology, script, dir, out) {
+    let nobody: Option<NoVoice> = None;
+    run_cluster_noting(rt, alloc, topology, script, dir, out, err, nobody)
+}
+
+/// The same, where what the sites notice is told by a voice, if there is one, in a thread that nobody waits for.
+pub fn run_cluster_noting<R, W: Write, E: Write, V>(
+    rt: R,
+    alloc: Global,
+    topology: &[u8],
+    script: &[u8],
+    dir: &str,
+    out: &mut Output<W>,
+    err: &mut Output<E>,
+    voice: Option<V>,
+) -> u8
+where
+    R: Wait
+        + Threads
+        + Clock
+        + Net<Listener = TcpListener, Stream = TcpStream>
+        + Files<File = File>
+        + AllocGlobal
+        + Copy
+        + Send
+        + Drop
+        + 'static,
+    V: Voice + Send + Drop + 'static,
+    ensures status { IsStatus result }
+
+    // The audit of what was read back stands behind the answers to the script; or the sites did not settle, which is said;
+    // or a fault is named that has its cause.
+    ensures ends { ClusterEnds topology.now script.now (W.contents out.old.inner) (W.contents out.new.inner)
+        out.new.has_failed out.new.is_flushed (E.contents err.old.inner) (E.contents err.new.inner)
+        err.new.has_failed result }
+
+    // At status 0 the files that were read back were audited and accepted.
+    ensures audit { result ≡ 0 → AuditsSome topology.now (W.contents out.new.inner) out.new.has_failed
+        out.new.is_flushed (E.contents err.old.inner) (E.contents err.new.inner) err.new.has_failed result }
+{
+    let noting = match Noting::start(rt, alloc, voice) {
+        Ok(noting) => noting,
+        Err(AllocError) => return Fault::Memory.name_on(err),
+    };
+    let played = cluster_into(rt, alloc, topology, script, dir, out, &noting);
+    noting.end(&rt);
+    match played {
         Ok(Played::Read(journals)) => run_audit(alloc, topology, &journals, out, err),
         Ok(Played::NotSettled) => 1,
         Err(fault) => fault.name_on(err),
@@ -103,10 +155,12 @@ fn cluster_into<R, W: Write>(
     script: &[u8],
     dir: &str,
     out: &mut Output<W>,
+    noting: &Noting,
 ) -> Result<Played, Fault>
 where
     R: Wait
         + Threads
+        + Clock
         + Net<Listener = TcpListener, Stream = TcpStream>
         + Files<File = File>
         + AllocGlobal
@@ -120,7 +174,7 @@ where
         (W.contents out.new.inner) out.new.has_failed) }
 {
     let Setting { world, ports } = read_setting(alloc, topology)?;
-    match run_sites(rt, alloc, &world, &ports, script, dir, out)? {
+    match run_sites(rt, alloc, &world, &ports, script, dir, out, noting)? {
         Flow::Awaits => Ok(Played::Read(read_back(&rt, alloc, &world, dir)?)),
         Flow::Ends => {
             say_not_settled(out)?;
@@ -167,10 +221,12 @@ fn run_sites<R, W: Write>(
     script: &[u8],
     dir: &str,
     out: &mut Output<W>,
+    noting: &Noting,
 ) -> Result<Flow, Fault>
 where
     R: Wait
         + Threads
+        + Clock
         + Net<Listener = TcpListener, Stream = TcpStream>
         + Files<File = File>
         + Copy
@@ -182,7 +238,7 @@ where
     ensures fault { IfErr result (IsRunFault world.now script.now (W.contents out.old.inner)
         (W.contents out.new.inner) out.new.has_failed) }
 {
-    let mut cluster = Cluster::new(rt, alloc, world)?;
+    let mut cluster = Cluster::new(rt, alloc, world, noting)?;
     let played = cluster.play(ports, dir, script, out);
     cluster.stop();
     played
@@ -216,6 +272,7 @@ fn stop_all<R>(mut running: Vec<Running<R>>)
 where
     R: Wait
         + Threads
+        + Clock
         + Net<Listener = TcpListener, Stream = TcpStream>
         + Copy
         + Send
@@ -233,6 +290,7 @@ fn cut_off_all<R>(running: &[Running<R>])
 where
     R: Wait
         + Threads
+        + Clock
         + Net<Listener = TcpListener, Stream = TcpStream>
         + Copy
         + Send
@@ -249,6 +307,7 @@ where
 struct Member<R: Wait + Drop> {
     site: SiteId,
     station: Arc<FileStation<R>>,
+    speaker: Option<Speaker>,
     reader: BoardReader,
 }
 
@@ -257,18 +316,20 @@ struct Cluster<'a, R>
 where
     R: Wait
         + Threads
+        + Clock
         + Net<Listener = TcpListener, Stream = TcpStream>
         + Copy
         + Send
         + Drop
         + 'static,
-    FileSink<File>: Sink,
+    JournalSink: Sink,
     KeptBoard<R>: Listing,
     TcpDial<R>: Dial,
 {
     rt: R,
     alloc: Global,
     topology: &'a Topology,
+    noting: &'a Noting,
     tally: Tally,
     members: Vec<Member<R>>,
     running: Vec<Running<R>>,
@@ -278,6 +339,7 @@ impl<'a, R> Cluster<'a, R>
 where
     R: Wait
         + Threads
+        + Clock
         + Net<Listener = TcpListener, Stream = TcpStream>
         + Files<File = File>
         + Copy
@@ -286,7 +348,12 @@ where
         + 'static,
 {
     /// None of the sites runs yet.
-    fn new(rt: R, alloc: Global, topology: &'a Topology) -> Result<Self, AllocError>
+    fn new(
+        rt: R,
+        alloc: Global,
+        topology: &'a Topology,
+        noting: &'a Noting,
+    ) -> Result<Self, AllocError>
         ensures { IfOk result (λ cluster. cluster.topology.now ≡ topology.now) }
     {
         let tally = Tally::new(alloc, topology.sites())?;
@@ -296,6 +363,7 @@ where
             rt,
             alloc,
             topology,
+            noting,
             tally,
             members,
             running,
@@ -336,6 +404,7 @@ where
             rt: _,
             alloc: _,
             topology: _,
+            noting: _,
             tally: _tally,
             members: _members,
             running,
@@ -364,7 +433,7 @@ where
         site: SiteId,
         ports: &Ports,
         opened: Opened<R>,
-        listen: TcpListen,
+        listen: TcpListen<R>,
     ) -> Result<(), Fault>
         ensures topology { self.new.topology ≡ self.old.topology }
         ensures fault { IfErr result IsStartFault }
@@ -375,6 +444,24 @@ where
         }
         self.running.reserve(1)?;
         self.members.reserve(1)?;
+        let (member, threads) = self.start_member(site, ports, opened, listen)?;
+        self.members.push_reserved(member);
+        self.running.push_reserved(threads);
+        Ok(())
+    }
+
+    fn start_member(
+        &self,
+        site: SiteId,
+        ports: &Ports,
+        opened: Opened<R>,
+        listen: TcpListen<R>,
+    ) -> Result<(Member<R>, Running<R>), Fault>
+        requires { listen.faults ≡ 0 }
+        ensures fault { IfErr result (λ fault. fault ≡ Fault.Memory) }
+    {
+        let speaker = self.noting.speaker(Origin::Site(site))?;
+        let theirs = self.noting.speaker(Origin::Site(site))?;
         let (station, reader, threads) = start_threads(
             self.rt,
             self.alloc,
@@ -383,18 +470,19 @@ where
             ports,
             opened,
             listen,
+            theirs,
         )?;
-        self.members.push_reserved(Member {
+        let member = Member {
             site,
             station,
+            speaker,
             reader,
-        });
-        self.running.push_reserved(threads);
-        Ok(())
+        };
+        Ok((member, threads))
     }
 
     /// Listens for all sites. Where a port is taken and a journal can't be made, the journal is named.
-    fn listen_all(&self, ports: &Ports, dir: &str) -> Result<Vec<TcpListen>, Fault>
+    fn listen_all(&self, ports: &Ports, dir: &str) -> Result<Vec<TcpListen<R>>, Fault>
         ensures { IfErr result IsStartFault }
     {
         let mut listens = Vec::with_capacity(self.alloc, self.topology.sites().len())?;
@@ -421,22 +509,51 @@ where
         Err(Fault::Listen)
     }
 
+    /// Makes all journals anew; none where one of them can't be made, so that a cluster which runs keeps its journals.
     fn open_all(&self, dir: &str) -> Result<Vec<Opened<R>>, Fault>
+        ensures { IfErr result IsStartFault }
+    {
+        let sites = self.topology.sites();
+        let folder = match JournalFolder::of_sites(&self.rt, self.alloc, dir, sites) {
+            Ok(folder) => folder,
+            Err(refused) => return Err(fault_of(refused, Fault::OutFile)),
+        };
+        let opened = self.open_in(&folder, dir)?;
+        match folder.sync() {
+            Ok(()) => Ok(opened),
+            Err(refused) => Err(fault_of(refused, Fault::OutFile)),
+        }
+    }
+
+    fn open_in(&self, folder: &JournalFolder<'_, R>, dir: &str) -> Result<Vec<Opened<R>>, Fault>
         ensures { IfErr result IsStartFault }
     {
         let mut opened = Vec::with_capacity(self.alloc, self.topology.sites().len())?;
         for site in self.topology.sites() {
-            let path = path_in(self.alloc, dir, *site)?;
-            opened.push(open_station(
+            opened.push(self.open_one(folder, dir, *site)?)?;
+        }
+        Ok(opened)
+    }
+
+    fn open_one(
+        &self,
+        folder: &JournalFolder<'_, R>,
+        dir: &str,
+        site: SiteId,
+    ) -> Result<Opened<R>, Fault>
+        ensures { IfErr result IsStartFault }
+    {
+        match folder.replace(self.alloc, dir, site) {
+            Ok(sink) => open_station(
                 self.rt,
                 self.alloc,
                 self.topology,
-                *site,
-                path.as_str(),
+                site,
+                sink,
                 Fault::OutFile,
-            )?)?;
+            ),
+            Err(refused) => Err(fault_of(refused, Fault::OutFile)),
         }
-        Ok(opened)
     }
 
     /// Gives line after line to `answer`, until one ends it or none is left, and then another would be awaited.
@@ -510,7 +627,8 @@ where
     {
         for member in &self.members {
             if member.site == home {
-                return step(&self.rt, &member.station, event);
+                let speaker = member.speaker.as_ref();
+                return step(&self.rt, &member.station, speaker, event);
             }
         }
         // Never so: each site has its member.
@@ -529,15 +647,24 @@ where
         Ok(SiteReply::BadLink)
     }
 
-    /// Waits until all frames that were sent on open links have come, and answers whether they have.
+    /// Waits until all frames that were sent on open links have come, and answers whether they have. It gives up once none
+    /// came for long, and after `MOST_TURNS` looks at the latest.
     fn settle(&mut self) -> bool
         ensures { self.new.topology ≡ self.old.topology }
     {
+        let mut silence = Silence::new();
         for turn in 0..MOST_TURNS {
             if self.look() {
                 return true;
             }
-            thread::yield_now();
+            if silence.lasts_too_long(&self.rt, self.tally.receipts()) {
+                return false;
+            }
+            if turn < BUSY_TURNS {
+                thread::yield_now();
+            } else {
+                silence.pause(&self.rt);
+            }
         }
         false
     }
@@ -642,6 +769,7 @@ fn closed_out<R>(rt: &R, threads: &Running<R>, receiver: SiteId) -> Option<LinkF
 where
     R: Wait
         + Threads
+        + Clock
         + Net<Listener = TcpListener, Stream = TcpStream>
         + Copy
         + Send
@@ -656,6 +784,7 @@ fn closed_in<R>(rt: &R, threads: &Running<R>, sender: SiteId) -> Option<LinkFaul
 where
     R: Wait
         + Threads
+        + Clock
         + Net<Listener = TcpListener, Stream = TcpStream>
         + Copy
         + Send

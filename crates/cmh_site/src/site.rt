@@ -11,14 +11,16 @@ ghost use Rattle.cmh_site.specs.SiteTalk.{AnswersSite, CountsLinks, IsConnected,
 
 use crate::site_reply::SiteReply;
 use crate::starting::{
-    FileStation, Running, declared, link_ends, open_station, start_threads, step,
+    FileStation, Running, declared, fault_of, link_ends, open_station, start_threads, step,
 };
 use cmh_carriers::{Dial, TcpDial, TcpListen};
 use cmh_files::{Fault, read_topology_file_with_ports};
 use cmh_frames::{SiteId, Topology};
-use cmh_journal::{FileSink, Sink};
+use cmh_journal::Sink;
+use cmh_notes::{NoVoice, Note, Noting, Origin, Speaker, Voice};
 use cmh_running::{
-    Disk, EventLine, Flow, NoFile, Order, Ports, SiteLine, can_be_made, keep_old, parse_for_site,
+    Disk, EventLine, Flow, JournalSink, NewJournal, Order, Ports, SiteLine, can_be_made,
+    make_journal, parse_for_site,
 };
 use cmh_script::{Input, NextLine, Output, read_line};
 use cmh_station::{BoardReader, KeptBoard, Listing};
@@ -29,13 +31,14 @@ use std::net::{Net, TcpListener, TcpStream};
 use std::rt::Files;
 use std::sync::{Arc, Wait};
 use std::thread::Threads;
+use std::time::Clock;
 
 /// Runs one site of a topology until `quit` or the end of its input, and answers the status of the program: 0 then, 1 where
 /// memory ran out, 3 at any other fault. A fault is named on `err`, and a write to it that fails is ignored.
 ///
 /// Each line is answered, and the answer flushed, before the next one is awaited. The entry of a step is in the journal's
 /// file, and synced, before the step is answered. A file that stands at the journal's path and isn't empty is kept under
-/// the path with `.1` behind, or the first such name that is free.
+/// the path with a number behind, as `.1`, whose name was free.
 pub fn run_site<R, I: BufRead, W: Write, E: Write>(
     rt: R,
     alloc: Global,
@@ -49,6 +52,7 @@ pub fn run_site<R, I: BufRead, W: Write, E: Write>(
 where
     R: Wait
         + Threads
+        + Clock
         + Net<Listener = TcpListener, Stream = TcpStream>
         + Files<File = File>
         + Copy
@@ -68,13 +72,58 @@ where
         (IsSiteFault topology.now site (I.remaining input.old.inner) input.new.has_failed out.new.has_failed)
         result (E.contents err.old.inner) (E.contents err.new.inner) err.new.has_failed }
 {
-    match site_into(rt, alloc, topology, site, journal, input, out) {
+    let nobody: Option<NoVoice> = None;
+    run_site_noting(rt, alloc, topology, site, journal, input, out, err, nobody)
+}
+
+/// The same, where what the site notices is told by a voice, if there is one, in a thread that nobody waits for.
+pub fn run_site_noting<R, I: BufRead, W: Write, E: Write, V>(
+    rt: R,
+    alloc: Global,
+    topology: &[u8],
+    site: SiteId,
+    journal: &str,
+    input: &mut Input<I>,
+    out: &mut Output<W>,
+    err: &mut Output<E>,
+    voice: Option<V>,
+) -> u8
+where
+    R: Wait
+        + Threads
+        + Clock
+        + Net<Listener = TcpListener, Stream = TcpStream>
+        + Files<File = File>
+        + Copy
+        + Send
+        + Drop
+        + 'static,
+    V: Voice + Send + Drop + 'static,
+    ensures status { IsStatus result }
+
+    // At status 0 it said that it listens, answered each line in its order, and said that it stopped.
+    ensures served { result ≡ 0 → IfSome (I.remaining input.old.inner)
+        (λ bytes. Served site bytes (W.contents out.old.inner) (W.contents out.new.inner)) }
+    ensures flushed { result ≡ 0 → out.new.is_flushed ≡ true }
+    ensures silent { result ≡ 0 → err.new ≡ err.old }
+
+    // Else a fault is named that has a cause.
+    ensures fault { result ≢ 0 → NamesFault
+        (IsSiteFault topology.now site (I.remaining input.old.inner) input.new.has_failed out.new.has_failed)
+        result (E.contents err.old.inner) (E.contents err.new.inner) err.new.has_failed }
+{
+    let noting = match Noting::start(rt, alloc, voice) {
+        Ok(noting) => noting,
+        Err(AllocError) => return Fault::Memory.name_on(err),
+    };
+    let served = site_into(rt, alloc, topology, site, journal, input, out, &noting);
+    noting.end(&rt);
+    match served {
         Ok(()) => 0,
         Err(fault) => fault.name_on(err),
     }
 }
 
-#[tactic(auto, using(crate::proofs::Endings::served))]
 fn site_into<R, I: BufRead, W: Write>(
     rt: R,
     alloc: Global,
@@ -83,10 +132,12 @@ fn site_into<R, I: BufRead, W: Write>(
     journal: &str,
     input: &mut Input<I>,
     out: &mut Output<W>,
+    noting: &Noting,
 ) -> Result<(), Fault>
 where
     R: Wait
         + Threads
+        + Clock
         + Net<Listener = TcpListener, Stream = TcpStream>
         + Files<File = File>
         + Copy
@@ -105,54 +156,27 @@ where
         return Err(Fault::Site);
     }
     let ports = Ports::new(alloc, &file.rows, &ports)?;
-    let Some(port) = ports.of(site) else {
-        // Never so: each row has its port.
-        return Err(Fault::Listen);
-    };
-    let listen = listen_at(&rt, alloc, port, journal)?;
-    match keep_old(&mut Disk::new(&rt), alloc, journal) {
-        Ok(()) => {}
-        Err(NoFile::Memory) => return Err(Fault::Memory),
-        Err(NoFile::Disk) => return Err(Fault::JournalDisk),
-    }
-    let opened = open_station(rt, alloc, &world, site, journal, Fault::JournalDisk)?;
-    let (station, reader, threads) = start_threads(
-        rt, alloc, &world, site, &ports, opened, listen,
-    )?;
-    let mut host = SiteHost {
-        rt,
-        alloc,
-        topology: &world,
-        site,
-        station,
-        reader,
-        threads,
-        has_connected: false,
-    };
+    let mut host = SiteHost::start(rt, alloc, &world, site, &ports, journal, noting)?;
     let answered = host.serve(input, out);
-    let SiteHost {
-        rt: _,
-        alloc: _,
-        topology: _,
-        site: _,
-        station: _station,
-        reader: _reader,
-        threads,
-        has_connected: _,
-    } = host;
-    threads.cut_off();
-    let _ = threads.stop();
+    host.stop();
     answered?;
     out.write_line("stopped")?;
     out.flush()?;
     Ok(())
 }
 
+/// Notes the number under which a journal of before was kept.
+fn note_kept<R: Wait>(rt: &R, speaker: Option<&Speaker>, kept: Option<u32>) {
+    if let (Some(speaker), Some(number)) = (speaker, kept) {
+        speaker.note(rt, Note::Kept(number));
+    }
+}
+
 /// Listens on a port before the journal is made, so that a site which runs already keeps its journal, and one whose port
 /// is taken leaves nothing behind. Where both the journal can't be made and the port is taken, the journal is named.
-fn listen_at<R>(rt: &R, alloc: Global, port: u16, journal: &str) -> Result<TcpListen, Fault>
+fn listen_at<R>(rt: &R, alloc: Global, port: u16, journal: &str) -> Result<TcpListen<R>, Fault>
 where
-    R: Net<Listener = TcpListener, Stream = TcpStream> + Files<File = File>,
+    R: Net<Listener = TcpListener, Stream = TcpStream> + Files<File = File> + Clock + Copy + Drop,
     ensures listens { IfOk result (λ listen. listen.faults ≡ 0) }
     ensures fault { IfErr result (λ fault. (fault ≡ Fault.Listen) ⊎ (fault ≡ Fault.JournalDisk)
         ⊎ (fault ≡ Fault.Memory)) }
@@ -172,12 +196,13 @@ struct SiteHost<'a, R>
 where
     R: Wait
         + Threads
+        + Clock
         + Net<Listener = TcpListener, Stream = TcpStream>
         + Copy
         + Send
         + Drop
         + 'static,
-    FileSink<File>: Sink,
+    JournalSink: Sink,
     KeptBoard<R>: Listing,
     TcpDial<R>: Dial,
 {
@@ -186,6 +211,7 @@ where
     topology: &'a Topology,
     site: SiteId,
     station: Arc<FileStation<R>>,
+    speaker: Option<Speaker>,
     reader: BoardReader,
     threads: Running<R>,
     has_connected: bool,
@@ -195,12 +221,75 @@ impl<'a, R> SiteHost<'a, R>
 where
     R: Wait
         + Threads
+        + Clock
         + Net<Listener = TcpListener, Stream = TcpStream>
+        + Files<File = File>
         + Copy
         + Send
         + Drop
         + 'static,
 {
+    /// Takes the site's port, makes its journal, and starts its threads.
+    fn start(
+        rt: R,
+        alloc: Global,
+        topology: &'a Topology,
+        site: SiteId,
+        ports: &Ports,
+        journal: &str,
+        noting: &Noting,
+    ) -> Result<Self, Fault>
+        ensures site { IfOk result (λ host. host.site ≡ site) }
+        ensures unconnected { IfOk result (λ host. host.has_connected ≡ false) }
+        ensures fault { IfErr result (λ fault. (fault ≡ Fault.Listen) ⊎ (fault ≡ Fault.JournalDisk)
+            ⊎ (fault ≡ Fault.Memory)) }
+    {
+        let speaker = noting.speaker(Origin::Alone)?;
+        let theirs = noting.speaker(Origin::Alone)?;
+        let Some(port) = ports.of(site) else {
+            // Never so: each row has its port.
+            return Err(Fault::Listen);
+        };
+        let listen = listen_at(&rt, alloc, port, journal)?;
+        let NewJournal { sink, kept } = match make_journal(&rt, alloc, journal) {
+            Ok(made) => made,
+            Err(refused) => return Err(fault_of(refused, Fault::JournalDisk)),
+        };
+        let opened = open_station(rt, alloc, topology, site, sink, Fault::JournalDisk)?;
+        note_kept(&rt, speaker.as_ref(), kept);
+        let (station, reader, threads) = start_threads(
+            rt, alloc, topology, site, ports, opened, listen, theirs,
+        )?;
+        Ok(SiteHost {
+            rt,
+            alloc,
+            topology,
+            site,
+            station,
+            speaker,
+            reader,
+            threads,
+            has_connected: false,
+        })
+    }
+
+    /// Ends the threads.
+    fn stop(self) {
+        let SiteHost {
+            rt: _,
+            alloc: _,
+            topology: _,
+            site: _,
+            station: _station,
+            speaker: _speaker,
+            reader: _reader,
+            threads,
+            has_connected: _,
+        } = self;
+        threads.cut_off();
+        let _ = threads.stop();
+    }
+
     /// Says that it listens, and answers line after line.
     fn serve<I: BufRead, W: Write>(
         &mut self,
@@ -266,7 +355,8 @@ where
             SiteLine::Event(EventLine::Silent) => Ok((SiteReply::Silent, Flow::Awaits)),
             SiteLine::Event(EventLine::Bad) => Ok((SiteReply::BadLine, Flow::Awaits)),
             SiteLine::Event(EventLine::Act { process: _, event }) => {
-                Ok((step(&self.rt, &self.station, &event), Flow::Awaits))
+                let speaker = self.speaker.as_ref();
+                Ok((step(&self.rt, &self.station, speaker, &event), Flow::Awaits))
             }
             SiteLine::Order(Order::Declared) => {
                 let reply = declared(&self.rt, self.site, &self.station, &mut self.reader)?;

@@ -2,7 +2,7 @@
 
 ghost use Rattle.std.specs.Prelude.{Some};
 ghost use Rattle.cmh_files.specs.AuditTexts.{members_text, texts_of};
-ghost use Rattle.cmh_site.specs.SiteReplies.{closed_text, ends_text, reply_text, state_text};
+ghost use Rattle.cmh_site.specs.SiteReplies.{closed_text, ends_text, reply_text};
 
 use cmh_frames::{ProcId, SiteId};
 use cmh_links::{LinkFault, LinkState};
@@ -40,32 +40,13 @@ pub struct LinkEnds {
     pub incoming: LinkState,
 }
 
-/// A link's state, as it is printed.
-#[derive(Clone, Copy)]
-struct StateText(LinkState);
-
-impl fmt::Display for StateText {
-    ghost output = { λ text. Some (state_text text.0) };
-
-    fn fmt<W: fmt::Write>(&self, f: &mut fmt::Formatter<W>) -> fmt::Result {
-        match self.0 {
-            LinkState::Fresh => write!(f, "new"),
-            LinkState::Running => write!(f, "open"),
-            LinkState::Closed(fault) => {
-                let number = fault.number();
-                write!(f, "closed {number}")
-            }
-        }
-    }
-}
-
 impl fmt::Display for LinkEnds {
     ghost output = { λ ends. Some (ends_text ends) };
 
     fn fmt<W: fmt::Write>(&self, f: &mut fmt::Formatter<W>) -> fmt::Result {
         let site = self.site;
-        let outgoing = StateText(self.outgoing);
-        let incoming = StateText(self.incoming);
+        let outgoing = self.outgoing;
+        let incoming = self.incoming;
         write!(f, "out {site} {outgoing}\nin {site} {incoming}\n")
     }
 }

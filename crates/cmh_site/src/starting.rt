@@ -10,50 +10,59 @@ use crate::site_reply::{LinkEnds, SiteReply};
 use cmh_carriers::{TcpDial, TcpListen};
 use cmh_files::Fault;
 use cmh_frames::{SiteId, Topology};
-use cmh_journal::FileSink;
 use cmh_links::SiteThreads;
 use cmh_model::Event;
+use cmh_notes::{Note, Speaker};
 use cmh_playground::Done;
-use cmh_running::Ports;
+use cmh_running::{JournalSink, NoFile, Ports};
 use cmh_station::{BoardReader, KeptBoard, LinkTap, SharedStation, Station, StationRefusal};
 use std::alloc::{AllocError, Global};
-use std::fs::File;
 use std::net::{Net, TcpListener, TcpStream};
-use std::rt::Files;
 use std::sync::{Arc, Wait};
 use std::thread::Threads;
+use std::time::Clock;
 
 /// A station whose journal is a file, with the lock round it.
-pub(crate) type FileStation<R> = SharedStation<FileSink<File>, KeptBoard<R>>;
+pub(crate) type FileStation<R> = SharedStation<JournalSink, KeptBoard<R>>;
 
 /// The threads of a site over TCP.
-pub(crate) type Running<R> = SiteThreads<R, FileSink<File>, KeptBoard<R>, TcpDial<R>>;
+pub(crate) type Running<R> = SiteThreads<R, JournalSink, KeptBoard<R>, TcpDial<R>>;
 
 /// A station that no thread has yet, the taps of its links, and the reader of its board.
 #[derive(Drop)]
 pub(crate) struct Opened<R: Wait + Drop> {
-    station: Station<FileSink<File>, KeptBoard<R>>,
+    station: Station<JournalSink, KeptBoard<R>>,
     taps: Vec<LinkTap>,
     reader: BoardReader,
 }
 
-/// Makes the journal of a site at this path, and its station. Where the disk refuses it, the given fault is answered.
+/// The fault of a journal that can't be made; the given one where the disk refused it.
+pub(crate) fn fault_of(refused: NoFile, disk: Fault) -> Fault
+    ensures disk { refused ≡ NoFile.Disk → result ≡ disk }
+    ensures memory { refused ≡ NoFile.Memory → result ≡ Fault.Memory }
+    ensures either { (result ≡ disk) ⊎ (result ≡ Fault.Memory) }
+{
+    match refused {
+        NoFile::Disk => disk,
+        NoFile::Memory => Fault::Memory,
+    }
+}
+
+/// Makes the station of a site over its journal. Where the disk refuses the journal's header, the given fault is answered.
 pub(crate) fn open_station<R>(
     rt: R,
     alloc: Global,
     topology: &Topology,
     site: SiteId,
-    path: &str,
+    sink: JournalSink,
     disk: Fault,
 ) -> Result<Opened<R>, Fault>
 where
-    R: Wait + Files<File = File> + Copy + Drop,
+    R: Wait + Copy + Drop,
+    requires { sink.faults ≡ 0 }
     ensures fresh { IfOk result (λ opened. IsNewStation topology.now site opened.station.core) }
     ensures fault { IfErr result (λ fault. (fault ≡ disk) ⊎ (fault ≡ Fault.Memory)) }
 {
-    let Ok(sink) = FileSink::create(&rt, path) else {
-        return Err(disk);
-    };
     let (station, taps, mut readers) = match Station::new(rt, alloc, topology, site, sink, 1) {
         Ok(opened) => opened,
         Err((StationRefusal::Rule(_), _)) => return Err(Fault::Memory),
@@ -80,11 +89,13 @@ pub(crate) fn start_threads<R>(
     site: SiteId,
     ports: &Ports,
     opened: Opened<R>,
-    listen: TcpListen,
+    listen: TcpListen<R>,
+    speaker: Option<Speaker>,
 ) -> Result<Started<R>, Fault>
 where
     R: Wait
         + Threads
+        + Clock
         + Net<Listener = TcpListener, Stream = TcpStream>
         + Copy
         + Send
@@ -104,14 +115,22 @@ where
     let station = Arc::new(alloc, shared)?;
     let theirs = Arc::try_clone(&station)?;
     let dial = TcpDial::new(rt, ports.pairs(alloc)?);
-    match SiteThreads::start(rt, alloc, topology, site, theirs, taps, listen, dial) {
+    match SiteThreads::start_noting(
+        rt, alloc, topology, site, theirs, taps, listen, dial, speaker,
+    ) {
         Ok(threads) => Ok((station, reader, threads)),
         Err(_) => Err(Fault::Memory),
     }
 }
 
-/// Gives an event to a station, and wakes the threads that write what it sent once the lock is given back.
-pub(crate) fn step<R: Wait + Drop>(rt: &R, station: &FileStation<R>, event: &Event) -> SiteReply
+/// Gives an event to a station, and wakes the threads that write what it sent once the lock is given back. Where the
+/// journal can't be written, that is noted.
+pub(crate) fn step<R: Wait + Drop>(
+    rt: &R,
+    station: &FileStation<R>,
+    speaker: Option<&Speaker>,
+    event: &Event,
+) -> SiteReply
     ensures { WasStepped event.now result }
 {
     let answer = station.lock(rt).step(rt, event);
@@ -121,7 +140,18 @@ pub(crate) fn step<R: Wait + Drop>(rt: &R, station: &FileStation<R>, event: &Eve
             sent: outcome.sent.as_slice().len(),
             declared: outcome.declared,
         }),
-        Err(refusal) => SiteReply::Refused(refusal),
+        Err(refusal) => {
+            note_seal(rt, speaker, refusal);
+            SiteReply::Refused(refusal)
+        }
+    }
+}
+
+fn note_seal<R: Wait>(rt: &R, speaker: Option<&Speaker>, refusal: StationRefusal) {
+    if refusal == StationRefusal::Disk {
+        if let Some(speaker) = speaker {
+            speaker.note(rt, Note::Sealed);
+        }
     }
 }
 
@@ -158,6 +188,7 @@ pub(crate) fn link_ends<R>(
 where
     R: Wait
         + Threads
+        + Clock
         + Net<Listener = TcpListener, Stream = TcpStream>
         + Copy
         + Send

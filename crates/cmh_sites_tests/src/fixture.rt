@@ -124,7 +124,7 @@ pub fn start<R, L>(
     ports: &[(SiteId, u16)],
 ) -> Result<(Running<R>, Arc<Shared<R>>), AllocError>
 where
-    R: Wait + Threads + Net<Stream = TcpStream> + Copy + Send + Drop + 'static,
+    R: Wait + Threads + Clock + Net<Stream = TcpStream> + Copy + Send + Drop + 'static,
     L: Listen + Send + Drop + 'static,
     requires { L.failures listen ≡ 0 }
 {

@@ -14,9 +14,10 @@ use std::sync::{Arc, Wait};
 use std::test::Fail;
 use std::thread;
 use std::thread::Threads;
+use std::time::{Clock, Duration};
 
-/// After so many turns a connection fails whose time hasn't come.
-const TURNS: u64 = 1_000_000;
+/// After so many milliseconds a connection fails whose time hasn't come.
+const TURNS: u64 = 15_000;
 
 /// A hello of site 1 and request 101 301.
 const FIRST: [u8; 11] = [0x43, 0x4D, 0x48, 1, 0, 1, 1, 0, 101, 1, 45];
@@ -27,30 +28,45 @@ const SECOND: [u8; 11] = [0x43, 0x4D, 0x48, 1, 0, 2, 1, 0, 201, 1, 45];
 /// Request 202 301.
 const THIRD: [u8; 5] = [1, 0, 202, 1, 45];
 
-/// Bytes that are given once the site's journal has had so many syncs.
+/// Bytes that are given once the site's journal has had so many syncs, or, too, once it accepts no more connections.
 #[derive(Clone, Copy)]
 struct Part {
     bytes: &'static [u8],
     syncs: u64,
+    is_late: bool,
 }
 
 const END: Part = Part {
     bytes: &[],
     syncs: 0,
+    is_late: false,
+};
+
+const LATE_END: Part = Part {
+    bytes: &[],
+    syncs: 0,
+    is_late: true,
 };
 
 /// A connection that gives its parts, the last one first, and then its end.
 #[derive(Drop)]
-struct Gated {
+struct Gated<R: Clock + Drop> {
+    rt: R,
     parts: Vec<Part>,
     watch: Arc<Watch>,
     over: bool,
     faults: u64,
 }
 
-impl Gated {
-    fn new(alloc: Global, parts: &[Part], watch: &Arc<Watch>) -> Result<Gated, AllocError> {
+impl<R: Clock + Drop> Gated<R> {
+    fn new(
+        rt: R,
+        alloc: Global,
+        parts: &[Part],
+        watch: &Arc<Watch>,
+    ) -> Result<Gated<R>, AllocError> {
         Ok(Gated {
+            rt,
             parts: parts.to_vec(alloc)?,
             watch: Arc::try_clone(watch)?,
             over: false,
@@ -58,19 +74,21 @@ impl Gated {
         })
     }
 
-    /// Whether the journal has had so many syncs, within so many turns.
-    fn has_come(&self, syncs: u64) -> bool {
+    /// Whether the time of a part has come, within so many turns.
+    fn has_come(&self, part: Part) -> bool {
         for _ in 0..TURNS {
-            if self.watch.syncs.load(Ordering::SeqCst) >= syncs {
+            let syncs = self.watch.syncs.load(Ordering::SeqCst);
+            let is_late = self.watch.has_shut.load(Ordering::SeqCst);
+            if syncs >= part.syncs && (is_late || !part.is_late) {
                 return true;
             }
-            thread::yield_now();
+            thread::sleep(&self.rt, Duration::from_millis(1));
         }
         false
     }
 }
 
-impl Incoming for Gated {
+impl<R: Clock + Drop> Incoming for Gated<R> {
     ghost failures = { λ s. s.faults };
 
     ghost given = { λ _. None };
@@ -81,7 +99,7 @@ impl Incoming for Gated {
         self.watch.reads.fetch_add(1, Ordering::SeqCst);
         let part = self.parts.pop().unwrap_or(END);
         let count = part.bytes.len();
-        if count > buffer.len() || !self.has_come(part.syncs) {
+        if count > buffer.len() || !self.has_come(part) {
             self.faults += 1;
             return Err(IoFault);
         }
@@ -106,20 +124,20 @@ impl Line for NoLine {
 
 /// Accepts what is there, the last one first, and then fails.
 #[derive(Drop)]
-struct Arrivals {
-    waiting: Vec<Gated>,
+struct Arrivals<R: Clock + Drop> {
+    waiting: Vec<Gated<R>>,
     watch: Arc<Watch>,
     faults: u64,
 }
 
-impl Listen for Arrivals {
-    type In = Gated;
+impl<R: Clock + Send + Drop + 'static> Listen for Arrivals<R> {
+    type In = Gated<R>;
 
     type Line = NoLine;
 
     ghost failures = { λ s. s.faults };
 
-    fn accept(&mut self) -> Result<Gated, IoFault> {
+    fn accept(&mut self) -> Result<Gated<R>, IoFault> {
         match self.waiting.pop() {
             Some(mut incoming) => {
                 incoming.faults = 0;
@@ -133,7 +151,7 @@ impl Listen for Arrivals {
         }
     }
 
-    fn line(&self, _incoming: &Gated) -> Option<NoLine> {
+    fn line(&self, _incoming: &Gated<R>) -> Option<NoLine> {
         Some(NoLine)
     }
 
@@ -155,11 +173,11 @@ fn start_3<R>(
     rt: R,
     alloc: Global,
     watch: &Arc<Watch>,
-    waiting: Vec<Gated>,
+    waiting: Vec<Gated<R>>,
     ports: &[(SiteId, u16)],
 ) -> Result<(Running<R>, Arc<Shared<R>>), Fail>
 where
-    R: Wait + Threads + Net<Stream = TcpStream> + Copy + Send + Drop + 'static,
+    R: Wait + Threads + Clock + Net<Stream = TcpStream> + Copy + Send + Drop + 'static,
 {
     let topology = sites(alloc, 3, 2)?;
     let arrivals = Arrivals {
@@ -187,9 +205,13 @@ fn tell_receipts(alloc: Global, journal: &[Entry]) -> Result<String, AllocError>
 fn two_links_at_once(rt: HostRuntime) -> Result<(), Fail> {
     let alloc = rt.alloc();
     let watch = Watch::new(alloc)?;
-    let part = |bytes, syncs| Part { bytes, syncs };
-    let first = Gated::new(alloc, &[part(&FIRST, 2)], &watch)?;
-    let second = Gated::new(alloc, &[part(&THIRD, 3), part(&SECOND, 0)], &watch)?;
+    let part = |bytes, syncs| Part {
+        bytes,
+        syncs,
+        is_late: false,
+    };
+    let first = Gated::new(rt, alloc, &[part(&FIRST, 2)], &watch)?;
+    let second = Gated::new(rt, alloc, &[part(&THIRD, 3), part(&SECOND, 0)], &watch)?;
     let (site_3, station) = start_3(rt, alloc, &watch, vec![in alloc; second, first]?, &[])?;
     wait_until(&rt, || watch.has_shut.load(Ordering::SeqCst));
     let _ = site_3.stop();
@@ -201,14 +223,14 @@ fn two_links_at_once(rt: HostRuntime) -> Result<(), Fail> {
     Ok(())
 }
 
-/// Each connection that is read is read to its end by one read.
+/// Each connection that is read is read to its end by one read, and stands until no more are accepted.
 #[test]
-fn from_the_257th_on_no_connection_is_read(rt: HostRuntime) -> Result<(), Fail> {
+fn while_256_connections_stand_no_other_is_read(rt: HostRuntime) -> Result<(), Fail> {
     let alloc = rt.alloc();
     let watch = Watch::new(alloc)?;
     let mut waiting = Vec::with_capacity(alloc, 300)?;
     for _ in 0..300 {
-        waiting.push(Gated::new(alloc, &[], &watch)?)?;
+        waiting.push(Gated::new(rt, alloc, &[LATE_END], &watch)?)?;
     }
     let (site_3, _) = start_3(rt, alloc, &watch, waiting, &[])?;
     wait_until(&rt, || watch.has_shut.load(Ordering::SeqCst));

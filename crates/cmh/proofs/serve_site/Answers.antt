@@ -11,24 +11,24 @@ returns-clause-serves_some g c = inl (
   inl (
     _,
     record {
-      served = c.run_site.ensures.served;
-      flushed = c.run_site.ensures.flushed;
+      served = c.run_site_noting.ensures.served;
+      flushed = c.run_site_noting.ensures.flushed;
       silent = λ done. search rules;
-      fault = c.run_site.ensures.fault;
+      fault = c.run_site_noting.ensures.fault;
     },
   ),
 )
 
 pub returns-clause-serves : goal.returns-clause-serves
 returns-clause-serves g c = λ site is told.
-    subst (λ (s : ℕ). ServesSite s (g.I.Read.remaining c.args.input.now.inner) c.run_site.new.input.has_failed (g.W.Write.contents c.args.out.now.inner) (g.W.Write.contents c.run_site.new.out.inner) c.run_site.new.out.has_failed c.run_site.new.out.is_flushed (g.E.Write.contents c.args.err.now.inner) (g.E.Write.contents c.run_site.new.err.inner) c.run_site.new.err.has_failed c.run_site.result)
+    subst (λ (s : ℕ). ServesSite s (g.I.Read.remaining c.args.input.now.inner) c.run_site_noting.new.input.has_failed (g.W.Write.contents c.args.out.now.inner) (g.W.Write.contents c.run_site_noting.new.out.inner) c.run_site_noting.new.out.has_failed c.run_site_noting.new.out.is_flushed (g.E.Write.contents c.args.err.now.inner) (g.E.Write.contents c.run_site_noting.new.err.inner) c.run_site_noting.new.err.has_failed c.run_site_noting.result)
     (c.in-Some.ensures.1 ∙ c.number_of.ensures site is told)
     (inl (
       _,
       record {
-        served = c.run_site.ensures.served;
-        flushed = c.run_site.ensures.flushed;
+        served = c.run_site_noting.ensures.served;
+        flushed = c.run_site_noting.ensures.flushed;
         silent = λ done. search rules;
-        fault = c.run_site.ensures.fault;
+        fault = c.run_site_noting.ensures.fault;
       },
     ))

@@ -1,0 +1,109 @@
+//! The connections of a site whose threads run, for those that let these threads go.
+
+use cmh_carriers::Line;
+use std::alloc::Global;
+use std::sync::atomic::{AtomicBool, Ordering};
+use std::sync::{Arc, Mutex, Wait};
+use std::time::{Clock, Duration};
+
+/// A connection that a thread reads or writes.
+#[derive(Drop)]
+pub(crate) struct Seat<L: Line + Drop> {
+    /// Another handle of it, which goes with the thread, so that its descriptor is given back at once.
+    line: Mutex<Option<L>>,
+    /// When it came, by the clock that never goes back.
+    began: Duration,
+    /// Whether it is still to tell a good hello.
+    is_awaited: AtomicBool,
+    /// Whether its thread is done with it.
+    is_over: AtomicBool,
+}
+
+impl<L: Line + Drop> Seat<L> {
+    fn new(line: L, began: Duration) -> Seat<L> {
+        Seat {
+            line: Mutex::new(Some(line)),
+            began,
+            is_awaited: AtomicBool::new(true),
+            is_over: AtomicBool::new(false),
+        }
+    }
+
+    /// It told a good hello.
+    pub fn tell(&self) {
+        self.is_awaited.store(false, Ordering::SeqCst);
+    }
+
+    /// Its thread is done with it, and has no handle of it any more.
+    pub fn leave<R: Wait>(&self, rt: &R) {
+        let mut line = self.line.lock(rt);
+        *line = None;
+        self.is_over.store(true, Ordering::SeqCst);
+    }
+
+    /// Whether its thread is done with it.
+    pub fn is_over(&self) -> bool {
+        self.is_over.load(Ordering::SeqCst)
+    }
+
+    /// Ends it, so that its thread waits for the other end no more.
+    pub fn shut<R: Wait>(&self, rt: &R) {
+        let guard = self.line.lock(rt);
+        if let Some(line) = &*guard {
+            line.shut();
+        }
+    }
+
+    /// Whether it is still to tell a good hello, and came so long before. It says so once.
+    fn is_silent(&self, now: Duration, most: Duration) -> bool {
+        now.saturating_sub(self.began) >= most && self.is_awaited.swap(false, Ordering::SeqCst)
+    }
+}
+
+/// The connections of a site, all that it accepted or all that it opened.
+#[derive(Drop)]
+pub(crate) struct Seats<L: Line + Drop> {
+    seats: Mutex<Vec<Arc<Seat<L>>>>,
+}
+
+impl<L: Line + Drop> Seats<L> {
+    /// Nobody is seated.
+    pub fn new(alloc: Global) -> Seats<L> {
+        Seats {
+            seats: Mutex::new(Vec::new(alloc)),
+        }
+    }
+
+    /// Seats a connection that came just now, by another handle of it. `None` where memory was refused, or the clock can't
+    /// be read.
+    pub fn seat<R: Wait + Clock>(&self, rt: &R, line: L) -> Option<Arc<Seat<L>>> {
+        let began = rt.monotonic().ok()?;
+        let mut guard = self.seats.lock(rt);
+        let seats = &mut *guard;
+        seats.retain(|seat| !seat.is_over());
+        let seat = Arc::new(*seats.allocator(), Seat::new(line, began)).ok()?;
+        seats.push(Arc::try_clone(&seat).ok()?).ok()?;
+        Some(seat)
+    }
+
+    /// Ends all of them.
+    pub fn shut_all<R: Wait>(&self, rt: &R) {
+        let seats = self.seats.lock(rt);
+        for seat in &*seats {
+            seat.shut(rt);
+        }
+    }
+
+    /// Ends those that told no good hello, and came so long before. Answers how many.
+    pub fn shut_silent<R: Wait>(&self, rt: &R, now: Duration, most: Duration) -> usize {
+        let mut count = 0usize;
+        let seats = self.seats.lock(rt);
+        for seat in &*seats {
+            if seat.is_silent(now, most) {
+                seat.shut(rt);
+                count = count.saturating_add(1);
+            }
+        }
+        count
+    }
+}

@@ -1,0 +1,97 @@
+//! The watching thread of a site, which does what needs a clock.
+
+use crate::hub::Hub;
+use crate::seats::Seats;
+use cmh_carriers::Line;
+use cmh_journal::Sink;
+use cmh_notes::Note;
+use cmh_station::Listing;
+use std::sync::atomic::Ordering;
+use std::sync::{Arc, Wait};
+use std::thread;
+use std::thread::{JoinHandle, Threads};
+use std::time::{Clock, Duration};
+
+/// How long it sleeps between its turns.
+const TURN_MILLISECONDS: u64 = 250;
+
+/// In how many turns the writing threads look once at their connections.
+const LOOK_TURNS: u64 = 4;
+
+/// A connection that told no good hello by then is closed.
+const MOST_HELLO_SECONDS: u64 = 30;
+
+/// What a site that doesn't wait for its peers has not written by then is lost.
+const MOST_QUIT_SECONDS: u64 = 4;
+
+/// Starts the watching thread over the connections that a site accepted and those that it opened. `None` where memory or a
+/// thread was refused.
+pub(crate) fn start_watching<R, S, B, L, O>(
+    rt: R,
+    hub: &Arc<Hub<S, B>>,
+    seats: &Arc<Seats<L>>,
+    outs: &Arc<Seats<O>>,
+) -> Option<JoinHandle<()>>
+where
+    R: Wait + Threads + Clock + Copy + Send + Drop + 'static,
+    S: Sink + Send + 'static,
+    B: Listing + Send + 'static,
+    L: Line + Send + Drop + 'static,
+    O: Line + Send + Drop + 'static,
+{
+    let hub = Arc::try_clone(hub).ok()?;
+    let seats = Arc::try_clone(seats).ok()?;
+    let outs = Arc::try_clone(outs).ok()?;
+    thread::spawn(&rt, move || watch(rt, hub, seats, outs)).ok()
+}
+
+/// Ends the watching thread.
+pub(crate) fn stop_watching<R: Wait + Threads, S: Sink, B: Listing>(
+    rt: &R,
+    hub: &Hub<S, B>,
+    watching: JoinHandle<()>,
+) {
+    hub.is_done.store(true, Ordering::SeqCst);
+    hub.watcher.unpark();
+    watching.join(rt);
+}
+
+/// Ends connections that wait for too long, and has the writing threads look at theirs, until the other threads are done.
+/// It takes no lock of the station and no memory.
+fn watch<R, S, B, L, O>(rt: R, hub: Arc<Hub<S, B>>, seats: Arc<Seats<L>>, outs: Arc<Seats<O>>)
+where
+    R: Wait + Clock + Drop,
+    S: Sink,
+    B: Listing,
+    L: Line + Drop,
+    O: Line + Drop,
+{
+    let most_hello = Duration::from_secs(MOST_HELLO_SECONDS);
+    let most_quit = Duration::from_secs(MOST_QUIT_SECONDS);
+    let mut turn = 0;
+    let mut cut_at: Option<Duration> = None;
+    for _ in rt.forever() {
+        if hub.is_done.load(Ordering::SeqCst) {
+            break;
+        }
+        hub.watcher
+            .park_timeout(&rt, Duration::from_millis(TURN_MILLISECONDS));
+        turn = turn % LOOK_TURNS + 1;
+        if turn == LOOK_TURNS {
+            hub.look();
+        }
+        let Ok(now) = rt.monotonic() else {
+            continue;
+        };
+        for _ in 0..seats.shut_silent(&rt, now, most_hello) {
+            hub.note(&rt, Note::NoHello);
+        }
+        if hub.cutting.load(Ordering::SeqCst) {
+            let since = cut_at.unwrap_or(now);
+            cut_at = Some(since);
+            if now.saturating_sub(since) >= most_quit {
+                outs.shut_all(&rt);
+            }
+        }
+    }
+}

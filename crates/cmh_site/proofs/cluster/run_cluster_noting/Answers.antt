@@ -1,0 +1,12 @@
+use Rattle.std.proofs.Common.{inl, inr, refl}
+use Rattle.cmh_files.specs.declared.faults.Fault.TheVariants.{Memory}
+use Rattle.cmh_site.proofs.ClusterEndings.{audited}
+use Rattle.cmh_site.proofs.cluster.run_cluster_noting.Goals as goal
+
+pub returns-in-Ok-Read-clause-ends : goal.returns-in-Ok-Read-clause-ends
+returns-in-Ok-Read-clause-ends g c =
+    audited _ _ _ _ _ _ _ _ _ _ _ _ _ c.run_audit.ensures.ends (cc) (rw c.in-Ok-Read.field-0-is at c.in-Ok-Read.ensures.played)
+
+pub returns-in-Err-clause-ends : goal.returns-in-Err-clause-ends
+returns-in-Err-clause-ends g c =
+    inr (inr (record { fault = Memory; cause = inl refl; status_is = c.name_on.ensures.status; named = c.name_on.ensures.named }))
