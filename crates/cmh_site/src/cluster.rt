@@ -16,14 +16,15 @@ ghost use Rattle.cmh_site.specs.SiteTalk.{AnswersCluster, IsDeclared, IsTurnOfCl
 
 use crate::site_reply::{ClosedLink, SiteReply};
 use crate::starting::{
-    FileStation, Opened, Running, declared, fault_of, open_station, start_threads, step,
+    FileStation, Opened, Running, closed_in, closed_out, declared, fault_of, open_station,
+    start_threads, step,
 };
 use cmh_carriers::{Dial, Listen, TcpDial, TcpListen};
 use cmh_controller::Refusal;
 use cmh_files::{Fault, read_topology_file_with_ports, run_audit};
 use cmh_frames::{ProcId, SiteId, Topology};
 use cmh_journal::Sink;
-use cmh_links::{LinkFault, LinkState};
+use cmh_links::LinkFault;
 use cmh_model::Event;
 use cmh_notes::{NoVoice, Noting, Origin, Speaker, Voice};
 use cmh_play::path_in;
@@ -762,43 +763,6 @@ fn look_at_sendings<R: Wait + Drop>(
         tally.count_sendings(&mut look, guard.journal());
     }
     look
-}
-
-/// Why the link to a site is closed, where it is.
-fn closed_out<R>(rt: &R, threads: &Running<R>, receiver: SiteId) -> Option<LinkFault>
-where
-    R: Wait
-        + Threads
-        + Clock
-        + Net<Listener = TcpListener, Stream = TcpStream>
-        + Copy
-        + Send
-        + Drop
-        + 'static,
-{
-    why_closed(threads.links().lock(rt).state_out(receiver))
-}
-
-/// Why the link from a site is closed, where it is.
-fn closed_in<R>(rt: &R, threads: &Running<R>, sender: SiteId) -> Option<LinkFault>
-where
-    R: Wait
-        + Threads
-        + Clock
-        + Net<Listener = TcpListener, Stream = TcpStream>
-        + Copy
-        + Send
-        + Drop
-        + 'static,
-{
-    why_closed(threads.links().lock(rt).state_in(sender))
-}
-
-fn why_closed(state: Option<LinkState>) -> Option<LinkFault> {
-    match state {
-        Some(LinkState::Closed(fault)) => Some(fault),
-        _ => None,
-    }
 }
 
 /// The fault of a script that is in memory: it can be read, but for one that is too long to be counted.

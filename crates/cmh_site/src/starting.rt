@@ -10,7 +10,7 @@ use crate::site_reply::{LinkEnds, SiteReply};
 use cmh_carriers::{TcpDial, TcpListen};
 use cmh_files::Fault;
 use cmh_frames::{SiteId, Topology};
-use cmh_links::SiteThreads;
+use cmh_links::{LinkFault, LinkState, SiteThreads};
 use cmh_model::Event;
 use cmh_notes::{Note, Speaker};
 use cmh_playground::Done;
@@ -212,4 +212,41 @@ where
         }
     }
     Ok(SiteReply::Links(links))
+}
+
+/// Why the link to a site is closed, where it is.
+pub(crate) fn closed_out<R>(rt: &R, threads: &Running<R>, receiver: SiteId) -> Option<LinkFault>
+where
+    R: Wait
+        + Threads
+        + Clock
+        + Net<Listener = TcpListener, Stream = TcpStream>
+        + Copy
+        + Send
+        + Drop
+        + 'static,
+{
+    why_closed(threads.links().lock(rt).state_out(receiver))
+}
+
+/// Why the link from a site is closed, where it is.
+pub(crate) fn closed_in<R>(rt: &R, threads: &Running<R>, sender: SiteId) -> Option<LinkFault>
+where
+    R: Wait
+        + Threads
+        + Clock
+        + Net<Listener = TcpListener, Stream = TcpStream>
+        + Copy
+        + Send
+        + Drop
+        + 'static,
+{
+    why_closed(threads.links().lock(rt).state_in(sender))
+}
+
+fn why_closed(state: Option<LinkState>) -> Option<LinkFault> {
+    match state {
+        Some(LinkState::Closed(fault)) => Some(fault),
+        _ => None,
+    }
 }
