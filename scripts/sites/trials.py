@@ -14,8 +14,9 @@ import time
 
 from client import lost_sites, python_client
 from operations import OPERATIONS, LeftOut
+from services import LONG, SERVICES
 from soak import soak
-from world import Collided, Missed, World, allow, is_free, patience, read_answer, wait_until
+from world import Collided, Missed, World, allow, is_free, of_size, patience, read_answer, wait_until
 
 PAIR = {1: [1], 2: [2]}
 HELLO = bytes.fromhex('434D48010001')
@@ -62,6 +63,42 @@ def storm(program):
         yield 'thousands of frames came', all(len(world.entries(n)) > 2500 for n in sites)
         yield 'each quit ends', all(site.end() for site in sites.values())
         yield 'accepted and drained', world.is_accepted('drained')
+
+
+def late_peer(program):
+    """A site with patience waits for a peer that listens later, and not for longer than it was told."""
+    with World(program, {1: [1], 2: [2]}) as world:
+        site = world.start(1, more=('--patience', '20'))
+        site.await_listening()
+        site.say('connect')
+        time.sleep(1)
+        peer = world.start(2)
+        peer.await_listening()
+        yield 'it is connected', site.hear() == 'connected 1 failed 0'
+        yield 'its frame comes', site.ask('ask 1 2') == 'ok sent 1' and wait_until(lambda: world.entries(2), 'the request')
+        yield 'both end', site.end() and peer.end()
+    with World(program, {1: [1], 2: [2]}) as world:
+        site = world.start(1, more=('--patience', '1'))
+        site.await_listening()
+        begin = time.monotonic()
+        yield 'patience has an end', site.ask('connect') == 'connected 0 failed 1' and time.monotonic() - begin > 0.9
+        yield 'the link is closed', site.links()['out 2'] == 'closed 1'
+        yield 'it ends', site.end()
+
+
+def lines_ahead(program):
+    """Lines that come at once are each answered, in their order."""
+    with World(program, {1: [1, 2], 2: [3]}) as world:
+        site = world.start(1)
+        site.await_listening()
+        lines = ['start 1', '', 'ask 1 2', 'ask 1 2', 'what', 'ask 2 1', 'declared', 'start 9', 'start 2'] + ['start 3', 'start 1'] * 500
+        site.say(*lines)
+        heard = [site.hear() for _ in range(len(lines) - 1)]
+        wanted = ['refused 5', 'ok sent 0', 'refused 4', 'bad line', 'ok sent 0', 'site 1 declared', 'refused 1',
+                  'ok sent 0 declared 2']
+        yield 'each is answered: %s' % heard[:8], heard[:8] == wanted
+        yield 'the rest too', heard[8::2] == ['refused 2'] * 500 and set(heard[9::2]) <= {'ok sent 0', 'ok sent 0 declared 1', 'refused 7'}
+        yield 'it ends', site.end()
 
 
 def balance(world):
@@ -138,14 +175,6 @@ def closes_on_writing(site):
 
 
 # ---- disks
-
-def of_size(limit):
-    """No file of the process grows past so many bytes: a write fails, as on a full disk."""
-    def apply():
-        signal.signal(signal.SIGXFSZ, signal.SIG_IGN)
-        resource.setrlimit(resource.RLIMIT_FSIZE, (limit, limit))
-    return apply
-
 
 def full_disk(program):
     for limit in (7, 8, 22, 23, 30, 37, 60):
@@ -391,7 +420,7 @@ def closed_output(program):
         os.close(write)
         os.read(read, 100)
         os.close(read)
-        site.say('ask 1 2', 'start 1')
+        site.say('ask 1 2')
         yield 'a site', site.wait() == 3 and site.process.stderr.read() == b'fault output\n'
         yield 'its journal is whole', world.is_accepted('events 1', 'wait 1 2')
     with World(program, PAIR) as world:
@@ -525,9 +554,9 @@ def few_files(program):
 
 # ---- all trials
 
-TRIALS = [two_sites, three_sites, storm, killed_peer, full_disk, kept_journals, started_twice, silent_peers, slow_hello, noise, cut_frame,
+TRIALS = [two_sites, three_sites, storm, late_peer, lines_ahead, killed_peer, full_disk, kept_journals, started_twice, silent_peers, slow_hello, noise, cut_frame,
           second_connection, own_hello, resets, many_connections, held_by_silent_peers, closed_output, clusters,
-          full_disk_of_a_cluster, two_clusters, few_files, python_client, lost_sites, ends_by_signal, kills]
+          full_disk_of_a_cluster, two_clusters, few_files, python_client, lost_sites, ends_by_signal, kills, *SERVICES]
 
 OPERATION_SECONDS = 40.0  # that a trial of operation may take
 SIDE_BY_SIDE = 3  # trials of operation: most of them wait
@@ -577,7 +606,8 @@ def main(program, names):
     trials = TRIALS + ([small_disk] if has_small_disks() else [])
     if 'operations' in names:
         names = [name for name in names if name != 'operations'] + [trial.__name__ for trial in OPERATIONS]
-    unknown = set(names) - {trial.__name__ for trial in TRIALS + [small_disk] + OPERATIONS}
+    trials += [trial for trial in LONG if trial.__name__ in names]
+    unknown = set(names) - {trial.__name__ for trial in TRIALS + LONG + [small_disk] + OPERATIONS}
     if unknown:
         sys.exit('no such trial: %s' % ' '.join(sorted(unknown)))
     operations = [trial for trial in OPERATIONS if not names or trial.__name__ in names]

@@ -2,6 +2,7 @@
 import json
 import os
 import random
+import resource
 import select
 import signal
 import socket
@@ -11,6 +12,7 @@ import tempfile
 import time
 
 PATIENCE = 20.0  # seconds that anything may take
+SHARED = 64  # lines ahead of their answers that share a sync, at most
 ALL_TRIALS = 170.0  # seconds that all trials may take together
 
 _end = time.monotonic() + ALL_TRIALS
@@ -88,6 +90,14 @@ def wait_until(holds, what):
         time.sleep(0.005)
 
 
+def of_size(limit):
+    """No file of the process grows past so many bytes: a write fails, as on a full disk."""
+    def apply():
+        signal.signal(signal.SIGXFSZ, signal.SIG_IGN)
+        resource.setrlimit(resource.RLIMIT_FSIZE, (limit, limit))
+    return apply
+
+
 class World:
     """The files of a topology of sites, each with its processes; all else is kept beside them."""
 
@@ -119,8 +129,8 @@ class World:
     def journal(self, site):
         return self.path('journal-%d' % site)
 
-    def start(self, site, **options):
-        running = Site(self, site, **options)
+    def start(self, site, kind=None, **options):
+        running = (kind or Site)(self, site, **options)
         self.running.append(running)
         return running
 
@@ -207,11 +217,13 @@ def read_answer(line):
 class Site:
     """A running site."""
 
+    command = 'site'
+
     def __init__(self, world, number, limit=None, out=subprocess.PIPE, journal=None, before=(), more=()):
         """The words of `before` are those of a program that starts it, those of `more` are further options."""
         self.world = world
         self.number = number
-        words = [*before, world.program, 'site', '--topology', world.path('topology'), '--site', str(number)]
+        words = [*before, world.program, self.command, '--topology', world.path('topology'), '--site', str(number)]
         words += ['--journal', journal or world.journal(number), *more]
         self.heard = []
         self.buffer = b''
@@ -324,10 +336,11 @@ class Site:
                 pass
 
     def was_true(self):
-        """Whether each answer is that of the entry at its place in the journal, and at most one entry has no answer."""
+        """Whether each answer is that of the entry at its place in the journal, and no more entries than may share a sync
+        have no answer."""
         answers = [answer for answer in map(read_answer, self.heard) if answer]
         steps = [entry[1:] for entry in self.world.steps(self.number)]
-        return steps[:len(answers)] == answers and len(steps) <= len(answers) + 1
+        return steps[:len(answers)] == answers and len(steps) <= len(answers) + SHARED
 
 
 def is_free(port):

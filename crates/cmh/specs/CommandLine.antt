@@ -44,6 +44,7 @@ pub record NamesNothing (matches : ArgMatches) : Type 0 where
   pub no_audit : Names matches (codes "audit") → ⊥
   pub no_site : Names matches (codes "site") → ⊥
   pub no_cluster : Names matches (codes "cluster") → ⊥
+  pub no_serve : Names matches (codes "serve") → ⊥
   pub no_show : Names matches (codes "show") → ⊥
   pub no_draw : Names matches (codes "draw") → ⊥
 

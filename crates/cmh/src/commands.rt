@@ -16,6 +16,8 @@ pub const SITE: &str = "site";
 
 pub const CLUSTER: &str = "cluster";
 
+pub const SERVE: &str = "serve";
+
 pub const TOPOLOGY: &str = "topology";
 
 pub const JOURNALS: &str = "journals";
@@ -31,6 +33,12 @@ pub const WHY: &str = "why";
 pub const RUN: &str = "run";
 
 pub const NOTES: &str = "notes";
+
+pub const PATIENCE: &str = "patience";
+
+pub const PORT: &str = "port";
+
+pub const QUIET: &str = "quiet";
 
 pub const KIND: &str = "kind";
 
@@ -51,6 +59,7 @@ pub fn command<'a>(alloc: Global, help: &'a Help) -> Result<Command<'a>, Error> 
         .after_help(Help::COMMANDS)
         .subcommand(play_command(alloc, help)?)?
         .subcommand(site_command(alloc, help)?)?
+        .subcommand(serve_command(alloc, help)?)?
         .subcommand(cluster_command(alloc, help)?)?
         .subcommand(audit_command(alloc, help)?)?
         .subcommand(show_command(alloc, help)?)?
@@ -113,25 +122,50 @@ fn draw_command<'a>(alloc: Global, help: &'a Help) -> Result<Command<'a>, Error>
 }
 
 fn site_command<'a>(alloc: Global, help: &'a Help) -> Result<Command<'a>, Error> {
-    let site = Arg::new(alloc, SITE)
-        .long(SITE)
-        .value_name("NUMBER")
-        .help("The number of the site, 1 to 9999")
-        .required(true)
-        .value_parser(value_parser!(u16).range(1..=9999))
-        .action(ArgAction::Set);
-    let journal = path_arg(alloc, JOURNAL, "FILE").help(
-        "The journal that it writes; a file that stands there and isn't empty is kept as FILE.1, FILE.2 and so on",
-    );
+    let patience = patience_arg(alloc)
+        .help(
+            "How long `connect` tries sites again that don't listen yet, for all together; 0 to 3600",
+        )
+        .default_value("0");
     let command = Command::new(alloc, SITE)
         .about(
             "Runs one site: answers lines from standard input, talks to the other sites over 127.0.0.1, and keeps a journal",
         )
         .after_help(help.site.as_str())
         .arg(topology_arg(alloc))?
-        .arg(site)?
-        .arg(journal)?
+        .arg(site_arg(alloc))?
+        .arg(journal_arg(alloc))?
+        .arg(patience)?
         .arg(notes_arg(alloc))?;
+    Ok(command)
+}
+
+fn serve_command<'a>(alloc: Global, help: &'a Help) -> Result<Command<'a>, Error> {
+    let port = Arg::new(alloc, PORT)
+        .long(PORT)
+        .value_name("PORT")
+        .help("The port of 127.0.0.1 on which clients connect, 1 to 65535")
+        .required(true)
+        .value_parser(value_parser!(u16).range(1..=65535))
+        .action(ArgAction::Set);
+    let patience = patience_arg(alloc)
+        .help("How long sites are tried again that don't listen yet, for all together; 0 to 3600")
+        .default_value("30");
+    let quiet = Arg::new(alloc, QUIET)
+        .long(QUIET)
+        .help("Notes nothing on standard error")
+        .action(ArgAction::SetTrue);
+    let command = Command::new(alloc, SERVE)
+        .about(
+            "Runs one site for clients, each a connection to a port of 127.0.0.1 that sends lines and gets their answers",
+        )
+        .after_help(help.serve.as_str())
+        .arg(topology_arg(alloc))?
+        .arg(site_arg(alloc))?
+        .arg(journal_arg(alloc))?
+        .arg(port)?
+        .arg(patience)?
+        .arg(quiet)?;
     Ok(command)
 }
 
@@ -156,6 +190,22 @@ fn topology_arg<'a>(alloc: Global) -> Arg<'a> {
     path_arg(alloc, TOPOLOGY, "FILE").help("The JSON file that names the sites and their processes")
 }
 
+fn site_arg<'a>(alloc: Global) -> Arg<'a> {
+    Arg::new(alloc, SITE)
+        .long(SITE)
+        .value_name("NUMBER")
+        .help("The number of the site, 1 to 9999")
+        .required(true)
+        .value_parser(value_parser!(u16).range(1..=9999))
+        .action(ArgAction::Set)
+}
+
+fn journal_arg<'a>(alloc: Global) -> Arg<'a> {
+    path_arg(alloc, JOURNAL, "FILE").help(
+        "The journal that it writes; a file that stands there and isn't empty is kept as FILE.1, FILE.2 and so on",
+    )
+}
+
 fn why_arg<'a>(alloc: Global) -> Arg<'a> {
     Arg::new(alloc, WHY)
         .long(WHY)
@@ -170,6 +220,14 @@ fn run_arg<'a>(alloc: Global) -> Result<Arg<'a>, Error> {
         .action(ArgAction::SetTrue)
         .conflicts_with(WHY)?;
     Ok(run)
+}
+
+fn patience_arg<'a>(alloc: Global) -> Arg<'a> {
+    Arg::new(alloc, PATIENCE)
+        .long(PATIENCE)
+        .value_name("SECONDS")
+        .value_parser(value_parser!(u16).range(0..=3600))
+        .action(ArgAction::Set)
 }
 
 fn notes_arg<'a>(alloc: Global) -> Arg<'a> {

@@ -30,19 +30,43 @@ Example: printf 'site 1 1 2\\nask 1 2\\nask 2 1\\nstart 1\\nreport\\n' | cmh pla
 ";
 
 const SITE_LINES: &str = "\
-Lines of standard input; a line that fits none is answered `bad line`, and each is answered before the next is read:
+Lines of standard input; a line that fits none is answered `bad line`, and each is answered before the next is awaited:
   # ..           a comment; it and an empty line have no answer
   ask J K..      process J of this site asks for what others hold, and waits for all of them
   reply J K      process J of this site grants what it holds to K, which asked for it
   start J        a computation looks for a deadlock of process J of this site
   declared       the processes of this site that were found deadlocked
-  connect        opens the links to all other sites, which should be listening; once
+  connect        opens the links to all other sites, which should be listening; once. With `--patience S` it tries those
+                 that don't listen yet again, for S seconds in all
   links          the state of each link: `new`, `open` or `closed N`
   quit           ends the site, as the end of the input does
 
 The first line that it prints is `listening`, the last one `stopped`. An answer `ok` comes after its entry is in the
-journal and synced, so the journal can be audited whenever and however the site ends. It is locked until then: a second site
-on it, and one whose journal is no regular file, ends with `fault journal disk`.
+journal and synced, so the journal can be audited whenever and however the site ends. Up to 64 lines that are written
+ahead of their answers share a sync. The journal is locked until the site ends: a second site on it, and one whose
+journal is no regular file, ends with `fault journal disk`.
+";
+
+const SERVE_LINES: &str = "\
+Lines that clients send; a line that fits none is answered `bad line`:
+  ask J K..      process J of this site asks for what others hold, and waits for all of them
+  reply J K      process J of this site grants what it holds to K, which asked for it
+  start J        a computation looks for a deadlock of process J of this site
+  declared       the processes of this site that were found deadlocked
+  links          the state of each link: `new`, `open` or `closed N`
+  waits J        `waits J K..`: for whom process J of this site waits
+  owed K         `owed K J..`: whose requests process K of this site has not answered
+  watch          `ok`, and from then on a line `! declared J` for each declaration, those of before first
+  status         the entries of the journal, the room for more, the declarations, the clients, the open links, and whether
+                 the journal is sealed
+  quit           ends the connection
+
+A client may send lines ahead of its answers; each is answered once, in its order. An answer `ok` comes after its entry
+is in the journal and synced. Events of all clients that wait at the same time share a sync, up to 64. At most 256
+clients are served at once, and one for which over a mebibyte waits unread is closed.
+
+The site connects to the others by itself. It prints `listening` once both its ports stand, and notes on standard error
+what it notices, unless --quiet is given. It ends at SIGTERM or SIGINT, and its journal can be audited at any time.
 ";
 
 const CLUSTER_LINES: &str = "\
@@ -92,6 +116,15 @@ on standard error: `fault file topology`, `fault json`, `fault topology N`, `fau
 `fault journal disk`, `fault listen` (its port is taken), `fault input`, `fault output`.
 
 Example: (echo connect; echo ask 1 2; cat) | cmh site --topology world.json --site 1 --journal one.cmhj
+";
+
+const SERVE_STATUSES: &str = "\
+Statuses: 1 where memory ran out, 2 for a command line that isn't understood, 3 at a fault, which is named on standard
+error: `fault file topology`, `fault json`, `fault topology N`, `fault site` (it isn't in the topology),
+`fault journal disk`, `fault listen` (one of its ports is taken), `fault output`.
+
+Example: cmh serve --topology world.json --site 1 --journal one.cmhj --port 7100
+Then, as a client: printf 'ask 1 2\\nwaits 1\\n' | nc 127.0.0.1 7100
 ";
 
 const CLUSTER_STATUSES: &str = "\
@@ -167,8 +200,8 @@ Example: cmh draw --topology world.json --format dot one.cmhj two.cmhj | dot -Tp
 ";
 
 const COMMANDS: &str = "\
-`cmh play --help` has the language of scripts, `cmh site --help` and `cmh cluster --help` that of running sites,
-`cmh audit --help` the faults of files, `cmh show --help` the lines of a journal,
+`cmh play --help` has the language of scripts, `cmh site --help`, `cmh serve --help` and `cmh cluster --help` that of
+running sites, `cmh audit --help` the faults of files, `cmh show --help` the lines of a journal,
 `cmh draw --help` what stands in its pictures.
 
 Example: cmh play < examples/cycle-over-two-sites.script
@@ -206,6 +239,7 @@ const SET_FAULTS: [SetFault; 4] = [
 pub struct Help {
     pub play: String,
     pub site: String,
+    pub serve: String,
     pub cluster: String,
     pub audit: String,
     pub show: String,
@@ -220,6 +254,7 @@ impl Help {
         Ok(Help {
             play: play(alloc)?,
             site: running(alloc, SITE_LINES, SITE_STATUSES)?,
+            serve: running(alloc, SERVE_LINES, SERVE_STATUSES)?,
             cluster: running(alloc, CLUSTER_LINES, CLUSTER_STATUSES)?,
             audit: audit(alloc)?,
             show: show(alloc)?,

@@ -23,8 +23,8 @@ mod files;
 mod help;
 
 use crate::commands::{
-    AUDIT, CLUSTER, DRAW, JOURNAL, JOURNALS, NOTES, OUT, PLAY, RUN, SHOW, SITE, TOPOLOGY, WHY,
-    command,
+    AUDIT, CLUSTER, DRAW, JOURNAL, JOURNALS, NOTES, OUT, PATIENCE, PLAY, PORT, QUIET, RUN, SERVE,
+    SHOW, SITE, TOPOLOGY, WHY, command,
 };
 use crate::drawing::draw;
 use crate::files::{cluster_files_of, files_of, journals_of, read_file};
@@ -32,9 +32,10 @@ use crate::help::Help;
 use clap::{ArgMatches, Error, error};
 use cmh_files::{run_audit_run, run_audit_why};
 use cmh_frames::SiteId;
+use cmh_service::run_service;
 use cmh_site::{
-    Ahead, Fault, Folder, Input, Noted, Output, Voice, run_audit, run_cluster_noting, run_play,
-    run_play_keeping, run_show, run_site_noting,
+    Ahead, Fault, Folder, Input, Noted, Output, SiteStart, Voice, run_audit, run_cluster_noting,
+    run_play, run_play_keeping, run_show, run_site_noting,
 };
 use std::fs::File;
 use std::io::{BufRead, BufReader, BufWriter, ErrorKind, Write};
@@ -43,6 +44,7 @@ use std::process::ExitCode;
 use std::rt::{Clock, Env, Files};
 use std::sync::Wait;
 use std::thread::Threads;
+use std::time::Duration;
 use std::{env, io};
 
 fn words<R: Env + AllocGlobal>(rt: &R) -> io::Result<Vec<String>> {
@@ -215,6 +217,9 @@ where
     if let Some(words) = matches.subcommand_matches(SITE) {
         return serve_site(rt, words, input, out, err);
     }
+    if let Some(words) = matches.subcommand_matches(SERVE) {
+        return serve_clients(rt, words, out, err);
+    }
     if let Some(words) = matches.subcommand_matches(CLUSTER) {
         return serve_cluster(rt, words, out, err);
     }
@@ -290,7 +295,7 @@ fn play_into<R: AllocGlobal + Files<File = File>, I: BufRead + Ahead, W: Write, 
 }
 
 /// Runs the site that the words name.
-fn serve_site<R, I: BufRead, W: Write, E: Write>(
+fn serve_site<R, I: BufRead + Ahead, W: Write, E: Write>(
     rt: &R,
     words: &ArgMatches<'_>,
     input: &mut Input<I>,
@@ -328,19 +333,59 @@ where
         // Never so: the command line takes no other number.
         return Fault::Site.name_on(err);
     };
-    let journal = words.get_str(JOURNAL).unwrap_or("");
-    let voice = voice_of(rt, words);
-    run_site_noting(
-        *rt,
-        rt.alloc(),
-        &topology,
+    let start = SiteStart {
+        topology: &topology,
         site,
-        journal,
-        input,
-        out,
-        err,
-        voice,
-    )
+        journal: words.get_str(JOURNAL).unwrap_or(""),
+        patience: patience_of(words),
+    };
+    let voice = voice_of(rt, words);
+    run_site_noting(*rt, rt.alloc(), start, input, out, err, voice)
+}
+
+/// Runs the site that the words name for clients.
+fn serve_clients<R, W: Write, E: Write>(
+    rt: &R,
+    words: &ArgMatches<'_>,
+    out: &mut Output<W>,
+    err: &mut Output<E>,
+) -> u8
+where
+    R: AllocGlobal
+        + Eprint
+        + Files<File = File>
+        + Wait
+        + Threads
+        + Clock
+        + Net<Listener = TcpListener, Stream = TcpStream>
+        + Copy
+        + Send
+        + Drop
+        + 'static,
+    ensures status { IsStatus result }
+{
+    let path = words.get_str(TOPOLOGY).unwrap_or("");
+    let topology = match read_file(rt, path, Fault::TopologyFile) {
+        Ok(bytes) => bytes,
+        Err(fault) => return fault.name_on(err),
+    };
+    let Some(own) = SiteId::new(number_of(words)) else {
+        // Never so: the command line takes no other number.
+        return Fault::Site.name_on(err);
+    };
+    let start = SiteStart {
+        topology: &topology,
+        site: own,
+        journal: words.get_str(JOURNAL).unwrap_or(""),
+        patience: patience_of(words),
+    };
+    let port = words.get_one(PORT).unwrap_or(0);
+    let voice = if words.get_flag(QUIET) {
+        None
+    } else {
+        Some(OnError { rt: *rt })
+    };
+    run_service(*rt, rt.alloc(), start, port, out, err, voice)
 }
 
 /// Tells notes on standard error.
@@ -363,6 +408,12 @@ fn voice_of<R: Eprint + Copy + Drop>(rt: &R, words: &ArgMatches<'_>) -> Option<O
     } else {
         None
     }
+}
+
+/// How long sites that don't listen yet are tried again.
+fn patience_of(words: &ArgMatches<'_>) -> Duration {
+    let seconds: u16 = words.get_one(PATIENCE).unwrap_or(0);
+    Duration::from_secs(u64::from(seconds))
 }
 
 /// The number of the site that the words name. The command line takes no word that is none.

@@ -20,6 +20,11 @@ const MOST_WRITE_SECONDS: u64 = 60;
 /// A site whose connection isn't open by then could not be connected.
 const MOST_CONNECT_SECONDS: u64 = 10;
 
+/// The pause before a site that could not be connected is tried again; each later one is twice as long, up to the longest.
+const FIRST_PAUSE_MILLISECONDS: u64 = 50;
+
+const LONGEST_PAUSE_MILLISECONDS: u64 = 1_000;
+
 /// How long a look waits for what the other end did.
 const LOOK_MILLISECONDS: u64 = 1;
 
@@ -234,32 +239,81 @@ where
 
 /// Opens connections to the ports of sites.
 #[derive(Drop)]
-pub struct TcpDial<R: Net<Stream = TcpStream> + Drop> {
+pub struct TcpDial<R: Net<Stream = TcpStream> + Clock + Drop> {
     rt: R,
     ports: Vec<(SiteId, u16)>,
+    patience: Duration,
+    /// When the first connection failed.
+    since: Option<Duration>,
     faults: u64,
 }
 
-impl<R: Net<Stream = TcpStream> + Drop> TcpDial<R> {
-    /// Each site with its port on 127.0.0.1; of equal sites the first counts.
+impl<R: Net<Stream = TcpStream> + Clock + Drop> TcpDial<R> {
+    /// Each site with its port on 127.0.0.1; of equal sites the first counts. A connection that fails is not tried again.
     pub fn new(rt: R, ports: Vec<(SiteId, u16)>) -> TcpDial<R>
         ensures { result.faults ≡ 0 }
     {
         TcpDial {
             rt,
             ports,
+            patience: Duration::ZERO,
+            since: None,
             faults: 0,
         }
     }
 
-    fn open(&self, site: SiteId) -> Result<TcpStream, IoFault> {
+    /// The same, where connections that fail are tried again for so long, which counts for all sites together from the
+    /// first that failed. A connection has failed once the last try has.
+    pub fn with_patience(self, patience: Duration) -> TcpDial<R>
+        ensures { result.faults ≡ self.faults }
+    {
+        TcpDial { patience, ..self }
+    }
+
+    fn address(&self, site: SiteId) -> Option<SocketAddr> {
         for (of, port) in &self.ports {
             if *of == site {
-                let address = SocketAddr::from((Ipv4Addr::LOCALHOST, *port));
-                return open_stream(&self.rt, address);
+                return Some(SocketAddr::from((Ipv4Addr::LOCALHOST, *port)));
             }
         }
+        None
+    }
+
+    fn open(&mut self, site: SiteId) -> Result<TcpStream, IoFault>
+        ensures { self.new.faults ≡ self.old.faults }
+    {
+        let Some(address) = self.address(site) else {
+            return Err(IoFault);
+        };
+        let mut pause = Duration::from_millis(FIRST_PAUSE_MILLISECONDS);
+        for turn in 0..u64::MAX {
+            let opened = open_stream(&self.rt, address);
+            if opened.is_ok() || !self.has_patience() {
+                return opened;
+            }
+            thread::sleep(&self.rt, pause);
+            pause = pause
+                .saturating_add(pause)
+                .min(Duration::from_millis(LONGEST_PAUSE_MILLISECONDS));
+        }
         Err(IoFault)
+    }
+
+    /// Whether a connection that failed just now is tried again.
+    fn has_patience(&mut self) -> bool
+        ensures { self.new.faults ≡ self.old.faults }
+    {
+        let Ok(now) = self.rt.monotonic() else {
+            return false;
+        };
+        let since = match self.since {
+            Some(since) => since,
+            None => {
+                self.since = Some(now);
+                now
+            }
+        };
+        now.saturating_sub(since) < self.patience
     }
 }
 
@@ -283,7 +337,7 @@ fn open_stream<R: Net<Stream = TcpStream>>(
     Ok(stream)
 }
 
-impl<R: Net<Stream = TcpStream> + Drop> Dial for TcpDial<R> {
+impl<R: Net<Stream = TcpStream> + Clock + Drop> Dial for TcpDial<R> {
     type Out = TcpOutgoing;
 
     type Line = TcpLine;

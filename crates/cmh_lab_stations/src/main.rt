@@ -14,6 +14,7 @@ mod links;
 mod making;
 mod noting;
 mod object;
+mod questions;
 mod shared;
 mod station;
 mod stepping;

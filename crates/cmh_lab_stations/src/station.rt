@@ -7,6 +7,7 @@ ghost use Rattle.cmh_lab_stations.specs.Disks.{failures_of};
 use crate::disk::Disk;
 use crate::left::Left;
 use crate::object::Object;
+use crate::questions::question;
 use crate::shared::share;
 use crate::stepping::{Stepping, Steps, call_stepping, look};
 use crate::taps::take_from;
@@ -188,7 +189,7 @@ impl<R: Wait + Copy + Drop> Opened<R> {
         Ok(())
     }
 
-    /// A look at the journal or the sink, or a step.
+    /// A look at the journal or the sink, a question, or a step.
     fn look_or_step(
         &mut self,
         alloc: Global,
@@ -204,6 +205,9 @@ impl<R: Wait + Copy + Drop> Opened<R> {
             first,
             answer,
         )? {
+            return Ok(());
+        }
+        if question(alloc, station, first, words, answer)? {
             return Ok(());
         }
         call_stepping(alloc, self, first, words, answer)

@@ -151,12 +151,12 @@ impl<R: Wait + Drop, S: Sink, B: Listing, L: Line + Drop> Handover for Entrance<
     #[tactic(auto, using(cmh_loops::proofs::Batches::handed_untold, cmh_loops::proofs::Batches::some_left))]
     fn hand_all(&mut self, from: SiteId, frames: &[Frame]) -> Result<(), StationRefusal> {
         self.seat.tell();
-        let answer = self
-            .hub
-            .station
-            .lock(&self.rt)
-            .take_frames(&self.rt, from, frames);
-        self.hub.station.wake();
+        let mut station = self.hub.station.lock(&self.rt);
+        let before = station.journal().len();
+        let answer = station.take_frames(&self.rt, from, frames);
+        let news = self.hub.station.news(&station, before);
+        drop(station);
+        self.hub.station.wake_for(news);
         match answer {
             Ok(()) => Ok(()),
             Err(refusal) => {

@@ -10,7 +10,7 @@ mod threads;
 mod turned_away;
 mod watching;
 
-pub use crate::threads::SiteThreads;
+pub use crate::threads::{LinkView, SiteThreads};
 pub use crate::turned_away::stranger_law;
 pub use cmh_loops::{
     FrameSource, Handover, Lent, Next, ReaderEnd, lent_law, run_reader, run_writer,

@@ -48,6 +48,18 @@ pub struct SiteThreads<R, S: Sink, B: Listing, D: Dial> {
     ghost causes: { failed_in places.items ≡ length (closed_with 1 places.items) + length (closed_with 6 places.items) },
 }
 
+/// The states of a site's links, which another thread looks at.
+#[derive(Drop)]
+pub struct LinkView<S: Sink, B: Listing> {
+    hub: Arc<Hub<S, B>>,
+}
+
+impl<S: Sink, B: Listing> LinkView<S, B> {
+    pub fn links(&self) -> &SharedLinks {
+        &self.hub.links
+    }
+}
+
 /// What `start` needs memory for.
 struct Parts<S: Sink, B: Listing, L: Line + Drop, O: Line + Drop> {
     hub: Arc<Hub<S, B>>,
@@ -190,6 +202,13 @@ where
     /// The states of the site's links.
     pub fn links(&self) -> &SharedLinks {
         &self.hub.links
+    }
+
+    /// The same, for another thread.
+    pub fn view(&self) -> Result<LinkView<S, B>, AllocError> {
+        Ok(LinkView {
+            hub: Arc::try_clone(&self.hub)?,
+        })
     }
 
     /// Opens the outgoing links that are new, ascending, and starts a writing thread for each. Says how many have one,

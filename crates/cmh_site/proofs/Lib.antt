@@ -1,3 +1,4 @@
 pub mod ClusterEndings
 pub mod Endings
-mod SiteTurns
+mod Taking
+mod Waiting

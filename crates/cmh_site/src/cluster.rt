@@ -463,14 +463,15 @@ where
     {
         let speaker = self.noting.speaker(Origin::Site(site))?;
         let theirs = self.noting.speaker(Origin::Site(site))?;
+        let dial = TcpDial::new(self.rt, ports.pairs(self.alloc)?);
         let (station, reader, threads) = start_threads(
             self.rt,
             self.alloc,
             self.topology,
             site,
-            ports,
             opened,
             listen,
+            dial,
             theirs,
         )?;
         let member = Member {

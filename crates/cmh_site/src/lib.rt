@@ -5,9 +5,13 @@ mod cluster;
 mod site;
 mod site_reply;
 mod starting;
+mod together;
 
 pub use crate::cluster::{run_cluster, run_cluster_noting};
-pub use crate::site::{run_site, run_site_noting};
+pub use crate::site::{SiteHost, SiteStart, run_site, run_site_noting};
+pub use crate::site_reply::{LinkEnds, SiteReply};
+pub use crate::starting::{FileStation, Running, Started, declared, link_ends, note_seal, step};
+pub use crate::together::{Answer, reply_to};
 pub use cmh_files::{
     Fault, TopologyFile, TopologyFileFault, read_topology_file, read_topology_file_with_ports,
     run_audit, run_show,

@@ -1,29 +1,33 @@
 //! The command `site`: one site, driven by the lines of an input.
 
-ghost use Rattle.std.specs.Prelude.{◌≡◌, ◌≢◌, ◌⊎◌, true, false, IfOk, IfErr, IfSome, MatchBool, OnOk};
+ghost use Rattle.std.specs.Prelude.{◌≡◌, ◌≢◌, ◌≤◌, ◌⊎◌, [], length, true, false, IfOk, IfErr, IfSome, MatchBool, OnOk};
 ghost use Rattle.cmh_files.specs.Faults.{NamesFault};
 ghost use Rattle.cmh_files.specs.Status.{IsStatus};
-ghost use Rattle.cmh_running.specs.Dialogue.{Conversed, HasAnswered, line_of};
+ghost use Rattle.cmh_running.specs.Dialogue.{Conversed, line_of};
 ghost use Rattle.cmh_links.specs.Threads.{connected_in, failed_in};
 ghost use Rattle.cmh_site.specs.Endings.{IsSiteFault, Served, Welcomed};
 ghost use Rattle.cmh_play.specs.Play.{IsAnswerFault, IsPlayFault};
 ghost use Rattle.cmh_site.specs.SiteTalk.{AnswersSite, CountsLinks, IsConnected, IsTurnOfSite, WasSaidToSite};
+ghost use Rattle.cmh_site.specs.Together.{SaidTurn, SaysEvent, WereAnswered};
+ghost use Rattle.cmh_station.specs.Journaled.{batch_limit};
 
 use crate::site_reply::SiteReply;
 use crate::starting::{
-    FileStation, Running, declared, fault_of, link_ends, open_station, start_threads, step,
+    FileStation, Running, Started, declared, fault_of, link_ends, open_station, start_threads, step,
 };
+use crate::together::answer_events;
 use cmh_carriers::{Dial, TcpDial, TcpListen};
 use cmh_files::{Fault, read_topology_file_with_ports};
 use cmh_frames::{SiteId, Topology};
 use cmh_journal::Sink;
+use cmh_model::Event;
 use cmh_notes::{NoVoice, Note, Noting, Origin, Speaker, Voice};
 use cmh_running::{
     Disk, EventLine, Flow, JournalSink, NewJournal, Order, Ports, SiteLine, can_be_made,
     make_journal, parse_for_site,
 };
-use cmh_script::{Input, NextLine, Output, read_line};
-use cmh_station::{BoardReader, KeptBoard, Listing};
+use cmh_script::{Ahead, Input, NextLine, Output, read_line};
+use cmh_station::{BATCH_LIMIT, BoardReader, KeptBoard, Listing};
 use std::alloc::{AllocError, Global};
 use std::fs::File;
 use std::io::{BufRead, Write};
@@ -31,15 +35,15 @@ use std::net::{Net, TcpListener, TcpStream};
 use std::rt::Files;
 use std::sync::{Arc, Wait};
 use std::thread::Threads;
-use std::time::Clock;
+use std::time::{Clock, Duration};
 
 /// Runs one site of a topology until `quit` or the end of its input, and answers the status of the program: 0 then, 1 where
 /// memory ran out, 3 at any other fault. A fault is named on `err`, and a write to it that fails is ignored.
 ///
-/// Each line is answered, and the answer flushed, before the next one is awaited. The entry of a step is in the journal's
-/// file, and synced, before the step is answered. A file that stands at the journal's path and isn't empty is kept under
+/// Each line is answered, and the answer flushed, before the next one is awaited. Events of lines that are there already
+/// share a sync, at most 64. The entry of a step is in the journal's file, and synced, before the step is answered. A file that stands at the journal's path and isn't empty is kept under
 /// the path with a number behind, as `.1`, whose name was free.
-pub fn run_site<R, I: BufRead, W: Write, E: Write>(
+pub fn run_site<R, I: BufRead + Ahead, W: Write, E: Write>(
     rt: R,
     alloc: Global,
     topology: &[u8],
@@ -73,16 +77,32 @@ where
         result (E.contents err.old.inner) (E.contents err.new.inner) err.new.has_failed }
 {
     let nobody: Option<NoVoice> = None;
-    run_site_noting(rt, alloc, topology, site, journal, input, out, err, nobody)
+    let start = SiteStart {
+        topology,
+        site,
+        journal,
+        patience: Duration::ZERO,
+    };
+    run_site_noting(rt, alloc, start, input, out, err, nobody)
+}
+
+/// What one site is started with.
+#[derive(Clone, Copy)]
+pub struct SiteStart<'a> {
+    /// The bytes of the topology file.
+    pub topology: &'a [u8],
+    pub site: SiteId,
+    /// The path of the journal.
+    pub journal: &'a str,
+    /// How long sites that can't be connected are tried again, for all together.
+    pub patience: Duration,
 }
 
 /// The same, where what the site notices is told by a voice, if there is one, in a thread that nobody waits for.
-pub fn run_site_noting<R, I: BufRead, W: Write, E: Write, V>(
+pub fn run_site_noting<R, I: BufRead + Ahead, W: Write, E: Write, V>(
     rt: R,
     alloc: Global,
-    topology: &[u8],
-    site: SiteId,
-    journal: &str,
+    start: SiteStart<'_>,
     input: &mut Input<I>,
     out: &mut Output<W>,
     err: &mut Output<E>,
@@ -103,20 +123,28 @@ where
 
     // At status 0 it said that it listens, answered each line in its order, and said that it stopped.
     ensures served { result ≡ 0 → IfSome (I.remaining input.old.inner)
-        (λ bytes. Served site bytes (W.contents out.old.inner) (W.contents out.new.inner)) }
+        (λ bytes. Served start.entry.site bytes (W.contents out.old.inner) (W.contents out.new.inner)) }
     ensures flushed { result ≡ 0 → out.new.is_flushed ≡ true }
     ensures silent { result ≡ 0 → err.new ≡ err.old }
 
     // Else a fault is named that has a cause.
     ensures fault { result ≢ 0 → NamesFault
-        (IsSiteFault topology.now site (I.remaining input.old.inner) input.new.has_failed out.new.has_failed)
+        (IsSiteFault start.entry.topology.now start.entry.site (I.remaining input.old.inner) input.new.has_failed out.new.has_failed)
         result (E.contents err.old.inner) (E.contents err.new.inner) err.new.has_failed }
 {
     let noting = match Noting::start(rt, alloc, voice) {
         Ok(noting) => noting,
         Err(AllocError) => return Fault::Memory.name_on(err),
     };
-    let served = site_into(rt, alloc, topology, site, journal, input, out, &noting);
+    let SiteStart {
+        topology,
+        site,
+        journal,
+        patience,
+    } = start;
+    let served = site_into(
+        rt, alloc, topology, site, journal, patience, input, out, &noting,
+    );
     noting.end(&rt);
     match served {
         Ok(()) => 0,
@@ -124,12 +152,13 @@ where
     }
 }
 
-fn site_into<R, I: BufRead, W: Write>(
+fn site_into<R, I: BufRead + Ahead, W: Write>(
     rt: R,
     alloc: Global,
     topology: &[u8],
     site: SiteId,
     journal: &str,
+    patience: Duration,
     input: &mut Input<I>,
     out: &mut Output<W>,
     noting: &Noting,
@@ -156,7 +185,7 @@ where
         return Err(Fault::Site);
     }
     let ports = Ports::new(alloc, &file.rows, &ports)?;
-    let mut host = SiteHost::start(rt, alloc, &world, site, &ports, journal, noting)?;
+    let mut host = SiteHost::start(rt, alloc, &world, site, &ports, journal, patience, noting)?;
     let answered = host.serve(input, out);
     host.stop();
     answered?;
@@ -192,7 +221,7 @@ where
 }
 
 /// A running site, as the lines of its input know it.
-struct SiteHost<'a, R>
+pub struct SiteHost<'a, R>
 where
     R: Wait
         + Threads
@@ -230,13 +259,14 @@ where
         + 'static,
 {
     /// Takes the site's port, makes its journal, and starts its threads.
-    fn start(
+    pub fn start(
         rt: R,
         alloc: Global,
         topology: &'a Topology,
         site: SiteId,
         ports: &Ports,
         journal: &str,
+        patience: Duration,
         noting: &Noting,
     ) -> Result<Self, Fault>
         ensures site { IfOk result (λ host. host.site ≡ site) }
@@ -244,6 +274,7 @@ where
         ensures fault { IfErr result (λ fault. (fault ≡ Fault.Listen) ⊎ (fault ≡ Fault.JournalDisk)
             ⊎ (fault ≡ Fault.Memory)) }
     {
+        let pairs = ports.pairs(alloc)?;
         let speaker = noting.speaker(Origin::Alone)?;
         let theirs = noting.speaker(Origin::Alone)?;
         let Some(port) = ports.of(site) else {
@@ -257,8 +288,9 @@ where
         };
         let opened = open_station(rt, alloc, topology, site, sink, Fault::JournalDisk)?;
         note_kept(&rt, speaker.as_ref(), kept);
+        let dial = TcpDial::new(rt, pairs).with_patience(patience);
         let (station, reader, threads) = start_threads(
-            rt, alloc, topology, site, ports, opened, listen, theirs,
+            rt, alloc, topology, site, opened, listen, dial, theirs,
         )?;
         Ok(SiteHost {
             rt,
@@ -271,6 +303,22 @@ where
             threads,
             has_connected: false,
         })
+    }
+
+    /// Its station, the reader of its board, its threads, and what makes its notes.
+    pub fn into_parts(self) -> (Started<R>, Option<Speaker>) {
+        let SiteHost {
+            rt: _,
+            alloc: _,
+            topology: _,
+            site: _,
+            station,
+            speaker,
+            reader,
+            threads,
+            has_connected: _,
+        } = self;
+        ((station, reader, threads), speaker)
     }
 
     /// Ends the threads.
@@ -291,7 +339,7 @@ where
     }
 
     /// Says that it listens, and answers line after line.
-    fn serve<I: BufRead, W: Write>(
+    fn serve<I: BufRead + Ahead, W: Write>(
         &mut self,
         input: &mut Input<I>,
         out: &mut Output<W>,
@@ -306,8 +354,9 @@ where
         self.answer_all(input, out)
     }
 
-    /// Gives line after line to `answer`, until one ends it or none is left.
-    fn answer_all<I: BufRead, W: Write>(
+    /// Answers line after line, until one ends it or none is left. Events of lines that are there already wait for each
+    /// other, and share a sync.
+    fn answer_all<I: BufRead + Ahead, W: Write>(
         &mut self,
         input: &mut Input<I>,
         out: &mut Output<W>,
@@ -318,29 +367,62 @@ where
         ensures fault { IfErr result (IsPlayFault (I.remaining input.old.inner) input.new.has_failed out.new.has_failed) }
     {
         let mut buffer = Vec::new(self.alloc);
+        let mut events = Vec::new(self.alloc);
         for turn in 0..u64::MAX {
             let next = read_line(input, &mut buffer)?;
             if next.is_end() {
+                self.answer_waiting(&mut events, out)?;
                 return Ok(());
             }
-            let flow = self.answer(next, out)?;
-            match flow {
-                Flow::Awaits => {}
-                Flow::Ends => return Ok(()),
+            let said = said_by(self.alloc, next)?;
+            match event_of(said) {
+                Ok(event) => {
+                    events.push(event)?;
+                    if events.len() >= BATCH_LIMIT || !input.has_line() {
+                        self.answer_waiting(&mut events, out)?;
+                    }
+                }
+                Err(said) => {
+                    self.answer_waiting(&mut events, out)?;
+                    match self.answer(said, out)? {
+                        Flow::Awaits => {}
+                        Flow::Ends => return Ok(()),
+                    }
+                }
             }
         }
         Err(Fault::Input)
     }
 
-    /// Answers a line.
-    fn answer<W: Write>(&mut self, next: NextLine<'_>, out: &mut Output<W>) -> Result<Flow, Fault>
-        ensures answers { IfOk result (λ flow.
-            HasAnswered (λ said text. IsTurnOfSite self.old.site self.old.has_connected self.new.has_connected said text flow)
-            (line_of next.entry) (W.contents out.old.inner) (W.contents out.new.inner)) }
+    /// Answers the events that wait, of which none is left then.
+    fn answer_waiting<W: Write>(
+        &self,
+        events: &mut Vec<Event>,
+        out: &mut Output<W>,
+    ) -> Result<(), Fault>
+        requires { length events.old.items ≤ batch_limit }
+        ensures answered { OnOk result (WereAnswered events.old.items (W.contents out.old.inner)
+            (W.contents out.new.inner)) }
+        ensures none { OnOk result (events.new.items ≡ []) }
+        ensures fault { IfErr result (λ fault. (fault ≡ Fault.Output) × (out.new.has_failed ≡ true)) }
+    {
+        if events.is_empty() {
+            return Ok(());
+        }
+        let speaker = self.speaker.as_ref();
+        answer_events(&self.rt, &self.station, speaker, events, out)?;
+        out.flush()?;
+        events.clear();
+        Ok(())
+    }
+
+    /// Answers a line, and flushes the answer.
+    fn answer<W: Write>(&mut self, said: SiteLine, out: &mut Output<W>) -> Result<Flow, Fault>
+        ensures answers { IfOk result (λ flow. SaidTurn self.old.site self.old.has_connected self.new.has_connected
+            said flow (W.contents out.old.inner) (W.contents out.new.inner)) }
         ensures site { self.new.site ≡ self.old.site }
         ensures fault { IfErr result (IsAnswerFault (W.contents out.old.inner) (W.contents out.new.inner) out.new.has_failed) }
     {
-        let said = said_by(self.alloc, next)?;
         let (reply, flow) = self.reply(said)?;
         out.write_text(&reply)?;
         out.flush()?;
@@ -364,7 +446,7 @@ where
             }
             SiteLine::Order(Order::Connect) => Ok((self.connect(), Flow::Awaits)),
             SiteLine::Order(Order::Links) => {
-                let reply = link_ends(&self.rt, self.alloc, self.topology, &self.threads)?;
+                let reply = link_ends(&self.rt, self.alloc, self.topology, self.threads.links())?;
                 Ok((reply, Flow::Awaits))
             }
             SiteLine::Order(Order::Quit) => Ok((SiteReply::Silent, Flow::Ends)),
@@ -397,5 +479,16 @@ fn said_by(alloc: Global, next: NextLine<'_>) -> Result<SiteLine, AllocError>
         NextLine::Line(line) => parse_for_site(alloc, line),
         NextLine::TooLong => Ok(SiteLine::Event(EventLine::Bad)),
         NextLine::End => Ok(SiteLine::Event(EventLine::Bad)),
+    }
+}
+
+/// The event that a line says; the line where it says none.
+fn event_of(said: SiteLine) -> Result<Event, SiteLine>
+    ensures event { IfOk result (SaysEvent said) }
+    ensures other { IfErr result (λ other. other ≡ said) }
+{
+    match said {
+        SiteLine::Event(EventLine::Act { process: _, event }) => Ok(event),
+        said => Err(said),
     }
 }

@@ -10,11 +10,11 @@ use crate::site_reply::{LinkEnds, SiteReply};
 use cmh_carriers::{TcpDial, TcpListen};
 use cmh_files::Fault;
 use cmh_frames::{SiteId, Topology};
-use cmh_links::{LinkFault, LinkState, SiteThreads};
+use cmh_links::{LinkFault, LinkState, SharedLinks, SiteThreads};
 use cmh_model::Event;
 use cmh_notes::{Note, Speaker};
 use cmh_playground::Done;
-use cmh_running::{JournalSink, NoFile, Ports};
+use cmh_running::{JournalSink, NoFile};
 use cmh_station::{BoardReader, KeptBoard, LinkTap, SharedStation, Station, StationRefusal};
 use std::alloc::{AllocError, Global};
 use std::net::{Net, TcpListener, TcpStream};
@@ -23,10 +23,10 @@ use std::thread::Threads;
 use std::time::Clock;
 
 /// A station whose journal is a file, with the lock round it.
-pub(crate) type FileStation<R> = SharedStation<JournalSink, KeptBoard<R>>;
+pub type FileStation<R> = SharedStation<JournalSink, KeptBoard<R>>;
 
 /// The threads of a site over TCP.
-pub(crate) type Running<R> = SiteThreads<R, JournalSink, KeptBoard<R>, TcpDial<R>>;
+pub type Running<R> = SiteThreads<R, JournalSink, KeptBoard<R>, TcpDial<R>>;
 
 /// A station that no thread has yet, the taps of its links, and the reader of its board.
 #[derive(Drop)]
@@ -79,7 +79,7 @@ where
 }
 
 /// A site that runs: its station, the reader of its board, and its threads.
-pub(crate) type Started<R> = (Arc<FileStation<R>>, BoardReader, Running<R>);
+pub type Started<R> = (Arc<FileStation<R>>, BoardReader, Running<R>);
 
 /// Starts the threads of a station, which listen.
 pub(crate) fn start_threads<R>(
@@ -87,9 +87,9 @@ pub(crate) fn start_threads<R>(
     alloc: Global,
     topology: &Topology,
     site: SiteId,
-    ports: &Ports,
     opened: Opened<R>,
     listen: TcpListen<R>,
+    dial: TcpDial<R>,
     speaker: Option<Speaker>,
 ) -> Result<Started<R>, Fault>
 where
@@ -101,7 +101,8 @@ where
         + Send
         + Drop
         + 'static,
-    requires { listen.faults ≡ 0 }
+    requires listens { listen.faults ≡ 0 }
+    requires dials { dial.faults ≡ 0 }
     ensures fault { IfErr result (λ fault. fault ≡ Fault.Memory) }
 {
     let Opened {
@@ -114,7 +115,6 @@ where
     };
     let station = Arc::new(alloc, shared)?;
     let theirs = Arc::try_clone(&station)?;
-    let dial = TcpDial::new(rt, ports.pairs(alloc)?);
     match SiteThreads::start_noting(
         rt, alloc, topology, site, theirs, taps, listen, dial, speaker,
     ) {
@@ -125,7 +125,7 @@ where
 
 /// Gives an event to a station, and wakes the threads that write what it sent once the lock is given back. Where the
 /// journal can't be written, that is noted.
-pub(crate) fn step<R: Wait + Drop>(
+pub fn step<R: Wait + Drop>(
     rt: &R,
     station: &FileStation<R>,
     speaker: Option<&Speaker>,
@@ -133,8 +133,12 @@ pub(crate) fn step<R: Wait + Drop>(
 ) -> SiteReply
     ensures { WasStepped event.now result }
 {
-    let answer = station.lock(rt).step(rt, event);
-    station.wake();
+    let mut lent = station.lock(rt);
+    let before = lent.journal().len();
+    let answer = lent.step(rt, event);
+    let news = station.news(&lent, before);
+    drop(lent);
+    station.wake_for(news);
     match answer {
         Ok(outcome) => SiteReply::Taken(Done {
             sent: outcome.sent.as_slice().len(),
@@ -147,7 +151,7 @@ pub(crate) fn step<R: Wait + Drop>(
     }
 }
 
-fn note_seal<R: Wait>(rt: &R, speaker: Option<&Speaker>, refusal: StationRefusal) {
+pub fn note_seal<R: Wait>(rt: &R, speaker: Option<&Speaker>, refusal: StationRefusal) {
     if refusal == StationRefusal::Disk {
         if let Some(speaker) = speaker {
             speaker.note(rt, Note::Sealed);
@@ -157,7 +161,7 @@ fn note_seal<R: Wait>(rt: &R, speaker: Option<&Speaker>, refusal: StationRefusal
 
 /// The processes that a site declared, in their order in time: the board is told under the lock, and read once that is
 /// given back. The only error is out of memory.
-pub(crate) fn declared<R: Wait + Drop>(
+pub fn declared<R: Wait + Drop>(
     rt: &R,
     site: SiteId,
     station: &FileStation<R>,
@@ -179,39 +183,30 @@ pub(crate) fn declared<R: Wait + Drop>(
 }
 
 /// The states of a site's links, each look under the lock of the table alone.
-pub(crate) fn link_ends<R>(
+pub fn link_ends<R: Wait>(
     rt: &R,
     alloc: Global,
     topology: &Topology,
-    threads: &Running<R>,
+    links: &SharedLinks,
 ) -> Result<SiteReply, AllocError>
-where
-    R: Wait
-        + Threads
-        + Clock
-        + Net<Listener = TcpListener, Stream = TcpStream>
-        + Copy
-        + Send
-        + Drop
-        + 'static,
     ensures links { IfOk result IsLinks }
     ensures sites { IfOk result (AreLinksOf (sites_of topology.now)) }
 {
-    let mut links = Vec::with_capacity(alloc, topology.sites().len())?;
+    let mut ends = Vec::with_capacity(alloc, topology.sites().len())?;
     for other in topology.sites() {
-        let table = threads.links().lock(rt);
+        let table = links.lock(rt);
         if let (Some(outgoing), Some(incoming)) = (
             table.state_out(*other),
             table.state_in(*other),
         ) {
-            links.push(LinkEnds {
+            ends.push(LinkEnds {
                 site: *other,
                 outgoing,
                 incoming,
             })?;
         }
     }
-    Ok(SiteReply::Links(links))
+    Ok(SiteReply::Links(ends))
 }
 
 /// Why the link to a site is closed, where it is.

@@ -152,13 +152,3 @@ pub fn wait_until<R: Clock, F: Fn() -> bool>(rt: &R, holds: F)
         thread::sleep(rt, Duration::from_millis(1));
     }
 }
-
-/// Looks each millisecond until the journal of a station has so many entries, for some seconds at most.
-pub fn await_entries<R: Wait + Clock + Drop>(rt: &R, station: &Shared<R>, count: usize) {
-    for _ in 0..PATIENCE {
-        if station.lock(rt).journal().len() >= count {
-            return;
-        }
-        thread::sleep(rt, Duration::from_millis(1));
-    }
-}

@@ -1,5 +1,5 @@
 //! What only threads of one program show: a station that is locked while others take and read, links that are served at
-//! the same time, connections that are turned away, and thousands of frames over sockets.
+//! the same time, and connections that are turned away.
 #![tactic(auto)]
 
 #[cfg(test)]
@@ -8,5 +8,3 @@ mod fixture;
 mod links;
 #[cfg(test)]
 mod locking;
-#[cfg(test)]
-mod sockets;

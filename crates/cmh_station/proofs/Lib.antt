@@ -6,3 +6,4 @@ pub mod Declarations
 pub mod Stepping
 pub mod Arriving
 pub mod Refused
+pub mod Alone

@@ -5,3 +5,4 @@ pub mod Stopped
 pub mod Stations
 pub mod Appends
 pub mod Arrivals
+pub mod Questions

@@ -17,7 +17,7 @@ pub use crate::batch::BATCH_LIMIT;
 pub use crate::journaled::JournaledController;
 pub use crate::parking_tap::ParkingTap;
 pub use crate::refusal::StationRefusal;
-pub use crate::shared::SharedStation;
+pub use crate::shared::{News, SharedStation};
 pub use crate::station::Station;
 pub use cmh_board::{BoardReader, Declared, KeptBoard, Listing, Told};
 pub use cmh_ring::LinkTap;

@@ -1,22 +1,40 @@
 //! A station that threads share.
 
-ghost use Rattle.std.specs.Prelude.{◌≡◌, ◌≤◌, [], IfOk, IfErr};
+ghost use Rattle.std.specs.Prelude.{◌≡◌, ◌≤◌, [], length, IfOk, IfErr};
 ghost use Rattle.std.specs.Vec.{vec_len, vec_capacity};
 
 use crate::parking_tap::ParkingTap;
 use crate::station::Station;
 use cmh_board::Listing;
+use cmh_frames::SiteId;
 use cmh_journal::Sink;
 use cmh_ring::LinkTap;
 use crossbeam_utils::sync::{Parker, Unparker};
 use std::alloc::{AllocError, Global};
-use std::sync::{Mutex, MutexGuard, Wait};
+use std::sync::{Mutex, MutexGuard, OnceLock, Wait};
 
 /// A station under a lock, and what wakes the threads of its taps.
 #[derive(Drop)]
 pub struct SharedStation<S: Sink, B: Listing> {
     station: Mutex<Station<S, B>>,
-    sleepers: Vec<Unparker>,
+    sleepers: Vec<Sleeper>,
+    /// What wakes the thread that tells declarations, where there is one.
+    watcher: OnceLock<Unparker>,
+}
+
+/// What wakes the thread of the link to a site.
+#[derive(Drop)]
+struct Sleeper {
+    to: SiteId,
+    unparker: Unparker,
+}
+
+/// Who has something to do after steps: the threads of links that frames were sent on, and the one that tells
+/// declarations. A site has at most 63 links, and each has a bit by its place.
+#[derive(Clone, Copy, Debug, PartialEq, Eq)]
+pub struct News {
+    links: u64,
+    declares: bool,
 }
 
 impl<S: Sink, B: Listing> SharedStation<S, B> {
@@ -33,14 +51,20 @@ impl<S: Sink, B: Listing> SharedStation<S, B> {
         let Ok(parking) = Vec::with_capacity(alloc, taps.len()) else {
             return Err((station, taps));
         };
-        let Ok((parkers, sleepers)) = make_parkers(alloc, taps.len()) else {
+        let Ok((parkers, sleepers)) = make_parkers(alloc, &taps) else {
             return Err((station, taps));
         };
         let shared = SharedStation {
             station: Mutex::new(station),
             sleepers,
+            watcher: OnceLock::new(),
         };
         Ok((shared, with_parkers(taps, parkers, parking)))
+    }
+
+    /// Has `wake_for` wake one more thread where something was declared. Only the first call counts.
+    pub fn watch(&self, watcher: Unparker) {
+        let _ = self.watcher.try_set(watcher);
     }
 
     /// The station, lent until the guard is dropped. It waits for whoever holds it; a thread that holds it and asks
@@ -51,10 +75,43 @@ impl<S: Sink, B: Listing> SharedStation<S, B> {
 
     /// Wakes the threads that sleep in `park`, of all taps. It locks nothing, waits for nobody and takes no memory.
     ///
-    /// It is called after each step, once the guard is dropped.
+    /// After steps it serves to call `wake_for`, which wakes fewer.
     pub fn wake(&self) {
         for sleeper in &self.sleepers {
-            sleeper.unpark();
+            sleeper.unparker.unpark();
+        }
+    }
+
+    /// Who has something to do after the entries that the station has made since its journal had so many.
+    pub fn news(&self, station: &Station<S, B>, before: usize) -> News {
+        let mut news = News {
+            links: 0,
+            declares: false,
+        };
+        for entry in station.journal().get(before..).unwrap_or(&[]) {
+            news.declares |= entry.declared.is_some();
+            for (to, _) in entry.sent.as_slice() {
+                if let Some(place) = self.sleepers.iter().position(|sleeper| sleeper.to == *to) {
+                    news.links |= 1 << (place % 64);
+                }
+            }
+        }
+        news
+    }
+
+    /// Wakes those threads. It locks nothing, waits for nobody and takes no memory.
+    ///
+    /// It is called after each step, once the guard is dropped.
+    pub fn wake_for(&self, news: News) {
+        for (place, sleeper) in self.sleepers.iter().enumerate() {
+            if news.links >> (place % 64) & 1 == 1 {
+                sleeper.unparker.unpark();
+            }
+        }
+        if news.declares {
+            if let Some(watcher) = self.watcher.get() {
+                watcher.unpark();
+            }
         }
     }
 
@@ -63,22 +120,27 @@ impl<S: Sink, B: Listing> SharedStation<S, B> {
         let SharedStation {
             station,
             sleepers: _sleepers,
+            watcher: _watcher,
         } = self;
         station.into_inner()
     }
 }
 
-/// So many parkers, and what wakes each.
-fn make_parkers(alloc: Global, count: usize) -> Result<(Vec<Parker>, Vec<Unparker>), AllocError>
-    ensures { IfOk result (λ made. (vec_len made.0 ≡ count) × (vec_len made.1 ≡ count)) }
+/// A parker for each tap, the last one first, and what wakes each, in the order of the taps.
+fn make_parkers(alloc: Global, taps: &[LinkTap]) -> Result<(Vec<Parker>, Vec<Sleeper>), AllocError>
+    ensures { IfOk result (λ made. vec_len made.0 ≡ length taps.now) }
 {
-    let mut parkers = Vec::with_capacity(alloc, count)?;
-    let mut sleepers = Vec::with_capacity(alloc, count)?;
-    for _ in 0..count {
+    let mut parkers = Vec::with_capacity(alloc, taps.len())?;
+    let mut sleepers = Vec::with_capacity(alloc, taps.len())?;
+    for tap in taps {
         let parker = Parker::new(alloc)?;
-        sleepers.push(parker.unparker().clone()?)?;
+        sleepers.push(Sleeper {
+            to: tap.to(),
+            unparker: parker.unparker().clone()?,
+        })?;
         parkers.push(parker)?;
     }
+    parkers.reverse();
     Ok((parkers, sleepers))
 }
 

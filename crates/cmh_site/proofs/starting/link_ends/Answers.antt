@@ -13,9 +13,9 @@ loop-other-preserved g c =
     let inside : Contains sites c.other-item.result = subst (λ (xs : List ℕ). Contains xs c.other-item.result) c.sites-other-items.ensures.value known in
     elim c.match-state_out.branch [
       | in-Some-Some+in_ok-push w ↦
-          subst (λ l. All (λ (ends : LinkEnds). Contains sites ends.site) l.items) (sym w.links-is)
+          subst (λ l. All (λ (ends : LinkEnds). Contains sites ends.site) l.items) (sym w.ends-is)
           (subst (All (λ (ends : LinkEnds). Contains sites ends.site)) (sym w.in_ok-push.ensures.items)
-          (All-push (λ (ends : LinkEnds). Contains sites ends.site) c.loop-other.links.items _ c.loop-other.invariant inside))
-      | in-Some+in-None-1 w ↦ subst (λ l. All (λ (ends : LinkEnds). Contains sites ends.site) l.items) (sym w.links-is) c.loop-other.invariant
-      | in-None-1 w ↦ subst (λ l. All (λ (ends : LinkEnds). Contains sites ends.site) l.items) (sym w.links-is) c.loop-other.invariant
+          (All-push (λ (ends : LinkEnds). Contains sites ends.site) c.loop-other.ends.items _ c.loop-other.invariant inside))
+      | in-Some+in-None-1 w ↦ subst (λ l. All (λ (ends : LinkEnds). Contains sites ends.site) l.items) (sym w.ends-is) c.loop-other.invariant
+      | in-None-1 w ↦ subst (λ l. All (λ (ends : LinkEnds). Contains sites ends.site) l.items) (sym w.ends-is) c.loop-other.invariant
     ]

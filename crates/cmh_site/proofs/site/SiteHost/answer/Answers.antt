@@ -1,17 +1,9 @@
-use Rattle.std.proofs.Common.{refl}
 use Rattle.cmh_files.proofs.TextLemmas.{appends-kept}
-use Rattle.cmh_site.specs.SiteReplies.{reply_text}
 use Rattle.cmh_site.proofs.site.SiteHost.answer.Goals as goal
 
 pub returns-clause-answers : goal.returns-clause-answers
 returns-clause-answers g c = record {
-  text = reply_text c.in_ok-reply.reply;
-  answered = record {
-    said = c.in_ok-said.said;
-    reply = c.in_ok-reply.reply;
-    says = c.in_ok-said.ensures;
-    answers = c.in_ok-reply.ensures.replies;
-    text_is = refl;
-  };
+  reply = c.in_ok-reply.reply;
+  answers = c.in_ok-reply.ensures.replies;
   wrote = appends-kept _ _ _ _ c.in_ok-write_text.ensures.bytes c.in_ok-flush.ensures.bytes;
 }

@@ -1,0 +1,5 @@
+pub mod Clients
+pub mod Desks
+pub mod Questions
+pub mod Replies
+pub mod Taking

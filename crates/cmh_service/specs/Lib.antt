@@ -1,0 +1,4 @@
+pub mod Clients
+pub mod Desks
+pub mod Replies
+pub mod Said
