@@ -1,6 +1,7 @@
 """The trials of services: sites that clients talk to over connections of their own."""
 import os
 import random
+import select
 import signal
 import socket
 import struct
@@ -176,7 +177,9 @@ def hostile_clients(program):
         yield 'a part of a line does nothing', good.waits(1) == []
         yield 'one that never reads is closed', is_shut_out(served, go_on)
         crowd = [served.dial() for _ in range(300)]
-        shut = [peer for peer in crowd if ends_soon(peer)]
+        wait_until(lambda: len(shut_among(crowd)) >= 44, 'closed connections')
+        time.sleep(0.2)
+        shut = shut_among(crowd)
         yield '256 are served, %d closed' % len(shut), 44 <= len(shut) <= 50
         go_on()
         for peer in crowd + [long, noise]:
@@ -209,15 +212,9 @@ def is_shut_out(served, go_on):
     return False
 
 
-def ends_soon(peer):
-    """Whether a connection was closed at once."""
-    peer.settimeout(0.05)
-    try:
-        return peer.recv(1) == b''
-    except TimeoutError:
-        return False
-    except OSError:
-        return True
+def shut_among(crowd):
+    """The connections that were closed, among some on which nothing is sent."""
+    return select.select(crowd, [], [], 0)[0]
 
 
 def full_disk_of_a_service(program):
