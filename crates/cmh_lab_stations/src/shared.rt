@@ -11,7 +11,7 @@ use crate::stepping::{Stepping, Steps, call_stepping};
 use crate::taps::parking_to;
 use crate::telling::put_refusal;
 use cmh_frames::{Frame, SiteId};
-use cmh_lab_lines::{Answer, Unanswered};
+use cmh_lab_lines::{Answer, Unanswered, size};
 use cmh_model::{Event, Outcome};
 use cmh_script::Words;
 use cmh_station::{BoardReader, KeptBoard, ParkingTap, SharedStation, StationRefusal};
@@ -103,6 +103,23 @@ impl<R: Wait + Copy + Drop> Shared<R> {
         }
     }
 
+    /// `wake`: the threads of all links. `wake since COUNT`: those of the links on which frames were sent after so many
+    /// entries.
+    fn wake(&self, words: &mut Words<'_>) -> Result<(), Unanswered> {
+        match words.next_word() {
+            None => self.station.wake(),
+            Some(b"since") => {
+                let before = size(words)?;
+                let station = self.station.lock(&self.rt);
+                let news = self.station.news(&station, before);
+                drop(station);
+                self.station.wake_for(news);
+            }
+            Some(_) => return Err(Unanswered::BadLine),
+        }
+        Ok(())
+    }
+
     /// The station, which is shared no longer: `entries` and their number. The readers are left.
     fn end(self, answer: &mut Answer) -> (Object<R>, Result<(), Unanswered>) {
         let entries = self.station.into_station().journal().len();
@@ -130,7 +147,7 @@ impl<R: Wait + Copy + Drop> Shared<R> {
             b"tell" => self.tell(answer),
             b"read" => read_one(&mut self.first, &mut self.second, words, answer),
             b"wake" => {
-                self.station.wake();
+                self.wake(words)?;
                 answer.word("ok")
             }
             b"park" => {
