@@ -2,4 +2,3 @@ pub mod Clients
 pub mod Desks
 pub mod Questions
 pub mod Replies
-pub mod Taking

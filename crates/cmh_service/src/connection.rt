@@ -1,6 +1,7 @@
 //! A connection of a client.
 
 use crate::client::{Client, MOST_QUEUED};
+use mio::event::Event;
 use mio::net::TcpStream;
 use std::io::{ErrorKind, Read, Write};
 
@@ -9,9 +10,13 @@ use std::io::{ErrorKind, Read, Write};
 pub(crate) struct Connection {
     stream: TcpStream,
     pub client: Client,
+    /// How many of its events wait for their answers.
+    waiting: usize,
     /// Whether a read may give bytes without waiting, as far as is known.
     can_read: bool,
     can_write: bool,
+    /// Whether the other end may have said its last, so that a read has to be tried until it says so.
+    may_end: bool,
     /// Nothing more comes.
     has_ended: bool,
     /// A call failed, or there was no memory for what it says or is to be sent.
@@ -23,21 +28,39 @@ impl Connection {
         Connection {
             stream,
             client,
+            waiting: 0,
             can_read: true,
             can_write: true,
+            may_end: false,
             has_ended: false,
             is_broken: false,
         }
     }
 
     /// What the socket is ready for now.
-    pub fn ready(&mut self, reads: bool, writes: bool) {
-        self.can_read |= reads;
-        self.can_write |= writes;
+    pub fn ready(&mut self, event: &Event) {
+        let ends = event.is_read_closed() || event.is_error();
+        self.may_end |= ends;
+        self.can_read |= event.is_readable() || ends;
+        self.can_write |= event.is_writable() || event.is_write_closed();
     }
 
     pub fn give_up(&mut self) {
         self.is_broken = true;
+    }
+
+    /// One more of its events waits.
+    pub fn wait(&mut self) {
+        self.waiting = self.waiting.saturating_add(1);
+    }
+
+    /// One of its events was answered.
+    pub fn answered(&mut self) {
+        self.waiting = self.waiting.saturating_sub(1);
+    }
+
+    pub fn waiting(&self) -> usize {
+        self.waiting
     }
 
     /// Reads what is there, as far as there is room.
@@ -49,6 +72,8 @@ impl Connection {
             match self.stream.read(scratch) {
                 Ok(0) => self.has_ended = true,
                 Ok(count) => {
+                    // Where there was room for more nothing is left, and what comes later is told by an event.
+                    self.can_read = count == scratch.len() || self.may_end;
                     if self.client.hear(&scratch[..count]).is_err() {
                         self.is_broken = true;
                     }
@@ -83,15 +108,16 @@ impl Connection {
         }
     }
 
-    /// Whether there is more to do for it at once.
+    /// Whether there is more to do for it at once. While events of it wait, it has nothing to say.
     pub fn is_busy(&self) -> bool {
         let reads = self.can_read && !self.has_ended && self.client.has_room();
-        !self.is_broken && (reads || self.client.has_line())
+        !self.is_broken && (reads || (self.waiting == 0 && self.client.has_line()))
     }
 
     /// Whether it is to be closed.
     pub fn is_over(&self) -> bool {
         let has_said_all = (self.has_ended && !self.client.has_line()) || self.client.is_leaving();
-        self.is_broken || (has_said_all && self.client.queue().is_empty())
+        let has_all = has_said_all && self.client.queue().is_empty();
+        self.waiting == 0 && (self.is_broken || has_all)
     }
 }

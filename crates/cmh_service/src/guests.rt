@@ -1,20 +1,17 @@
-//! The clients of a service, and the rounds in which their lines are answered.
-
-ghost use Rattle.std.specs.Prelude.{None};
+//! The clients of a thread, and their turns.
 
 use crate::client::Client;
 use crate::connection::Connection;
-use crate::desk::{Desk, Waiting};
-use crate::host::Host;
+use crate::mailbox::{Delivery, Mailbox};
+use crate::rounds::Rounds;
 use crate::said::Said;
 use cmh_frames::ProcId;
 use cmh_running::EventLine;
-use cmh_site::SiteReply;
 use cmh_station::BATCH_LIMIT;
 use std::alloc::{AllocError, Global};
 use std::sync::Wait;
 
-/// How many clients are served at once; each further one is closed at once.
+/// How many clients a service has at once; each further one is closed at once.
 pub const MOST_CLIENTS: usize = 256;
 
 /// Room for the answer to one event.
@@ -23,36 +20,47 @@ const MOST_ANSWER: usize = 64;
 /// How many bytes are read at once, at most.
 const MOST_READ: usize = 1 << 14;
 
-/// The clients of a service, each at a place of its own.
+/// The clients of a thread, each at a place of its own.
 #[derive(Drop)]
 pub(crate) struct Guests {
-    alloc: Global,
     places: Vec<Option<Connection>>,
+    /// The number of the thread.
+    number: usize,
+    /// How many of their events wait for their answers.
+    waiting: usize,
     /// Whose turn is first in the next round.
     first: usize,
+    /// Room for the answers that came.
+    replies: Vec<Delivery>,
     scratch: Vec<u8>,
     line: Vec<u8>,
 }
 
 impl Guests {
     /// Nobody, with room for all.
-    pub fn new(alloc: Global) -> Result<Guests, AllocError> {
-        let mut places = Vec::with_capacity(alloc, MOST_CLIENTS)?;
-        for place in 0..MOST_CLIENTS {
-            places.push(None)?;
-        }
+    pub fn new(alloc: Global, number: usize) -> Result<Guests, AllocError> {
         Ok(Guests {
-            alloc,
-            places,
+            places: Vec::with_capacity(alloc, MOST_CLIENTS)?,
+            number,
+            waiting: 0,
             first: 0,
+            replies: Vec::with_capacity(alloc, BATCH_LIMIT)?,
             scratch: Vec::from_elem(alloc, 0, MOST_READ)?,
             line: Vec::new(alloc),
         })
     }
 
     /// A free place, if there is one.
-    pub fn free_place(&self) -> Option<usize> {
-        self.places.iter().position(|guest| guest.is_none())
+    pub fn free_place(&mut self) -> Option<usize> {
+        let free = self.places.iter().position(|guest| guest.is_none());
+        if free.is_some() {
+            return free;
+        }
+        let next = self.places.len();
+        if next >= MOST_CLIENTS || self.places.push(None).is_err() {
+            return None;
+        }
+        Some(next)
     }
 
     /// Puts a client at a place.
@@ -70,10 +78,6 @@ impl Guests {
         }
     }
 
-    pub fn count(&self) -> usize {
-        self.places.iter().filter(|guest| guest.is_some()).count()
-    }
-
     /// Reads what clients sent.
     pub fn read_all(&mut self) {
         for guest in self.places.iter_mut() {
@@ -84,12 +88,13 @@ impl Guests {
     }
 
     /// Sends what clients are to be sent, and closes those that are over.
-    pub fn write_all(&mut self) {
+    pub fn write_all(&mut self, mailbox: &Mailbox) {
         for guest in self.places.iter_mut() {
             if let Some(connection) = guest {
                 connection.write();
                 if connection.is_over() {
                     *guest = None;
+                    mailbox.leave();
                 }
             }
         }
@@ -101,6 +106,20 @@ impl Guests {
             Some(connection) => connection.is_busy(),
             None => false,
         })
+    }
+
+    /// Says the answers that came to the clients that wait for them.
+    pub fn take_replies<R: Wait>(&mut self, rt: &R, mailbox: &Mailbox) {
+        mailbox.take_replies(rt, &mut self.replies);
+        for (place, reply) in self.replies.drain(..) {
+            self.waiting = self.waiting.saturating_sub(1);
+            if let Some(Some(connection)) = self.places.get_mut(place) {
+                connection.answered();
+                if connection.client.say(reply).is_err() {
+                    connection.give_up();
+                }
+            }
+        }
     }
 
     /// Tells declarations to those who watch.
@@ -121,56 +140,50 @@ impl Guests {
         })
     }
 
-    /// Takes lines of each client, up to a question that comes after an event: the events wait at the desk, for whose
-    /// answers there is room then, and the other lines are answered.
-    pub fn take_lines<R: Wait + Drop>(&mut self, desk: &mut Desk, host: &mut Host<R>) {
-        let clients = self.count();
-        let share = self.share();
+    /// Takes lines of each client that waits for no answer, up to a question that comes after an event: the events wait
+    /// for a round, and the other lines are answered.
+    pub fn take_lines<R: Wait + Drop>(&mut self, rt: &R, rounds: &Rounds<R>) {
+        let most = rounds.share();
+        let share = (most / self.ready().max(1)).max(1);
         let count = self.places.len().max(1);
         for step in 0..count {
             let place = self.first.saturating_add(step) % count;
-            if let Some(Some(connection)) = self.places.get_mut(place) {
-                let turn = Turn {
-                    place,
-                    clients,
-                    most: share.min(desk.room()),
-                };
-                if turn.take(connection, desk, host, &mut self.line).is_err() {
-                    connection.give_up();
-                }
+            let Some(Some(connection)) = self.places.get_mut(place) else {
+                continue;
+            };
+            if connection.waiting() > 0 {
+                continue;
             }
+            let turn = Turn {
+                place: self
+                    .number
+                    .saturating_mul(MOST_CLIENTS)
+                    .saturating_add(place),
+                most: share.min(most.saturating_sub(self.waiting)),
+            };
+            if turn.take(rt, connection, rounds, &mut self.line).is_err() {
+                connection.give_up();
+            }
+            self.waiting = self.waiting.saturating_add(connection.waiting());
         }
         self.first = self.first.saturating_add(1) % count;
     }
 
-    /// How many events each client may have in a round.
-    fn share(&self) -> usize {
+    /// How many clients have said a line, and wait for no answer.
+    fn ready(&self) -> usize {
         let ready = self.places.iter().filter(|guest| match guest {
-            Some(connection) => connection.client.has_line(),
+            Some(connection) => connection.waiting() == 0 && connection.client.has_line(),
             None => false,
         });
-        (BATCH_LIMIT / ready.count().max(1)).max(1)
-    }
-}
-
-impl Waiting<SiteReply> for Guests {
-    ghost given = { λ _. None };
-
-    fn give(&mut self, place: usize, reply: &SiteReply) {
-        if let Some(connection) = self.at(place) {
-            if connection.client.say(reply).is_err() {
-                connection.give_up();
-            }
-        }
+        ready.count()
     }
 }
 
 /// The turn of a client in a round.
 #[derive(Clone, Copy)]
 struct Turn {
+    /// The place of the client among those of all threads.
     place: usize,
-    /// How many clients there are.
-    clients: usize,
     /// How many events of it may wait.
     most: usize,
 }
@@ -178,12 +191,11 @@ struct Turn {
 impl Turn {
     fn take<R: Wait + Drop>(
         self,
+        rt: &R,
         connection: &mut Connection,
-        desk: &mut Desk,
-        host: &mut Host<R>,
+        rounds: &Rounds<R>,
         line: &mut Vec<u8>,
     ) -> Result<(), AllocError> {
-        let mut taken = 0usize;
         for turn in 0..BATCH_LIMIT {
             let Some((said, length)) = connection.client.next_line(line)? else {
                 return Ok(());
@@ -191,44 +203,48 @@ impl Turn {
             match said {
                 Said::Event(EventLine::Silent) => {}
                 Said::Event(EventLine::Act { process: _, event }) => {
-                    if taken >= self.most {
+                    let waiting = connection.waiting();
+                    if waiting >= self.most {
                         return Ok(());
                     }
-                    taken = taken.saturating_add(1);
+                    let answers = waiting.saturating_add(1);
                     connection
                         .client
-                        .reserve(taken.saturating_mul(MOST_ANSWER))?;
-                    desk.take(self.place, event)?;
-                }
-                said => {
-                    if taken > 0 {
+                        .reserve(answers.saturating_mul(MOST_ANSWER))?;
+                    if rounds.take(rt, self.place, event).is_err() {
                         return Ok(());
                     }
-                    self.answer(&mut connection.client, host, &said)?;
+                    connection.wait();
+                }
+                said => {
+                    if connection.waiting() > 0 {
+                        return Ok(());
+                    }
+                    answer(rt, &mut connection.client, rounds, &said)?;
                 }
             }
             connection.client.pass(length);
         }
         Ok(())
     }
+}
 
-    /// Answers a line that is no event.
-    fn answer<R: Wait + Drop>(
-        self,
-        client: &mut Client,
-        host: &mut Host<R>,
-        said: &Said,
-    ) -> Result<(), AllocError> {
-        if let Said::Quit = said {
-            client.leave();
-            return Ok(());
-        }
-        client.say(host.answer(said, self.clients))?;
-        if let Said::Watch = said {
-            client.watch();
-            let declared = host.declarations().ok_or(AllocError)?;
-            client.tell(declared.as_slice())?;
-        }
-        Ok(())
+/// Answers a line that is no event.
+fn answer<R: Wait + Drop>(
+    rt: &R,
+    client: &mut Client,
+    rounds: &Rounds<R>,
+    said: &Said,
+) -> Result<(), AllocError> {
+    if let Said::Quit = said {
+        client.leave();
+        return Ok(());
     }
+    client.say(rounds.answer(rt, said))?;
+    if let Said::Watch = said {
+        client.watch();
+        let declared = rounds.declarations(rt).ok_or(AllocError)?;
+        client.tell(declared.as_slice())?;
+    }
+    Ok(())
 }

@@ -75,7 +75,7 @@ impl<R: Wait + Drop> Host<R> {
 
     /// Gives events to the station with one sync, and wakes the threads that write what they sent once the lock is given
     /// back.
-    #[tactic(auto, using(crate::proofs::Taking::taken_all))]
+    #[tactic(auto, using(cmh_site::proofs::Taking::taken_all))]
     fn take_together(&self, events: &[Event]) -> Together
         requires few { length events.now ≤ batch_limit }
         ensures { WereTaken events.now result }

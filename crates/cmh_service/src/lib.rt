@@ -6,8 +6,11 @@ mod connection;
 mod desk;
 mod guests;
 mod host;
+mod mailbox;
 mod reply;
+mod rounds;
 mod said;
+mod server;
 mod serving;
 
 pub use crate::client::{Client, MOST_QUEUED};

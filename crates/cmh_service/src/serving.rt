@@ -2,19 +2,19 @@
 
 ghost use Rattle.cmh_files.specs.Status.{IsStatus};
 
-use crate::client::Client;
-use crate::connection::Connection;
 use crate::desk::Desk;
-use crate::guests::{Guests, MOST_CLIENTS};
+use crate::guests::MOST_CLIENTS;
 use crate::host::Host;
-use cmh_controller::Refusal;
+use crate::mailbox::Mailbox;
+use crate::rounds::Rounds;
+use crate::server::{MAIL, PAUSE_MILLISECONDS, Server};
 use cmh_files::{Fault, read_topology_file_with_ports};
 use cmh_frames::{SiteId, Topology};
 use cmh_notes::{Noting, Voice};
 use cmh_running::Ports;
 use cmh_script::Output;
-use cmh_site::{Running, SiteHost, SiteReply, SiteStart};
-use cmh_station::StationRefusal;
+use cmh_site::{Running, SiteHost, SiteStart};
+use cmh_station::BATCH_LIMIT;
 use crossbeam_utils::sync::Parker;
 use mio::net::TcpListener as Listener;
 use mio::{Events, Interest, Poll, Token, Waker};
@@ -23,19 +23,19 @@ use std::fs::File;
 use std::io::{ErrorKind, Write};
 use std::net::{Ipv4Addr, Net, SocketAddr, TcpListener, TcpStream};
 use std::rt::Files;
-use std::sync::Wait;
+use std::sync::{Arc, Wait};
 use std::thread;
 use std::thread::Threads;
 use std::time::{Clock, Duration};
 
+/// How many threads serve clients. Their sockets keep several busy where the disk is fast.
+const SERVERS: usize = 4;
+
+/// So many clients can fill a round. Divided among threads they would only make it smaller.
+const FEW_CLIENTS: usize = BATCH_LIMIT;
+
 /// The port on which clients connect.
-const LISTENER: Token = Token(MOST_CLIENTS);
-
-/// What the site declares.
-const DECLARATIONS: Token = Token(MOST_CLIENTS + 1);
-
-/// How long it waits before it tries again what memory or a descriptor was refused for.
-const PAUSE_MILLISECONDS: u64 = 100;
+const LISTENER: Token = Token(0);
 
 /// Runs one site of a topology for clients that connect, until the program is ended, and answers the status of the program
 /// where it can't go on: 1 where memory ran out, 3 at another fault, which is named on `err`.
@@ -158,7 +158,7 @@ where
     Err(fault)
 }
 
-/// Connects the site to the others while a thread serves clients.
+/// Connects the site to the others while threads serve clients.
 fn serve_beside<R>(
     rt: R,
     alloc: Global,
@@ -176,24 +176,67 @@ where
         + Drop
         + 'static,
 {
-    let mut service = match Service::new(rt, alloc, host, doors) {
-        Ok(service) => service,
+    let rounds = match start_servers(rt, alloc, host) {
+        Ok(rounds) => rounds,
         Err(fault) => return ended(threads, fault),
     };
-    let Ok(serving) = thread::spawn(&rt, move || service.serve_all()) else {
+    let Ok(accepting) = thread::spawn(&rt, move || doors.accept_all(&rt, alloc, &rounds)) else {
         return ended(threads, Fault::Memory);
     };
     let _ = threads.connect();
-    let fault = serving.join(&rt);
+    let fault = accepting.join(&rt);
     ended(threads, fault)
 }
 
-/// Where clients come in, and what waits for them.
+/// Starts the threads that serve clients, and one that wakes them at each declaration.
+fn start_servers<R>(rt: R, alloc: Global, host: Host<R>) -> Result<Arc<Rounds<R>>, Fault>
+where
+    R: Wait + Threads + Net + Copy + Send + Drop + 'static,
+{
+    let mut mailboxes = Vec::with_capacity(alloc, SERVERS)?;
+    let mut polls = Vec::with_capacity(alloc, SERVERS)?;
+    for _ in 0..SERVERS {
+        let Ok(poll) = Poll::new(&rt) else {
+            return Err(Fault::Listen);
+        };
+        let Ok(waker) = Waker::new(poll.registry(), MAIL) else {
+            return Err(Fault::Listen);
+        };
+        mailboxes.push(Mailbox::new(alloc, waker)?)?;
+        polls.push(poll)?;
+    }
+    let parker = Parker::new(alloc)?;
+    host.station.watch(parker.unparker().clone()?);
+    let mailboxes = Arc::new(alloc, mailboxes)?;
+    let rounds = Arc::new(alloc, Rounds::new(host, Desk::new(alloc)?, mailboxes))?;
+    let theirs = Arc::try_clone(&rounds)?;
+    if thread::spawn(&rt, move || pass_on(rt, &parker, &theirs)).is_err() {
+        return Err(Fault::Memory);
+    }
+    for (number, poll) in polls.into_iter().enumerate() {
+        let mut server = Server::new(rt, alloc, number, poll, Arc::try_clone(&rounds)?)?;
+        if thread::spawn(&rt, move || server.serve_all()).is_err() {
+            return Err(Fault::Memory);
+        }
+    }
+    Ok(rounds)
+}
+
+/// Tells the threads that serve clients each declaration.
+fn pass_on<R: Wait + Drop>(rt: R, parker: &Parker, rounds: &Rounds<R>) {
+    for _ in rt.forever() {
+        parker.park(&rt);
+        for mailbox in rounds.mailboxes.iter() {
+            mailbox.tell_news();
+        }
+    }
+}
+
+/// Where clients come in.
 #[derive(Drop)]
 struct Doors {
     poll: Poll,
     listener: Listener,
-    waker: Waker,
 }
 
 impl Doors {
@@ -205,172 +248,64 @@ impl Doors {
         let registered = poll
             .registry()
             .register(&mut listener, LISTENER, Interest::READABLE);
-        let (Ok(()), Ok(waker)) = (registered, Waker::new(poll.registry(), DECLARATIONS)) else {
-            return Err(Fault::Listen);
-        };
-        Ok(Doors {
-            poll,
-            listener,
-            waker,
-        })
-    }
-}
-
-/// A running service.
-#[derive(Drop)]
-struct Service<R: Wait + Drop> {
-    rt: R,
-    alloc: Global,
-    host: Host<R>,
-    poll: Poll,
-    listener: Listener,
-    events: Events,
-    guests: Guests,
-    desk: Desk,
-    /// Whether a client may wait to be let in.
-    may_accept: bool,
-    /// Whether something was declared that watching clients were not told.
-    has_news: bool,
-}
-
-impl<R: Wait + Threads + Copy + Send + Drop + 'static> Service<R> {
-    /// Has the site's declarations wake it.
-    fn new(rt: R, alloc: Global, host: Host<R>, doors: Doors) -> Result<Service<R>, Fault> {
-        let Doors {
-            poll,
-            listener,
-            waker,
-        } = doors;
-        let parker = Parker::new(alloc)?;
-        host.station.watch(parker.unparker().clone()?);
-        if thread::spawn(&rt, move || pass_on(rt, parker, waker)).is_err() {
-            return Err(Fault::Memory);
+        match registered {
+            Ok(()) => Ok(Doors { poll, listener }),
+            Err(_) => Err(Fault::Listen),
         }
-        Ok(Service {
-            rt,
-            alloc,
-            host,
-            poll,
-            listener,
-            events: Events::with_capacity(alloc, MOST_CLIENTS + 2)?,
-            guests: Guests::new(alloc)?,
-            desk: Desk::new(alloc)?,
-            may_accept: true,
-            has_news: true,
-        })
     }
 
-    /// Serves clients until it can't go on.
-    fn serve_all(&mut self) -> Fault {
-        let rt = self.rt;
+    /// Lets clients in until that can't go on.
+    fn accept_all<R: Wait + Drop>(self, rt: &R, alloc: Global, rounds: &Rounds<R>) -> Fault {
+        let mut doors = self;
+        let Ok(mut events) = Events::with_capacity(alloc, 1) else {
+            return Fault::Memory;
+        };
+        let mut may_accept = true;
         for _ in rt.forever() {
-            let patience = self.patience();
-            if self.poll.poll(&mut self.events, patience).is_err() {
+            let patience = if may_accept {
+                Some(Duration::from_millis(PAUSE_MILLISECONDS))
+            } else {
+                None
+            };
+            if doors.poll.poll(&mut events, patience).is_err() {
                 return Fault::Listen;
             }
-            self.look_at_events();
-            self.accept_all();
-            self.guests.read_all();
-            self.answer_all();
-            self.tell_declarations();
-            self.guests.write_all();
+            may_accept = doors.accept(rt, rounds);
         }
         unreachable!()
     }
 
-    /// Answers lines: of each client its next ones. All events share a sync.
-    fn answer_all(&mut self) {
-        self.guests.take_lines(&mut self.desk, &mut self.host);
-        match self.host.step_all(self.desk.events()) {
-            Ok(replies) => self.desk.hand_back(&replies, &mut self.guests),
-            Err(AllocError) => {
-                let refused = SiteReply::Refused(StationRefusal::Rule(Refusal::Memory));
-                self.desk.refuse_all(&refused, &mut self.guests);
-            }
-        }
-    }
-
-    /// How long to wait for the next event.
-    fn patience(&self) -> Option<Duration> {
-        if self.guests.is_busy() {
-            Some(Duration::ZERO)
-        } else if self.may_accept || self.has_news {
-            Some(Duration::from_millis(PAUSE_MILLISECONDS))
-        } else {
-            None
-        }
-    }
-
-    fn look_at_events(&mut self) {
-        for event in self.events.iter() {
-            match event.token() {
-                LISTENER => self.may_accept = true,
-                DECLARATIONS => self.has_news = true,
-                Token(place) => {
-                    if let Some(connection) = self.guests.at(place) {
-                        connection.ready(
-                            event.is_readable() || event.is_read_closed() || event.is_error(),
-                            event.is_writable() || event.is_write_closed(),
-                        );
-                    }
-                }
-            }
-        }
-    }
-
-    /// Lets clients in, as far as there is a place for them.
-    fn accept_all(&mut self) {
+    /// Lets in those that wait. Answers whether some may wait still.
+    fn accept<R: Wait + Drop>(&mut self, rt: &R, rounds: &Rounds<R>) -> bool {
         for turn in 0..u64::MAX {
-            if !self.may_accept {
-                return;
-            }
             match self.listener.accept() {
-                Ok((stream, _)) => self.let_in(stream),
+                Ok((stream, _)) => let_in(rt, rounds, stream),
                 Err(error) => match error.kind() {
-                    ErrorKind::WouldBlock => self.may_accept = false,
+                    ErrorKind::WouldBlock => return false,
                     ErrorKind::Interrupted | ErrorKind::ConnectionAborted => {}
-                    _ => return,
+                    _ => return true,
                 },
             }
         }
-    }
-
-    /// Gives a client a place; where there is none its connection is closed.
-    fn let_in(&mut self, mut stream: mio::net::TcpStream) {
-        let Some(place) = self.guests.free_place() else {
-            return;
-        };
-        let both = Interest::READABLE | Interest::WRITABLE;
-        let registry = self.poll.registry();
-        if stream.set_nodelay(true).is_ok()
-            && registry.register(&mut stream, Token(place), both).is_ok()
-        {
-            let client = Client::new(self.alloc);
-            self.guests.put(place, Connection::new(stream, client));
-        }
-    }
-
-    /// Tells declarations to the clients that watch.
-    fn tell_declarations(&mut self) {
-        if !self.has_news {
-            return;
-        }
-        if !self.guests.has_watchers() {
-            self.has_news = false;
-            return;
-        }
-        // Where memory was refused it is tried again.
-        if let Some(declared) = self.host.declarations() {
-            self.guests.tell(declared.as_slice());
-            self.has_news = false;
-        }
+        true
     }
 }
 
-/// Wakes the service at each declaration.
-fn pass_on<R: Wait + Drop>(rt: R, parker: Parker, waker: Waker) {
-    for _ in rt.forever() {
-        parker.park(&rt);
-        let _ = waker.wake();
+/// Gives a client to the first thread that has few, or else to the one that has the fewest. Where there are too many, its
+/// connection is closed.
+fn let_in<R: Wait + Drop>(rt: &R, rounds: &Rounds<R>, stream: mio::net::TcpStream) {
+    if rounds.clients() >= MOST_CLIENTS {
+        return;
+    }
+    let mailboxes = &rounds.mailboxes;
+    let first = mailboxes
+        .iter()
+        .find(|mailbox| mailbox.clients() < FEW_CLIENTS);
+    let chosen = match first {
+        Some(mailbox) => Some(mailbox),
+        None => mailboxes.iter().min_by_key(|mailbox| mailbox.clients()),
+    };
+    if let Some(mailbox) = chosen {
+        mailbox.bring(rt, stream);
     }
 }

@@ -1,4 +1,4 @@
 pub mod ClusterEndings
 pub mod Endings
-mod Taking
+pub mod Taking
 mod Waiting

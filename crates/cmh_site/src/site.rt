@@ -41,8 +41,9 @@ use std::time::{Clock, Duration};
 /// memory ran out, 3 at any other fault. A fault is named on `err`, and a write to it that fails is ignored.
 ///
 /// Each line is answered, and the answer flushed, before the next one is awaited. Events of lines that are there already
-/// share a sync, at most 64. The entry of a step is in the journal's file, and synced, before the step is answered. A file that stands at the journal's path and isn't empty is kept under
-/// the path with a number behind, as `.1`, whose name was free.
+/// share a sync, at most 64. The entry of a step is in the journal's file, and synced, before the step is answered. A file
+/// that stands at the journal's path and isn't empty is kept under the path with a number behind, as `.1`, whose name was
+/// free.
 pub fn run_site<R, I: BufRead + Ahead, W: Write, E: Write>(
     rt: R,
     alloc: Global,

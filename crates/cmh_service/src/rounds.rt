@@ -1,0 +1,112 @@
+//! The rounds in which events go to the station: those of all clients that wait at that moment go together.
+
+use crate::desk::Desk;
+use crate::host::Host;
+use crate::mailbox::{Mailbox, Post};
+use crate::reply::Reply;
+use crate::said::Said;
+use cmh_controller::Refusal;
+use cmh_model::Event;
+use cmh_site::SiteReply;
+use cmh_station::{BATCH_LIMIT, Declared, StationRefusal};
+use std::alloc::AllocError;
+use std::mem::swap;
+use std::sync::atomic::{AtomicBool, Ordering};
+use std::sync::{Arc, Mutex, Wait};
+
+/// What the threads of a service share.
+#[derive(Drop)]
+pub(crate) struct Rounds<R: Wait + Drop> {
+    host: Mutex<Host<R>>,
+    /// The events that wait for the next round.
+    desk: Mutex<Desk>,
+    /// Whether a round is under way.
+    is_stepping: AtomicBool,
+    pub mailboxes: Arc<Vec<Mailbox>>,
+}
+
+impl<R: Wait + Drop> Rounds<R> {
+    pub fn new(host: Host<R>, desk: Desk, mailboxes: Arc<Vec<Mailbox>>) -> Rounds<R> {
+        Rounds {
+            host: Mutex::new(host),
+            desk: Mutex::new(desk),
+            is_stepping: AtomicBool::new(false),
+            mailboxes,
+        }
+    }
+
+    /// Has an event of the client at a place wait for the next round. An error where as many wait as a round takes.
+    pub fn take(&self, rt: &R, place: usize, event: Event) -> Result<(), AllocError> {
+        self.desk.lock(rt).take(place, event)
+    }
+
+    /// Whether events wait for a round, and none is under way.
+    pub fn is_due(&self, rt: &R) -> bool {
+        !self.is_stepping.load(Ordering::SeqCst) && self.has_events(rt)
+    }
+
+    fn has_events(&self, rt: &R) -> bool {
+        !self.desk.lock(rt).events().is_empty()
+    }
+
+    /// Gives the events that wait to the station. Where a round is under way, the thread is woken at its end instead.
+    pub fn step(&self, rt: &R, spare: &mut Desk, post: &mut Post<R>) {
+        if !self.has_events(rt) {
+            return;
+        }
+        post.await_round(true);
+        if self.is_stepping.swap(true, Ordering::SeqCst) {
+            return;
+        }
+        post.await_round(false);
+        {
+            let mut desk = self.desk.lock(rt);
+            swap(&mut *desk, spare);
+        }
+        if !spare.events().is_empty() {
+            self.step_all(rt, spare, post);
+        }
+        self.is_stepping.store(false, Ordering::SeqCst);
+        post.wake_all();
+    }
+
+    fn step_all(&self, rt: &R, desk: &mut Desk, post: &mut Post<R>) {
+        let host = self.host.lock(rt);
+        match host.step_all(desk.events()) {
+            Ok(replies) => desk.hand_back(&replies, post),
+            Err(AllocError) => {
+                let refused = SiteReply::Refused(StationRefusal::Rule(Refusal::Memory));
+                desk.refuse_all(&refused, post);
+            }
+        }
+    }
+
+    /// The answer to a line that is no event.
+    pub fn answer(&self, rt: &R, said: &Said) -> Reply {
+        let clients = self.clients();
+        self.host.lock(rt).answer(said, clients)
+    }
+
+    /// The list of all that the site declared. `None` where memory was refused.
+    pub fn declarations(&self, rt: &R) -> Option<Declared> {
+        self.host.lock(rt).declarations()
+    }
+
+    /// How many clients there are.
+    pub fn clients(&self) -> usize {
+        let mut count = 0usize;
+        for mailbox in self.mailboxes.iter() {
+            count = count.saturating_add(mailbox.clients());
+        }
+        count
+    }
+
+    /// How many events of a thread's clients may be under way, so that there is room for those of all threads.
+    pub fn share(&self) -> usize {
+        let active = self
+            .mailboxes
+            .iter()
+            .filter(|mailbox| mailbox.clients() > 0);
+        BATCH_LIMIT / active.count().max(1)
+    }
+}
