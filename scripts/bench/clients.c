@@ -1,0 +1,89 @@
+/* Clients of a service that each await an answer before they send the next line.
+
+   clients PORT CLIENTS SECONDS THREADS    prints how many answers came in a second
+
+   Client K asks with process K for process 100 + K, and then starts computations for it. An answer other than
+   `ok sent ..` ends the program. */
+#include <arpa/inet.h>
+#include <netinet/tcp.h>
+#include <pthread.h>
+#include <stdio.h>
+#include <stdlib.h>
+#include <string.h>
+#include <sys/epoll.h>
+#include <sys/socket.h>
+#include <time.h>
+#include <unistd.h>
+
+enum { MOST_CLIENTS = 256, MOST_THREADS = 16 };
+
+static int port, clients, threads;
+static double seconds, began;
+static long answers[MOST_THREADS];
+
+static double now(void) {
+    struct timespec time;
+    clock_gettime(CLOCK_MONOTONIC, &time);
+    return (double)time.tv_sec + (double)time.tv_nsec * 1e-9;
+}
+
+static void stop(const char *why) {
+    fprintf(stderr, "%s\n", why);
+    _exit(1);
+}
+
+static int dial(void) {
+    struct sockaddr_in at = {.sin_family = AF_INET, .sin_port = htons((unsigned short)port)};
+    at.sin_addr.s_addr = htonl(INADDR_LOOPBACK);
+    int yes = 1, made = socket(AF_INET, SOCK_STREAM, 0);
+    if (made < 0 || connect(made, (void *)&at, sizeof at)) stop("no connection");
+    setsockopt(made, IPPROTO_TCP, TCP_NODELAY, &yes, sizeof yes);
+    return made;
+}
+
+static void say(int client, const char *text) {
+    ssize_t length = (ssize_t)strlen(text);
+    if (write(client, text, (size_t)length) != length) stop("a line could not be sent");
+}
+
+/* The clients of a thread: each `threads`th one. */
+static void *run(void *number) {
+    long first = (long)number;
+    int poll = epoll_create1(0), sockets[MOST_CLIENTS + 1];
+    char text[256];
+    struct epoll_event ready[MOST_CLIENTS];
+    for (int k = (int)first + 1; k <= clients; k += threads) {
+        struct epoll_event event = {.events = EPOLLIN, .data.u32 = (unsigned)k};
+        sockets[k] = dial();
+        epoll_ctl(poll, EPOLL_CTL_ADD, sockets[k], &event);
+        snprintf(text, sizeof text, "ask %d %d\n", k, 100 + k);
+        say(sockets[k], text);
+    }
+    while (now() - began < seconds) {
+        int count = epoll_wait(poll, ready, MOST_CLIENTS, 1000);
+        for (int at = 0; at < count; at++) {
+            int k = (int)ready[at].data.u32;
+            ssize_t length = read(sockets[k], text, sizeof text - 1);
+            if (length <= 0) stop("a connection ended");
+            text[length] = 0;
+            if (strncmp(text, "ok sent", 7)) stop(text);
+            answers[first]++;
+            snprintf(text, sizeof text, "start %d\n", k);
+            say(sockets[k], text);
+        }
+    }
+    return NULL;
+}
+
+int main(int count, char **words) {
+    if (count != 5) stop("usage: clients PORT CLIENTS SECONDS THREADS");
+    pthread_t made[MOST_THREADS];
+    long all = 0;
+    port = atoi(words[1]), clients = atoi(words[2]), seconds = atof(words[3]), threads = atoi(words[4]);
+    if (clients < 1 || clients > MOST_CLIENTS || threads < 1 || threads > MOST_THREADS) stop("too many");
+    began = now();
+    for (long k = 0; k < threads; k++) pthread_create(&made[k], NULL, run, (void *)k);
+    for (int k = 0; k < threads; k++) pthread_join(made[k], NULL), all += answers[k];
+    printf("%.0f\n", (double)all / (now() - began));
+    return 0;
+}
