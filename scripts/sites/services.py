@@ -16,6 +16,7 @@ from world import Port, Site, World, of_size, patience, wait_until
 
 PAIR = {1: [1], 2: [2]}
 CLIENTS, EVENTS = 8, 10000
+CROWD = 200  # clients: a thread has 64 before the next one gets any
 WINDOW = 256  # lines that a client of a crowd sends ahead of their answers
 
 
@@ -241,6 +242,60 @@ def crowd_of(client, process, count):
     return count
 
 
+# ---- more clients than one thread has
+
+OF_ANY = [('start 999', 'refused 1'), ('start 33', 'refused 2'), ('ask 30 30', 'refused 3'), ('waits 33', 'refused 2'),
+          ('owed 999', 'refused 1'), ('what', 'bad line')]
+
+
+def talk_of(number):
+    """Lines of a client with their answers, which no other client changes."""
+    if number == 15:
+        return [('ask 31 32', 'ok sent 0'), ('ask 32 31', 'ok sent 0'), ('start 31', 'ok sent 0 declared 31')]
+    if number < 15:
+        asker, holder = 2 * number + 1, 2 * number + 2
+        return [('ask %d %d' % (asker, holder), 'ok sent 0'), ('reply %d %d' % (holder, asker), 'ok sent 0')] * 20
+    return random.Random(number).choices(OF_ANY, k=40)
+
+
+def busy_threads(served):
+    """How many threads of a service had to wait again and again."""
+    tasks = '/proc/%d/task' % served.process.pid
+    waits = []
+    for task in os.listdir(tasks):
+        with open(os.path.join(tasks, task, 'status')) as file:
+            waits += [int(line.split()[1]) for line in file if line.startswith('voluntary_ctxt_switches')]
+    return sum(count > 20 for count in waits)
+
+
+def crowd_of_clients(program):
+    """Clients that several threads serve: each gets its own answers in their order, and each that watches is told."""
+    with World(program, {1: list(range(1, 33)), 2: [33]}) as world:
+        served = serve(world, 1, more=('--quiet', '--patience', '0'))
+        clients = [served.client() for _ in range(CROWD)]
+        for client in clients[::50]:
+            client.send('watch')
+        heard = [client.receive() for client in clients[::50]]
+        yield 'those who watch: %s' % heard, heard == ['ok'] * len(clients[::50])
+        talks = [talk_of(number) for number in random.Random(1).sample(range(CROWD), CROWD)]
+        for at in range(40):
+            for client, talk in zip(clients, talks):
+                client.send(*(line for line, _ in talk[at:at + 1]))
+        told = 0
+        for at, (client, talk) in enumerate(zip(clients, talks)):
+            wanted = [answer for _, answer in talk] + ['! declared 31'] * (at % 50 == 0)
+            heard = [client.receive() for _ in wanted]
+            told += '! declared 31' in heard
+            if [line for line in heard if line[0] != '!'] != [answer for _, answer in talk]:
+                yield 'the answers of client %d: %s' % (at, heard), False
+        yield 'each that watches is told once', told == len(clients[::50])
+        yield 'several threads serve', busy_threads(served) >= 4
+        entries = 15 * 40 + 3
+        yield 'each event once', status_of(clients[1])['entries'] == str(entries)
+        yield 'it ends by a signal', served.ends_by(signal.SIGTERM)
+        yield 'accepted', world.is_accepted('events %d' % entries, 'declared 31 cycle 31 32 31')
+
+
 # ---- a service that is killed
 
 class Busy(threading.Thread):
@@ -329,5 +384,5 @@ def hundred_killed_services(program):
         yield each
 
 
-SERVICES = [service, lines_of_clients, hostile_clients, full_disk_of_a_service, killed_services]
+SERVICES = [service, lines_of_clients, hostile_clients, full_disk_of_a_service, crowd_of_clients, killed_services]
 LONG = [hundred_killed_services]
