@@ -1,11 +1,12 @@
 -- What the words of a command line name, and how the program ends.
-use Rattle.std.specs.Prelude.{◌≡◌, ℕ, ◌≤◌, ◌⊎◌, Bool, List, ⊤, codes, option_map, Option, None, Some}
+use Rattle.std.specs.Prelude.{◌≡◌, ℕ, ◌≤◌, ◌⊎◌, List, ⊤, codes, option_map, Option, None, Some}
 use Rattle.std.specs.Str.Parse.{IsNumeral, digits_value, without_leading_plus}
 use Rattle.clap.specs.declared.parser.matches.ArgMatches.{ArgMatches}
 use Rattle.clap.specs.Matches.{first_value, found_of, one_text, subcommand_name_of}
 use Rattle.clap.specs.Simple.{subcommand_rows_of}
 use Rattle.clap.specs.Walk.{rows_of}
 use Rattle.cmh_frames.specs.Number.{IsNumber}
+use Rattle.cmh_script.specs.Device.{Writing}
 use Rattle.cmh_files.specs.Audits.{AuditEnds}
 use Rattle.cmh_files.specs.Explains.{ExplainEnds}
 use Rattle.cmh_files.specs.Faults.{NamesFault}
@@ -47,6 +48,10 @@ pub record NamesNothing (matches : ArgMatches) : Type 0 where
   pub no_serve : Names matches (codes "serve") → ⊥
   pub no_show : Names matches (codes "show") → ⊥
   pub no_draw : Names matches (codes "draw") → ⊥
+
+-- the command that is named has nothing to read but files
+abbrev pub ReadsNoInput : ArgMatches → Type 0
+ReadsNoInput matches = NamesAudit matches ⊎ NamesShow matches ⊎ NamesDraw matches ⊎ NamesCluster matches
 
 -- no folder for journals is named
 abbrev pub NamesNoFolder : ArgMatches → Type 0
@@ -111,32 +116,31 @@ abbrev pub IsEnd : ℕ → Type 0
 IsEnd n = IsStatus n ⊎ (n ≡ 2)
 
 -- some files were audited, or nothing is written and the fault of one that could not be read is named
-abbrev pub AuditsFiles : Option (List ℕ) → Option (List ℕ) → Bool → Bool
-    → Option (List ℕ) → Option (List ℕ) → Bool → ℕ → Type 0
-AuditsFiles old new has_failed is_flushed err_old err_new err_failed status =
-    ((topology : List ℕ) × (files : List (List ℕ))
-    × AuditEnds topology files old new has_failed is_flushed err_old err_new err_failed status)
-    ⊎ ((new ≡ old) × NamesFault IsUnread status err_old err_new err_failed)
+abbrev pub AuditsFiles : {W E : Type 0} → Writing W → Writing W → Writing E → Writing E → ℕ → Type 0
+AuditsFiles old new err_old err_new status =
+    ((topology : List ℕ) × (files : List (List ℕ)) × AuditEnds topology files old new err_old err_new status)
+    ⊎ ((new ≡ old) × NamesFault IsUnread status err_old err_new)
 
 -- the same, with the reasons for stops
-abbrev pub ExplainsFiles : Option (List ℕ) → Option (List ℕ) → Bool → Bool
-    → Option (List ℕ) → Option (List ℕ) → Bool → ℕ → Type 0
-ExplainsFiles old new has_failed is_flushed err_old err_new err_failed status =
-    ((topology : List ℕ) × (files : List (List ℕ))
-    × ExplainEnds topology files old new has_failed is_flushed err_old err_new err_failed status)
-    ⊎ ((new ≡ old) × NamesFault IsUnread status err_old err_new err_failed)
+abbrev pub ExplainsFiles : {W E : Type 0} → Writing W → Writing W → Writing E → Writing E → ℕ → Type 0
+ExplainsFiles old new err_old err_new status =
+    ((topology : List ℕ) × (files : List (List ℕ)) × ExplainEnds topology files old new err_old err_new status)
+    ⊎ ((new ≡ old) × NamesFault IsUnread status err_old err_new)
 
 -- the same, with a run
-abbrev pub ListsFiles : Option (List ℕ) → Option (List ℕ) → Bool → Bool
-    → Option (List ℕ) → Option (List ℕ) → Bool → ℕ → Type 0
-ListsFiles old new has_failed is_flushed err_old err_new err_failed status =
-    ((topology : List ℕ) × (files : List (List ℕ))
-    × RunEnds topology files old new has_failed is_flushed err_old err_new err_failed status)
-    ⊎ ((new ≡ old) × NamesFault IsUnread status err_old err_new err_failed)
+abbrev pub ListsFiles : {W E : Type 0} → Writing W → Writing W → Writing E → Writing E → ℕ → Type 0
+ListsFiles old new err_old err_new status =
+    ((topology : List ℕ) × (files : List (List ℕ)) × RunEnds topology files old new err_old err_new status)
+    ⊎ ((new ≡ old) × NamesFault IsUnread status err_old err_new)
+
+-- some files were audited, with or without reasons or a run
+abbrev pub AuditsSomehow : {W E : Type 0} → Writing W → Writing W → Writing E → Writing E → ℕ → Type 0
+AuditsSomehow old new err_old err_new status =
+    AuditsFiles old new err_old err_new status ⊎ ExplainsFiles old new err_old err_new status
+    ⊎ ListsFiles old new err_old err_new status
 
 -- the same of the lines of some journals
-abbrev pub ShowsFiles : Option (List ℕ) → Option (List ℕ) → Bool → Bool
-    → Option (List ℕ) → Option (List ℕ) → Bool → ℕ → Type 0
-ShowsFiles old new has_failed is_flushed err_old err_new err_failed status =
-    ((files : List (List ℕ)) × ShowEnds files old new has_failed is_flushed err_old err_new err_failed status)
-    ⊎ ((new ≡ old) × NamesFault IsUnread status err_old err_new err_failed)
+abbrev pub ShowsFiles : {W E : Type 0} → Writing W → Writing W → Writing E → Writing E → ℕ → Type 0
+ShowsFiles old new err_old err_new status =
+    ((files : List (List ℕ)) × ShowEnds files old new err_old err_new status)
+    ⊎ ((new ≡ old) × NamesFault IsUnread status err_old err_new)

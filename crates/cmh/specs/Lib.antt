@@ -1,3 +1,4 @@
 pub mod CommandLine
 pub mod Drawing
+pub mod Playing
 pub mod Serving

@@ -28,10 +28,8 @@ pub fn draw<R: AllocGlobal + Files, W: Write, E: Write>(
     ensures draws { (kind : kinds.Kind) → (format : formats.Format)
         → one_text (found_of words.now) (codes "kind") ≡ Some (kind_word kind)
         → one_text (found_of words.now) (codes "format") ≡ Some (format_word format)
-        → DrawsFiles kind format (W.contents out.old.inner) (W.contents out.new.inner) out.new.has_failed
-        out.new.is_flushed (E.contents err.old.inner) (E.contents err.new.inner) err.new.has_failed result }
-    ensures draws_some { DrawsSome (W.contents out.old.inner) (W.contents out.new.inner) out.new.has_failed
-        out.new.is_flushed (E.contents err.old.inner) (E.contents err.new.inner) err.new.has_failed result }
+        → DrawsFiles kind format out.old out.new err.old err.new result }
+    ensures draws_some { DrawsSome out.old out.new err.old err.new result }
 {
     let kind = kind_of(words);
     let format = format_of(words);

@@ -1,21 +1,18 @@
 //! The program: it reads its command line and calls a command.
 #![tactic(auto)]
 
-ghost use Rattle.std.specs.Prelude.{◌≡◌, ◌≢◌, ◌⊎◌, ℕ, true, IfErr, IfSome, Some, codes};
+ghost use Rattle.std.specs.Prelude.{◌≡◌, ℕ, Some, codes};
 ghost use Rattle.clap.specs.Matches.{found_of, one_text};
-ghost use Rattle.cmh.specs.CommandLine.{AuditsFiles, ExplainsFiles, IsEnd, IsUnset, ListsFiles, NamesAudit, NamesCluster, NamesDraw, NamesNoFolder, NamesNoReasons, NamesNoRun, NamesNothing, NamesOption, NamesReasons, NamesRun, NamesShow, NamesSite, NamesSiteNumber, ShowsFiles, TellsNumber};
+ghost use Rattle.cmh.specs.CommandLine.{AuditsFiles, AuditsSomehow, ExplainsFiles, IsEnd, IsUnset, ListsFiles, NamesAudit, NamesCluster, NamesDraw, NamesNoFolder, NamesNoReasons, NamesNoRun, NamesNothing, NamesOption, NamesReasons, NamesRun, NamesShow, NamesSite, NamesSiteNumber, ReadsNoInput, ShowsFiles, TellsNumber};
 ghost use Rattle.cmh.specs.Drawing.{DrawsFiles, DrawsSome};
+ghost use Rattle.cmh.specs.Playing.{PlaysAlone, PlaysScript};
 ghost use Rattle.cmh.specs.Serving.{ServesCluster, ServesSite, ServesSome};
 ghost use Rattle.cmh_frames.specs.Number.{IsNumber};
 ghost use Rattle.cmh_draw.specs.Kinds.{kind_word};
 ghost use Rattle.cmh_draw.specs.declared.picture.Kind as kinds;
 ghost use Rattle.cmh_picture.specs.Formats.{format_word};
 ghost use Rattle.cmh_picture.specs.declared.format.Format as formats;
-ghost use Rattle.cmh_files.specs.Faults.{NamesFault};
-ghost use Rattle.cmh_play.specs.Keeping.{IsKeptPlayFault, IsUnkept};
-ghost use Rattle.cmh_play.specs.Play.{Answered, IsPlayFault};
 ghost use Rattle.cmh_files.specs.Status.{IsStatus};
-ghost use Rattle.cmh_files.specs.declared.faults.Fault as faults;
 
 mod commands;
 mod drawing;
@@ -34,8 +31,8 @@ use cmh_files::{run_audit_run, run_audit_why};
 use cmh_frames::SiteId;
 use cmh_service::run_service;
 use cmh_site::{
-    Ahead, Fault, Folder, Input, Noted, Output, SiteStart, Voice, run_audit, run_cluster_noting,
-    run_play, run_play_keeping, run_show, run_site_noting,
+    Ahead, Fault, Folder, Input, Noted, Output, SiteStart, System, Voice, run_audit,
+    run_cluster_noting, run_play, run_play_keeping, run_show, run_site_noting,
 };
 use std::fs::File;
 use std::io::{BufRead, BufReader, BufWriter, ErrorKind, Write};
@@ -124,83 +121,38 @@ fn carry_out<R, I: BufRead + Ahead, W: Write, E: Write>(
     err: &mut Output<E>,
 ) -> u8
 where
-    R: AllocGlobal
-        + Eprint
-        + Files<File = File>
-        + Clock
-        + Wait
-        + Threads
-        + Net<Listener = TcpListener, Stream = TcpStream>
-        + Copy
-        + Send
-        + Drop
-        + 'static,
+    R: System + AllocGlobal + Eprint + Files<File = File> + Send + 'static,
     ensures status { IsStatus result }
 
     // Where no command but `play` is named, a script is played.
-    ensures plays { NamesNothing matches.now → IfSome (I.remaining input.old.inner) (λ bytes.
-        Answered bytes (W.contents out.old.inner) (W.contents out.new.inner) out.new.has_failed result) }
-    ensures silent { NamesNothing matches.now → result ≡ 0 → err.new ≡ err.old }
-    ensures flushed { NamesNothing matches.now → result ≡ 0 → out.new.is_flushed ≡ true }
-    ensures fault { NamesNothing matches.now → NamesNoFolder matches.now → result ≢ 0
-        → NamesFault (IsPlayFault (I.remaining input.old.inner) input.new.has_failed out.new.has_failed) result
-        (E.contents err.old.inner) (E.contents err.new.inner) err.new.has_failed }
-    ensures kept_fault { NamesNothing matches.now → result ≢ 0
-        → NamesFault (IsKeptPlayFault IsUnkept (I.remaining input.old.inner) input.new.has_failed out.new.has_failed)
-        result (E.contents err.old.inner) (E.contents err.new.inner) err.new.has_failed }
+    ensures plays { NamesNothing matches.now → PlaysScript input.old input.new out.old out.new err.old err.new result }
+    ensures plays_alone { NamesNothing matches.now → NamesNoFolder matches.now
+        → PlaysAlone input.old input.new out.old out.new err.old err.new result }
 
-    // Where an audit is named, files are audited, and no script is read; the reasons for stops, or a run, are told where
-    // they are asked for.
+    // Where an audit is named, files are audited; the reasons for stops, or a run, are told where they are asked for.
     ensures audits { NamesAudit matches.now → NamesNoReasons matches.now → NamesNoRun matches.now
-        → AuditsFiles (W.contents out.old.inner) (W.contents out.new.inner) out.new.has_failed out.new.is_flushed
-        (E.contents err.old.inner) (E.contents err.new.inner) err.new.has_failed result }
+        → AuditsFiles out.old out.new err.old err.new result }
     ensures explains { NamesAudit matches.now → NamesReasons matches.now
-        → ExplainsFiles (W.contents out.old.inner) (W.contents out.new.inner) out.new.has_failed out.new.is_flushed
-        (E.contents err.old.inner) (E.contents err.new.inner) err.new.has_failed result }
+        → ExplainsFiles out.old out.new err.old err.new result }
     ensures lists { NamesAudit matches.now → NamesNoReasons matches.now → NamesRun matches.now
-        → ListsFiles (W.contents out.old.inner) (W.contents out.new.inner) out.new.has_failed out.new.is_flushed
-        (E.contents err.old.inner) (E.contents err.new.inner) err.new.has_failed result }
-    ensures audits_somehow { NamesAudit matches.now
-        → AuditsFiles (W.contents out.old.inner) (W.contents out.new.inner) out.new.has_failed out.new.is_flushed
-        (E.contents err.old.inner) (E.contents err.new.inner) err.new.has_failed result
-        ⊎ ExplainsFiles (W.contents out.old.inner) (W.contents out.new.inner) out.new.has_failed out.new.is_flushed
-        (E.contents err.old.inner) (E.contents err.new.inner) err.new.has_failed result
-        ⊎ ListsFiles (W.contents out.old.inner) (W.contents out.new.inner) out.new.has_failed out.new.is_flushed
-        (E.contents err.old.inner) (E.contents err.new.inner) err.new.has_failed result }
-    ensures reads_nothing { NamesAudit matches.now → input.new ≡ input.old }
+        → ListsFiles out.old out.new err.old err.new result }
+    ensures audits_some { NamesAudit matches.now → AuditsSomehow out.old out.new err.old err.new result }
 
-    // Where `show` is named, the lines of journals are written, and no script is read.
-    ensures shows { NamesShow matches.now
-        → ShowsFiles (W.contents out.old.inner) (W.contents out.new.inner) out.new.has_failed out.new.is_flushed
-        (E.contents err.old.inner) (E.contents err.new.inner) err.new.has_failed result }
-    ensures shows_alone { NamesShow matches.now → input.new ≡ input.old }
-
-    // Where `draw` is named, some files are drawn, in the kind and the format that are asked for, and no script is read.
+    // Where `show` or `draw` is named, lines of journals are written, or a picture of the kind and the format asked for.
+    ensures shows { NamesShow matches.now → ShowsFiles out.old out.new err.old err.new result }
     ensures draws { NamesDraw matches.now → (kind : kinds.Kind) → (format : formats.Format)
         → NamesOption matches.now (codes "kind") (kind_word kind)
         → NamesOption matches.now (codes "format") (format_word format)
-        → DrawsFiles kind format (W.contents out.old.inner) (W.contents out.new.inner) out.new.has_failed out.new.is_flushed
-        (E.contents err.old.inner) (E.contents err.new.inner) err.new.has_failed result }
-    ensures draws_some { NamesDraw matches.now
-        → DrawsSome (W.contents out.old.inner) (W.contents out.new.inner) out.new.has_failed out.new.is_flushed
-        (E.contents err.old.inner) (E.contents err.new.inner) err.new.has_failed result }
-    ensures draws_alone { NamesDraw matches.now → input.new ≡ input.old }
+        → DrawsFiles kind format out.old out.new err.old err.new result }
+    ensures draws_some { NamesDraw matches.now → DrawsSome out.old out.new err.old err.new result }
 
-    // Where `site` is named, that site is served.
+    // Where `site` is named, that site is served, and where `cluster` is named, all sites.
     ensures serves { NamesSite matches.now → (site : ℕ) → NamesSiteNumber matches.now site
-        → ServesSite site (I.remaining input.old.inner) input.new.has_failed
-        (W.contents out.old.inner) (W.contents out.new.inner) out.new.has_failed out.new.is_flushed
-        (E.contents err.old.inner) (E.contents err.new.inner) err.new.has_failed result }
+        → ServesSite site input.old input.new out.old out.new err.old err.new result }
     ensures serves_some { NamesSite matches.now
-        → ServesSome (I.remaining input.old.inner) input.new.has_failed
-        (W.contents out.old.inner) (W.contents out.new.inner) out.new.has_failed out.new.is_flushed
-        (E.contents err.old.inner) (E.contents err.new.inner) err.new.has_failed result }
-
-    // Where `cluster` is named, all sites are served, and no input is read.
-    ensures serves_cluster { NamesCluster matches.now
-        → ServesCluster (W.contents out.old.inner) (W.contents out.new.inner) out.new.has_failed out.new.is_flushed
-        (E.contents err.old.inner) (E.contents err.new.inner) err.new.has_failed result }
-    ensures serves_alone { NamesCluster matches.now → input.new ≡ input.old }
+        → ServesSome input.old input.new out.old out.new err.old err.new result }
+    ensures serves_cluster { NamesCluster matches.now → ServesCluster out.old out.new err.old err.new result }
+    ensures reads_nothing { ReadsNoInput matches.now → input.new ≡ input.old }
 {
     if let Some(audit) = matches.subcommand_matches(AUDIT) {
         return audit_files(rt, audit, out, err);
@@ -240,22 +192,13 @@ fn audit_files<R: AllocGlobal + Files, W: Write, E: Write>(
 ) -> u8
     ensures status { IsStatus result }
     ensures audits { IsUnset (one_text (found_of words.now) (codes "why"))
-        → IsUnset (one_text (found_of words.now) (codes "run"))
-        → AuditsFiles (W.contents out.old.inner) (W.contents out.new.inner) out.new.has_failed out.new.is_flushed
-        (E.contents err.old.inner) (E.contents err.new.inner) err.new.has_failed result }
+        → IsUnset (one_text (found_of words.now) (codes "run")) → AuditsFiles out.old out.new err.old err.new result }
     ensures explains { one_text (found_of words.now) (codes "why") ≡ Some (codes "true")
-        → ExplainsFiles (W.contents out.old.inner) (W.contents out.new.inner) out.new.has_failed out.new.is_flushed
-        (E.contents err.old.inner) (E.contents err.new.inner) err.new.has_failed result }
+        → ExplainsFiles out.old out.new err.old err.new result }
     ensures lists { IsUnset (one_text (found_of words.now) (codes "why"))
         → one_text (found_of words.now) (codes "run") ≡ Some (codes "true")
-        → ListsFiles (W.contents out.old.inner) (W.contents out.new.inner) out.new.has_failed out.new.is_flushed
-        (E.contents err.old.inner) (E.contents err.new.inner) err.new.has_failed result }
-    ensures audits_somehow { AuditsFiles (W.contents out.old.inner) (W.contents out.new.inner) out.new.has_failed out.new.is_flushed
-        (E.contents err.old.inner) (E.contents err.new.inner) err.new.has_failed result
-        ⊎ ExplainsFiles (W.contents out.old.inner) (W.contents out.new.inner) out.new.has_failed out.new.is_flushed
-        (E.contents err.old.inner) (E.contents err.new.inner) err.new.has_failed result
-        ⊎ ListsFiles (W.contents out.old.inner) (W.contents out.new.inner) out.new.has_failed out.new.is_flushed
-        (E.contents err.old.inner) (E.contents err.new.inner) err.new.has_failed result }
+        → ListsFiles out.old out.new err.old err.new result }
+    ensures audits_some { AuditsSomehow out.old out.new err.old err.new result }
 {
     let files = match files_of(rt, words) {
         Ok(files) => files,
@@ -279,13 +222,7 @@ fn play_into<R: AllocGlobal + Files<File = File>, I: BufRead + Ahead, W: Write, 
     err: &mut Output<E>,
 ) -> u8
     ensures status { IsStatus result }
-    ensures answers { IfSome (I.remaining input.old.inner) (λ bytes.
-        Answered bytes (W.contents out.old.inner) (W.contents out.new.inner) out.new.has_failed result) }
-    ensures silent { result ≡ 0 → err.new ≡ err.old }
-    ensures flushed { result ≡ 0 → out.new.is_flushed ≡ true }
-    ensures fault { result ≢ 0
-        → NamesFault (IsKeptPlayFault IsUnkept (I.remaining input.old.inner) input.new.has_failed out.new.has_failed)
-        result (E.contents err.old.inner) (E.contents err.new.inner) err.new.has_failed }
+    ensures plays { PlaysScript input.old input.new out.old out.new err.old err.new result }
 {
     let alloc = rt.alloc();
     match Folder::open(rt, path) {
@@ -303,26 +240,12 @@ fn serve_site<R, I: BufRead + Ahead, W: Write, E: Write>(
     err: &mut Output<E>,
 ) -> u8
 where
-    R: AllocGlobal
-        + Eprint
-        + Files<File = File>
-        + Wait
-        + Threads
-        + Clock
-        + Net<Listener = TcpListener, Stream = TcpStream>
-        + Copy
-        + Send
-        + Drop
-        + 'static,
+    R: System + AllocGlobal + Eprint + Files<File = File> + Send + 'static,
     ensures status { IsStatus result }
     ensures serves { (site : ℕ) → IsNumber site
         → TellsNumber (one_text (found_of words.now) (codes "site")) site
-        → ServesSite site (I.remaining input.old.inner) input.new.has_failed
-        (W.contents out.old.inner) (W.contents out.new.inner) out.new.has_failed out.new.is_flushed
-        (E.contents err.old.inner) (E.contents err.new.inner) err.new.has_failed result }
-    ensures serves_some { ServesSome (I.remaining input.old.inner) input.new.has_failed
-        (W.contents out.old.inner) (W.contents out.new.inner) out.new.has_failed out.new.is_flushed
-        (E.contents err.old.inner) (E.contents err.new.inner) err.new.has_failed result }
+        → ServesSite site input.old input.new out.old out.new err.old err.new result }
+    ensures serves_some { ServesSome input.old input.new out.old out.new err.old err.new result }
 {
     let path = words.get_str(TOPOLOGY).unwrap_or("");
     let topology = match read_file(rt, path, Fault::TopologyFile) {
@@ -351,17 +274,7 @@ fn serve_clients<R, W: Write, E: Write>(
     err: &mut Output<E>,
 ) -> u8
 where
-    R: AllocGlobal
-        + Eprint
-        + Files<File = File>
-        + Wait
-        + Threads
-        + Clock
-        + Net<Listener = TcpListener, Stream = TcpStream>
-        + Copy
-        + Send
-        + Drop
-        + 'static,
+    R: System + AllocGlobal + Eprint + Files<File = File> + Send + 'static,
     ensures status { IsStatus result }
 {
     let path = words.get_str(TOPOLOGY).unwrap_or("");
@@ -432,20 +345,9 @@ fn serve_cluster<R, W: Write, E: Write>(
     err: &mut Output<E>,
 ) -> u8
 where
-    R: AllocGlobal
-        + Eprint
-        + Files<File = File>
-        + Clock
-        + Wait
-        + Threads
-        + Net<Listener = TcpListener, Stream = TcpStream>
-        + Copy
-        + Send
-        + Drop
-        + 'static,
+    R: System + AllocGlobal + Eprint + Files<File = File> + Send + 'static,
     ensures status { IsStatus result }
-    ensures serves { ServesCluster (W.contents out.old.inner) (W.contents out.new.inner) out.new.has_failed
-        out.new.is_flushed (E.contents err.old.inner) (E.contents err.new.inner) err.new.has_failed result }
+    ensures serves { ServesCluster out.old out.new err.old err.new result }
 {
     let dir = words.get_str(OUT).unwrap_or("");
     match cluster_files_of(rt, words) {

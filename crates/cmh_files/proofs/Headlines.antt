@@ -1,8 +1,8 @@
 -- The headline from what the crates below promise.
-use Rattle.std.proofs.Common.{◌≡◌, ◌≢◌, ◌<◌, ◌≤◌, ◌+◌, ◌⊎◌, ℕ, zero, suc, Bool, true, false, true≢false, List, [], ◌∷◌, ◌++◌, length, take, map, get_or, ◌==◌, if◌then◌else◌, refl, sym, ap, subst, ◌∙◌, inl, inr, arith}
-use Rattle.std.specs.Prelude.{Contains, All}
+use Rattle.std.proofs.Common.{◌≡◌, ◌<◌, ◌≤◌, ◌⊎◌, ℕ, zero, suc, Bool, true, false, List, [], ◌∷◌, ◌++◌, length, take, map, get_or, ◌==◌, if◌then◌else◌, refl, sym, ap, subst, ◌∙◌, inl, inr, arith}
+use Rattle.std.specs.Prelude.{Contains}
 use Rattle.std.specs.List.{AllByRecursion}
-use Rattle.std.proofs.lemmas.Bool.{cases_eq, cases_Bool, eq-eqb, ne_eqb, eqb-true}
+use Rattle.std.proofs.lemmas.Bool.{cases_eq, cases_Bool, eq-eqb, ne_eqb}
 use Rattle.std.proofs.lemmas.List.Elements.{recursion_from_All}
 use Rattle.std.proofs.lemmas.Map.Made.{Contains-tail}
 use Rattle.cmh_frames.specs.Edition.{starts_at_ask}
@@ -10,23 +10,22 @@ use Rattle.cmh_frames.specs.declared.edition.Edition.{Edition}
 use Rattle.cmh_frames.specs.Topology.{Topology, is_site, sites_of}
 use Rattle.cmh_model.specs.declared.journal.Entry.{Entry}
 use Rattle.cmh_model.specs.declared.journal.WorldEvent.{WorldEvent}
-use Rattle.cmh_model.specs.Journals.{IsLawful}
 use Rattle.cmh_model.specs.Laws.{bit, count_of, DarkPath, StopsAnywhere, StrangersSilent}
 use Rattle.cmh_model.specs.LastAsker.{LastAskerDeclared}
-use Rattle.cmh_model.specs.Runs.{IsBeginningOf, IsRun, IsDrained, ComesFrom, ComeFromRun, entries_of}
+use Rattle.cmh_model.specs.Runs.{IsBeginningOf, IsRun, IsDrained, ComesFrom, entries_of}
 use Rattle.cmh_model.specs.Stops.{stopped, stop_at}
 use Rattle.cmh_model.proofs.Members.{found_at, found_from}
 use Rattle.cmh_journal.specs.declared.tail.Tail.{Tail}
 use Rattle.cmh_journal.specs.File.{IsCut, IsFileOf, Writes, tail_of}
 use Rattle.cmh_journal.specs.Journal.{Journal}
 use Rattle.cmh_audit.specs.Journals.{journal_of, NoneAt, OneEach}
-use Rattle.cmh_audit.specs.Reports.{Report, Reports}
+use Rattle.cmh_audit.specs.Reports.{Reports}
 use Rattle.cmh_audit.specs.Set.{IsSet}
-use Rattle.cmh_audit.specs.Verdicts.{IsAccepted, IfAccepted, IsVerdictOn}
+use Rattle.cmh_audit.specs.Verdicts.{IfAccepted, IsVerdictOn}
 use Rattle.cmh_audit.specs.declared.verdict.Verdict.{Verdict}
 use Rattle.cmh_audit.specs.declared.verdict.Verdict.TheVariants.{Accepted, Refused}
 use Rattle.cmh_files.specs.Audits.{AreFilesOf}
-use Rattle.cmh_files.specs.Headline.{AreBeside, AreOneForEachSite, IsFileWith, IsCutFileOf, FilesHold, AreFilesOfRun, AreFilesOfStop, AreCutFilesOf, Headline}
+use Rattle.cmh_files.specs.Headline.{AreBeside, IsFileWith, IsCutFileOf, FilesHold, AreFilesOfRun, AreFilesOfStop, AreCutFilesOf, Headline}
 
 -- ---- journals that are read, by their sites
 

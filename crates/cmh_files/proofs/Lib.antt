@@ -1,5 +1,6 @@
 pub mod FileLemmas
 pub mod JsonLemmas
+pub mod LineLemmas
 pub mod TextLemmas
 pub mod Headlines
 pub mod ShowLemmas

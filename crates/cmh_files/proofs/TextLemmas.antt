@@ -19,6 +19,11 @@ texts_written text xs i x within is =
 pub joined : (a b c d e : List ℕ) → a ++ (b ++ (c ++ (d ++ e))) ≡ a ++ b ++ c ++ d ++ e
 joined a b c d e = sym (append_assoc a b (c ++ (d ++ e))) ∙ sym (append_assoc (a ++ b) c (d ++ e)) ∙ sym (append_assoc (a ++ b ++ c) d e)
 
+-- nothing was written
+pub appends-none : (out : Option (List ℕ)) → Appends out out []
+appends-none None = tt
+appends-none (Some bytes) = sym (append-nil bytes)
+
 -- what was written stays when it is flushed
 pub appends-kept : (old new after : Option (List ℕ)) (text : List ℕ) → Appends old new text → Keeps new after → Appends old after text
 appends-kept None new after text wrote kept = tt

@@ -18,6 +18,7 @@ use Rattle.cmh_audit.specs.declared.set.SetFault.{SetFault}
 use Rattle.cmh_audit.specs.Verdicts.{IsVerdictOn}
 use Rattle.cmh_audit.specs.declared.verdict.Verdict.{Verdict}
 use Rattle.cmh_audit.specs.declared.verdict.Verdict.TheVariants.{Accepted, Refused}
+use Rattle.cmh_script.specs.Device.{Writing}
 use Rattle.cmh_files.specs.AuditTexts.{cuts_text, verdict_text}
 use Rattle.cmh_files.specs.Faults.{NamesFault}
 use Rattle.cmh_files.specs.Headline.{Headline}
@@ -152,8 +153,7 @@ IsCause topology files old new has_failed Output = has_failed ≡ true
 IsCause topology files old new has_failed fault = IsAuditFault topology files fault × (new ≡ old)
 
 -- an audit wrote its lines, flushed, and nothing else, or named why it couldn't
-abbrev pub AuditEnds : List ℕ → List (List ℕ) → Option (List ℕ) → Option (List ℕ) → Bool → Bool → Option (List ℕ)
-    → Option (List ℕ) → Bool → ℕ → Type 0
-AuditEnds topology files old new has_failed is_flushed err_old err_new err_failed status =
-    (WroteAudit topology files old new status × (is_flushed ≡ true) × (err_new ≡ err_old))
-    ⊎ NamesFault (IsCause topology files old new has_failed) status err_old err_new err_failed
+abbrev pub AuditEnds : {W E : Type 0} → List ℕ → List (List ℕ) → Writing W → Writing W → Writing E → Writing E → ℕ → Type 0
+AuditEnds topology files old new err_old err_new status =
+    (WroteAudit topology files old.written new.written status × (new.is_flushed ≡ true) × (err_new ≡ err_old))
+    ⊎ NamesFault (IsCause topology files old.written new.written new.has_failed) status err_old err_new

@@ -1,11 +1,12 @@
 -- An audit with the reasons for its stops.
-use Rattle.std.specs.Prelude.{◌≡◌, ℕ, Bool, true, ◌⊎◌, List, [], ◌++◌, Option}
+use Rattle.std.specs.Prelude.{◌≡◌, ℕ, true, ◌⊎◌, List, [], ◌++◌, Option}
 use Rattle.std.specs.Io.KnownBytes.{Appends}
 use Rattle.cmh_frames.specs.declared.edition.Edition.{Edition}
 use Rattle.cmh_frames.specs.Topology.{Topology}
 use Rattle.cmh_journal.specs.Journal.{Journal}
 use Rattle.cmh_audit.specs.declared.verdict.Verdict.{Verdict}
 use Rattle.cmh_audit.specs.declared.verdict.Verdict.TheVariants.{Accepted, Refused}
+use Rattle.cmh_script.specs.Device.{Writing}
 use Rattle.cmh_files.specs.AuditTexts.{cuts_text, verdict_text}
 use Rattle.cmh_files.specs.Audits.{Audits, IsCause, status_of}
 use Rattle.cmh_files.specs.Faults.{NamesFault}
@@ -29,8 +30,7 @@ pub record WroteExplained (topology : List ℕ) (files : List (List ℕ)) (old n
   pub wrote : Appends old new (cuts_text cuts ++ verdict_text edition verdict ++ reasons)
 
 -- an audit wrote its lines with the reasons, flushed, and nothing else, or named why it couldn't
-abbrev pub ExplainEnds : List ℕ → List (List ℕ) → Option (List ℕ) → Option (List ℕ) → Bool → Bool → Option (List ℕ)
-    → Option (List ℕ) → Bool → ℕ → Type 0
-ExplainEnds topology files old new has_failed is_flushed err_old err_new err_failed status =
-    (WroteExplained topology files old new status × (is_flushed ≡ true) × (err_new ≡ err_old))
-    ⊎ NamesFault (IsCause topology files old new has_failed) status err_old err_new err_failed
+abbrev pub ExplainEnds : {W E : Type 0} → List ℕ → List (List ℕ) → Writing W → Writing W → Writing E → Writing E → ℕ → Type 0
+ExplainEnds topology files old new err_old err_new status =
+    (WroteExplained topology files old.written new.written status × (new.is_flushed ≡ true) × (err_new ≡ err_old))
+    ⊎ NamesFault (IsCause topology files old.written new.written new.has_failed) status err_old err_new

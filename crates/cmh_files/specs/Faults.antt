@@ -1,5 +1,5 @@
 -- The faults of a command, by their statuses and their lines.
-use Rattle.std.specs.Prelude.{◌≡◌, ℕ, Bool, List, [], ◌∷◌, ◌++◌, codes, Option}
+use Rattle.std.specs.Prelude.{◌≡◌, ℕ, Bool, true, ◌⊎◌, List, [], ◌∷◌, ◌++◌, codes, Option, ⊤}
 use Rattle.std.specs.Fmt.{decimal}
 use Rattle.cmh_frames.specs.Rows.{fault_number}
 use Rattle.cmh_frames.specs.declared.rows.TopologyFault.{TopologyFault}
@@ -8,7 +8,8 @@ use Rattle.cmh_journal.specs.Journal as journal
 use Rattle.cmh_journal.specs.declared.journal.JournalFault.{JournalFault}
 use Rattle.cmh_journal.specs.declared.journal.JournalFault.TheVariants.{BadEntry, Memory as NoMemory}
 use Rattle.cmh_audit.specs.Set as set
-use Rattle.cmh_script.specs.Device.{Tells}
+use Rattle.cmh_script.specs.Device.{Tells, Writing}
+use Rattle.cmh_script.specs.Lines.{IsEndless}
 use Rattle.cmh_files.specs.declared.faults.Fault.{Fault}
 use Rattle.cmh_script.specs.declared.lines.LineFault.{LineFault}
 use Rattle.cmh_script.specs.declared.lines.LineFault.TheVariants.{Input as NoInput, Memory as NoSpace}
@@ -65,9 +66,23 @@ of_journal place fault = Journal place fault
 -- ---- the end of a command
 
 -- a command ended with the status of a fault that has a cause, and named it, unless that writer failed
-pub record NamesFault (is_cause : Fault → Type 0) (status : ℕ) (old new : Option (List ℕ))
-    (has_failed : Bool) : Type 0 where
+pub record NamesFault {E : Type 0} (is_cause : Fault → Type 0) (status : ℕ) (old new : Writing E) : Type 0 where
   pub fault : Fault
   pub cause : is_cause fault
   pub status_is : status ≡ status_of fault
-  pub named : Tells old new has_failed (fault_text fault ++ 10 ∷ [])
+  pub named : Tells old.written new.written new.has_failed (fault_text fault ++ 10 ∷ [])
+
+-- ---- lines of an input that are answered one after the other
+
+-- why a line was not answered
+abbrev pub IsAnswerFault : Option (List ℕ) → Option (List ℕ) → Bool → Fault → Type 0
+IsAnswerFault old new has_failed Output = has_failed ≡ true
+IsAnswerFault old new has_failed Memory = new ≡ old
+IsAnswerFault old new has_failed fault = ⊥
+
+-- why not all of them were answered; nothing is said of running out of memory
+abbrev pub IsPlayFault : Option (List ℕ) → Bool → Bool → Fault → Type 0
+IsPlayFault bytes read_failed write_failed Input = (read_failed ≡ true) ⊎ IsEndless bytes
+IsPlayFault bytes read_failed write_failed Output = write_failed ≡ true
+IsPlayFault bytes read_failed write_failed Memory = ⊤
+IsPlayFault bytes read_failed write_failed fault = ⊥

@@ -1,5 +1,5 @@
 -- An audit with a run from which the journals come.
-use Rattle.std.specs.Prelude.{◌≡◌, ℕ, ◌+◌, Bool, true, ◌⊎◌, List, [], ◌++◌, Option, None, Some}
+use Rattle.std.specs.Prelude.{◌≡◌, ℕ, ◌+◌, true, ◌⊎◌, List, [], ◌++◌, Option, None, Some}
 use Rattle.std.specs.List.{flat_map}
 use Rattle.std.specs.Io.KnownBytes.{Appends}
 use Rattle.cmh_frames.specs.declared.edition.Edition.{Edition}
@@ -11,6 +11,7 @@ use Rattle.cmh_audit.specs.declared.verdict.Verdict.{Verdict}
 use Rattle.cmh_audit.specs.declared.verdict.Verdict.TheVariants.{Accepted, Refused}
 use Rattle.cmh_audit.specs.Runs.{IsRunOf, event_at}
 use Rattle.cmh_show.specs.RunLines.{run_line_text}
+use Rattle.cmh_script.specs.Device.{Writing}
 use Rattle.cmh_files.specs.AuditTexts.{cuts_text, verdict_text}
 use Rattle.cmh_files.specs.Audits.{Audits, IsCause, status_of}
 use Rattle.cmh_files.specs.Faults.{NamesFault}
@@ -50,8 +51,7 @@ pub record WroteRun (topology : List ℕ) (files : List (List ℕ)) (old new : O
   pub wrote : Appends old new (cuts_text cuts ++ verdict_text edition verdict ++ run_text audits.journals steps)
 
 -- an audit wrote its lines with the run, flushed, and nothing else, or named why it couldn't
-abbrev pub RunEnds : List ℕ → List (List ℕ) → Option (List ℕ) → Option (List ℕ) → Bool → Bool → Option (List ℕ)
-    → Option (List ℕ) → Bool → ℕ → Type 0
-RunEnds topology files old new has_failed is_flushed err_old err_new err_failed status =
-    (WroteRun topology files old new status × (is_flushed ≡ true) × (err_new ≡ err_old))
-    ⊎ NamesFault (IsCause topology files old new has_failed) status err_old err_new err_failed
+abbrev pub RunEnds : {W E : Type 0} → List ℕ → List (List ℕ) → Writing W → Writing W → Writing E → Writing E → ℕ → Type 0
+RunEnds topology files old new err_old err_new status =
+    (WroteRun topology files old.written new.written status × (new.is_flushed ≡ true) × (err_new ≡ err_old))
+    ⊎ NamesFault (IsCause topology files old.written new.written new.has_failed) status err_old err_new

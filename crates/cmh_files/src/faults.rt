@@ -60,7 +60,7 @@ impl Fault {
     /// Names the fault on `err`, a write to which may fail, and answers the status with which the program ends.
     pub fn name_on<E: Write>(self, err: &mut Output<E>) -> u8
         ensures status { result ≡ spec.status_of self }
-        ensures named { Tells (E.contents err.old.inner) (E.contents err.new.inner) err.new.has_failed
+        ensures named { Tells err.old.written err.new.written err.new.has_failed
             (spec.fault_text self ++ 10 ∷ []) }
     {
         let _ = err.write_line(self);

@@ -17,7 +17,7 @@ pub use crate::auditing::{Audited, audit_files, run_audit};
 pub use crate::explaining::run_audit_why;
 pub use crate::faults::Fault;
 pub use crate::headline::headline_law;
-pub use crate::keeping::write_journal;
+pub use crate::keeping::{path_in, write_journal};
 pub use crate::showing::run_show;
 pub use crate::telling::run_audit_run;
 pub use crate::topology_file::{

@@ -32,9 +32,7 @@ pub fn run_audit_run<W: Write, E: Write>(
     ensures status { IsStatus result }
 
     // A verdict is written with a run, or a fault is named, and nothing else.
-    ensures ends { RunEnds topology.now (map (λ file. file.items) journals.now) (W.contents out.old.inner)
-        (W.contents out.new.inner) out.new.has_failed out.new.is_flushed
-        (E.contents err.old.inner) (E.contents err.new.inner) err.new.has_failed result }
+    ensures ends { RunEnds topology.now (map (λ file. file.items) journals.now) out.old out.new err.old err.new result }
 {
     match tell_into(alloc, topology, journals, out) {
         Ok(status) => status,
@@ -50,10 +48,10 @@ fn tell_into<W: Write>(
     out: &mut Output<W>,
 ) -> Result<u8, Fault>
     ensures wrote { IfOk result (WroteRun topology.now (map (λ file. file.items) journals.now)
-        (W.contents out.old.inner) (W.contents out.new.inner)) }
+        out.old.written out.new.written) }
     ensures flushed { OnOk result (out.new.is_flushed ≡ true) }
     ensures fault { IfErr result (IsCause topology.now (map (λ file. file.items) journals.now)
-        (W.contents out.old.inner) (W.contents out.new.inner) out.new.has_failed) }
+        out.old.written out.new.written out.new.has_failed) }
 {
     let audited = audit_files(alloc, topology, journals)?;
     let steps = steps_of(alloc, &audited)?;

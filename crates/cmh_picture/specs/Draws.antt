@@ -1,5 +1,5 @@
 -- The command `draw`: from the bytes of its files to the text of their picture.
-use Rattle.std.specs.Prelude.{◌≡◌, ℕ, Bool, true, ◌⊎◌, List, Option}
+use Rattle.std.specs.Prelude.{◌≡◌, ℕ, true, ◌⊎◌, List, Option}
 use Rattle.std.specs.Io.KnownBytes.{Appends}
 use Rattle.cmh_frames.specs.declared.edition.Edition.{Edition}
 use Rattle.cmh_frames.specs.Topology.{Topology}
@@ -9,6 +9,7 @@ use Rattle.cmh_draw.specs.Marks.{IsRunPicture, IsWaitsPicture}
 use Rattle.cmh_draw.specs.declared.picture.Kind.{Kind}
 use Rattle.cmh_draw.specs.declared.picture.Kind.TheVariants.{Waits, Run}
 use Rattle.cmh_draw.specs.declared.picture.Picture.{Picture}
+use Rattle.cmh_script.specs.Device.{Writing}
 use Rattle.cmh_files.specs.Audits.{Audits, IsCause}
 use Rattle.cmh_files.specs.Faults.{NamesFault}
 use Rattle.cmh_picture.specs.PictureTexts.{IsDrawn}
@@ -39,8 +40,8 @@ pub record WroteDrawing (topology : List ℕ) (files : List (List ℕ)) (kind : 
 
 -- a picture was written and flushed, and nothing else, or it is named why it couldn't be: the faults are those of an
 -- audit
-abbrev pub DrawEnds : List ℕ → List (List ℕ) → Kind → Format → Option (List ℕ) → Option (List ℕ) → Bool → Bool
-    → Option (List ℕ) → Option (List ℕ) → Bool → ℕ → Type 0
-DrawEnds topology files kind format old new has_failed is_flushed err_old err_new err_failed status =
-    (WroteDrawing topology files kind format old new × (status ≡ 0) × (is_flushed ≡ true) × (err_new ≡ err_old))
-    ⊎ NamesFault (IsCause topology files old new has_failed) status err_old err_new err_failed
+abbrev pub DrawEnds : {W E : Type 0} → List ℕ → List (List ℕ) → Kind → Format → Writing W → Writing W → Writing E → Writing E → ℕ → Type 0
+DrawEnds topology files kind format old new err_old err_new status =
+    (WroteDrawing topology files kind format old.written new.written × (status ≡ 0) × (new.is_flushed ≡ true)
+    × (err_new ≡ err_old))
+    ⊎ NamesFault (IsCause topology files old.written new.written new.has_failed) status err_old err_new

@@ -33,8 +33,7 @@ pub fn run_draw<W: Write, E: Write>(
 
     // A picture is written, or a fault is named, and nothing else.
     ensures ends { DrawEnds topology.now (map (λ file. file.items) journals.now) kind format
-        (W.contents out.old.inner) (W.contents out.new.inner) out.new.has_failed out.new.is_flushed
-        (E.contents err.old.inner) (E.contents err.new.inner) err.new.has_failed result }
+        out.old out.new err.old err.new result }
 {
     match draw_into(alloc, topology, journals, kind, format, out) {
         Ok(()) => 0,
@@ -52,10 +51,10 @@ fn draw_into<W: Write>(
     out: &mut Output<W>,
 ) -> Result<(), Fault>
     ensures wrote { OnOk result (WroteDrawing topology.now (map (λ file. file.items) journals.now) kind format
-        (W.contents out.old.inner) (W.contents out.new.inner)) }
+        out.old.written out.new.written) }
     ensures flushed { OnOk result (out.new.is_flushed ≡ true) }
     ensures fault { IfErr result (IsCause topology.now (map (λ file. file.items) journals.now)
-        (W.contents out.old.inner) (W.contents out.new.inner) out.new.has_failed) }
+        out.old.written out.new.written out.new.has_failed) }
 {
     let picture = picture_of_files(alloc, topology, journals, kind)?;
     let text = picture_text(alloc, format, &picture)?;

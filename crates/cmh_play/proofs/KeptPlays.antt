@@ -4,18 +4,20 @@ use Rattle.std.specs.Prelude.{◌⊎◌, IfErr, IfSome, IsErr, IsErrAnd, OnOk, R
 use Rattle.std.specs.Global.{Global}
 use Rattle.std.specs.Io.KnownBytes.{Keeps}
 use Rattle.cmh_files.proofs.TextLemmas.{appends-kept}
-use Rattle.cmh_files.specs.Faults.{NamesFault, status_of}
+use Rattle.cmh_files.specs.Faults.{IsAnswerFault, IsPlayFault, NamesFault, status_of}
 use Rattle.cmh_files.specs.declared.faults.Fault.{Fault}
 use Rattle.cmh_files.specs.declared.faults.Fault.TheVariants.{Memory}
 use Rattle.cmh_journal.specs.Journal.{Journal}
 use Rattle.cmh_script.proofs.LinesSeen.{if_some}
+use Rattle.cmh_script.specs.Device.{Writing}
 use Rattle.cmh_script.specs.Lines.{IsNextLine}
 use Rattle.cmh_script.specs.declared.lines.NextLine.{NextLine}
 use Rattle.cmh_script.specs.declared.lines.NextLine.TheVariants.{End}
-use Rattle.cmh_play.proofs.Plays.{HasPlayed, answer_fault, answered_fault, answered_some, at_some, fault_not_0}
+use Rattle.cmh_files.proofs.LineLemmas.{at_some}
+use Rattle.cmh_play.proofs.Plays.{HasPlayed, answer_fault, answered_fault, answered_some, fault_not_0}
 use Rattle.cmh_play.specs.Keeping.{AnsweredAndKept, IsKeptPlayFault, IsUnanswered, KeepsAt, KeepsWorld, PlayedToEnd}
-use Rattle.cmh_play.specs.Play.{Answered, IsAnswerFault, IsPlayFault, Plays, status_after}
-use Rattle.cmh_play.specs.Games.{Game}
+use Rattle.cmh_play.specs.Play.{Answered, Plays, status_after}
+use Rattle.cmh_play.specs.PlayStates.{PlayState}
 use Rattle.cmh_play.specs.declared.reply.Reply.{Reply}
 use Rattle.cmh_play.specs.declared.reply.Reply.TheVariants.{Silent, Ok as OkReply, BadLine, Late, Topology, Step, Delivery, Severance, Report}
 use Rattle.cmh_audit.specs.declared.verdict.Verdict.{Verdict}
@@ -24,17 +26,17 @@ use Rattle.cmh_frames.specs.declared.edition.Edition.{Edition}
 -- ---- a line
 
 -- nothing is kept for a reply that is no report
-pub keeps_none : {K : Type 0} → (Kept : K → List Journal → K → Type 0) (reply : Reply) (game : Game) (old new : K)
-    → ((edition : Edition) (verdict : Box Verdict Global) → reply ≢ Report edition verdict) → new ≡ old → KeepsAt Kept reply game old new
-keeps_none Kept Silent game old new other same = same
-keeps_none Kept OkReply game old new other same = same
-keeps_none Kept BadLine game old new other same = same
-keeps_none Kept Late game old new other same = same
-keeps_none Kept (Topology fault) game old new other same = same
-keeps_none Kept (Step step) game old new other same = same
-keeps_none Kept (Delivery delivery) game old new other same = same
-keeps_none Kept (Severance severance) game old new other same = same
-keeps_none Kept (Report edition verdict) game old new other same = absurd (other edition verdict refl)
+pub keeps_none : {K : Type 0} → (Kept : K → List Journal → K → Type 0) (reply : Reply) (state : PlayState) (old new : K)
+    → ((edition : Edition) (verdict : Box Verdict Global) → reply ≢ Report edition verdict) → new ≡ old → KeepsAt Kept reply state old new
+keeps_none Kept Silent state old new other same = same
+keeps_none Kept OkReply state old new other same = same
+keeps_none Kept BadLine state old new other same = same
+keeps_none Kept Late state old new other same = same
+keeps_none Kept (Topology fault) state old new other same = same
+keeps_none Kept (Step step) state old new other same = same
+keeps_none Kept (Delivery delivery) state old new other same = same
+keeps_none Kept (Severance severance) state old new other same = same
+keeps_none Kept (Report edition verdict) state old new other same = absurd (other edition verdict refl)
 
 -- nothing was written before journals were to be kept
 pub unkept : (Fails : Fault → Type 0) (out : Option (List ℕ)) (has_failed : Bool) (fault : Fault) → (fault ≡ Memory) ⊎ Fails fault → IsUnanswered Fails out out has_failed fault
@@ -48,26 +50,26 @@ unkept_err Fails out has_failed (Err fault) lower is h = subst (IsUnanswered Fai
 
 -- ---- the lines so far
 
-module _ (start now old out : Option (List ℕ)) (game : Game) (n : ℕ) (so_far : HasPlayed start now old out game n) where
+module _ (start now old out : Option (List ℕ)) (state : PlayState) (n : ℕ) (so_far : HasPlayed start now old out state n) where
   -- no line is left
   pub played_to_end : (next : NextLine) → IfSome now (λ bytes. IsNextLine bytes next) → next ≡ End
-      → IfSome start (λ bytes. PlayedToEnd bytes old out game)
+      → IfSome start (λ bytes. PlayedToEnd bytes old out state)
   played_to_end next is ends = if_some start _ (λ bytes e.
       let s = so_far bytes e in
       let none : s.rest ≡ [] = subst (IsNextLine s.rest) ends (at_some now (λ bytes. IsNextLine bytes next) s.rest s.now_is is) in
       record {
         text = s.text;
-        plays = subst (λ (rest : List ℕ). Plays bytes rest s.text game) none s.plays;
+        plays = subst (λ (rest : List ℕ). Plays bytes rest s.text state) none s.plays;
         wrote = s.wrote;
       })
 
   -- a line is not answered
   unanswered : (Fails : Fault → Type 0) (after : Option (List ℕ)) (has_failed : Bool) (fault : Fault) → IsUnanswered Fails out after has_failed fault
       → IfSome start (λ bytes. Answered bytes old after has_failed (status_of fault))
-  unanswered Fails after has_failed fault (inl why) = answered_fault start now old out game n so_far after has_failed fault why
+  unanswered Fails after has_failed fault (inl why) = answered_fault start now old out state n so_far after has_failed fault why
   unanswered Fails after has_failed fault (inr why) =
       subst (λ (o : Option (List ℕ)). IfSome start (λ bytes. Answered bytes old o has_failed (status_of fault))) (sym why.1)
-      (answered_some start now old out game n so_far has_failed fault)
+      (answered_some start now old out state n so_far has_failed fault)
 
   pub unanswered_err : (Fails : Fault → Type 0) (after : Option (List ℕ)) (has_failed : Bool) (r : Result (Unit {0}) Fault) (lower : Fault) → IsErrAnd r (λ fault. fault ≡ lower)
       → IsUnanswered Fails out after has_failed lower → IfSome start (λ bytes. Answered bytes old after has_failed (status_after r))
@@ -106,15 +108,15 @@ kept_none Kept (Some bytes) old new has_failed (Err fault) keeper answered err =
 }
 
 -- the answers are flushed, and then the journals are kept, or are not
-pub kept_at_end : {K : Type 0} → (Kept : K → List Journal → K → Type 0) (start old out new : Option (List ℕ)) (has_failed : Bool) (game : Game) (before after : K) (r : Result (Unit {0}) Fault)
-    → IfSome start (λ bytes. PlayedToEnd bytes old out game) → Keeps out new → OnOk r (KeepsWorld Kept game before after)
+pub kept_at_end : {K : Type 0} → (Kept : K → List Journal → K → Type 0) (start old out new : Option (List ℕ)) (has_failed : Bool) (state : PlayState) (before after : K) (r : Result (Unit {0}) Fault)
+    → IfSome start (λ bytes. PlayedToEnd bytes old out state) → Keeps out new → OnOk r (KeepsWorld Kept state before after)
     → IfSome start (λ bytes. AnsweredAndKept Kept bytes old new has_failed (status_after r) after)
-kept_at_end Kept None old out new has_failed game before after r played flushed kept = tt
-kept_at_end Kept (Some bytes) old out new has_failed game before after (Ok x) played flushed kept = record {
+kept_at_end Kept None old out new has_failed state before after r played flushed kept = tt
+kept_at_end Kept (Some bytes) old out new has_failed state before after (Ok x) played flushed kept = record {
   answered = record {
     rest = [];
     text = played.text;
-    game = game;
+    state = state;
     plays = played.plays;
     wrote = inr (appends-kept old out new played.text played.wrote flushed);
     all = λ _. refl;
@@ -122,11 +124,11 @@ kept_at_end Kept (Some bytes) old out new has_failed game before after (Ok x) pl
   };
   kept = λ _. (before, kept);
 }
-kept_at_end Kept (Some bytes) old out new has_failed game before after (Err fault) played flushed kept = record {
+kept_at_end Kept (Some bytes) old out new has_failed state before after (Err fault) played flushed kept = record {
   answered = record {
     rest = [];
     text = played.text;
-    game = game;
+    state = state;
     plays = played.plays;
     wrote = inr (appends-kept old out new played.text played.wrote flushed);
     all = λ _. refl;
@@ -142,10 +144,10 @@ answered_alone Kept None old new has_failed status keeper h = tt
 answered_alone Kept (Some bytes) old new has_failed status keeper h = h.answered
 
 -- a keeper that never fails adds no fault
-pub named_alone : (start : Option (List ℕ)) (read_failed write_failed : Bool) (status : ℕ) (err_old err_new : Option (List ℕ)) (err_failed : Bool)
-    → NamesFault (IsKeptPlayFault (λ _. ⊥) start read_failed write_failed) status err_old err_new err_failed
-    → NamesFault (IsPlayFault start read_failed write_failed) status err_old err_new err_failed
-named_alone start read_failed write_failed status err_old err_new err_failed named = record {
+pub named_alone : {E : Type 0} (start : Option (List ℕ)) (read_failed write_failed : Bool) (status : ℕ) (err_old err_new : Writing E)
+    → NamesFault (IsKeptPlayFault (λ _. ⊥) start read_failed write_failed) status err_old err_new
+    → NamesFault (IsPlayFault start read_failed write_failed) status err_old err_new
+named_alone start read_failed write_failed status err_old err_new named = record {
   fault = named.fault;
   cause = elim named.cause [ inl why ↦ why | inr none ↦ absurd none ];
   status_is = named.status_is;

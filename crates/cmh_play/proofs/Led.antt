@@ -1,4 +1,4 @@
--- What leads from one game that is held to another, function by function.
+-- What leads from one state that is held to another, function by function.
 use Rattle.std.proofs.Common.{◌≡◌, ◌==◌, Bool, true, [], ◌∷◌, ◌++◌, length, Option, None, Some, inl, refl, sym, ap, subst}
 use Rattle.std.specs.Prelude.{MatchBool, MatchOption}
 use Rattle.cmh_frames.specs.declared.rows.TopologyFault.{TopologyFault}
@@ -10,18 +10,18 @@ use Rattle.cmh_playground.specs.Held.{Held, ShowsNew}
 use Rattle.cmh_playground.proofs.PlayedRuns.{nothing_played}
 use Rattle.cmh_script.specs.declared.script.Command.{Command}
 use Rattle.cmh_play.proofs.PlayedLines.{commanded}
-use Rattle.cmh_play.specs.Games.{Game, Named, Played}
+use Rattle.cmh_play.specs.PlayStates.{PlayState, Named, Played}
 use Rattle.cmh_play.specs.Play.{AddsSite, CarriesOut, Commands, IsNewWorld, OnlyAnswers, SetsEdition}
 use Rattle.cmh_play.specs.Showing.{HasWorld, IsShown, LeadsOn, LeadsPlayed}
-use Rattle.cmh_play.specs.declared.play.Game.TheVariants.{Named as HeldNamed, Played as HeldPlayed}
+use Rattle.cmh_play.specs.declared.play.PlayState.TheVariants.{Named as HeldNamed, Played as HeldPlayed}
 use Rattle.cmh_play.specs.declared.reply.Reply.{Reply}
 use Rattle.cmh_play.specs.declared.reply.Reply.TheVariants.{Late, Ok as OkReply}
 
 -- ---- a line that is no command
 
 -- of a draft
-named : (keeps : Bool) (Related : Game → Game → Type 0) (old new : Draft) → Related (Named old) (Named new) → LeadsOn keeps Related (HeldNamed old) (HeldNamed new)
-named keeps Related old new related (Named draft) shown of = record { game = Named new; shows = refl; holds = subst (λ (d : Draft). Related (Named d) (Named new)) shown related }
+named : (keeps : Bool) (Related : PlayState → PlayState → Type 0) (old new : Draft) → Related (Named old) (Named new) → LeadsOn keeps Related (HeldNamed old) (HeldNamed new)
+named keeps Related old new related (Named draft) shown of = record { state = Named new; shows = refl; holds = subst (λ (d : Draft). Related (Named d) (Named new)) shown related }
 named keeps Related old new related (Played world) shown of = absurd shown
 
 -- the edition of a draft without sites
@@ -47,7 +47,7 @@ pub commands : (keeps : Bool) (old new : Held) (command : Command) (reply : Repl
 commands keeps old new command reply leads (Named draft) shown of = absurd shown
 commands keeps old new command reply leads (Played world) shown of =
     let after = leads keeps world shown of in
-    record { game = Played after.later; shows = after.shows; holds = commanded world after.later command reply after.related }
+    record { state = Played after.later; shows = after.shows; holds = commanded world after.later command reply after.related }
 
 new_world : (keeps : Bool) (draft : Draft) (t : Topology) (held : Held) → IsTopologyOf draft.edition draft.rows t → (new : ShowsNew t keeps held) → IsNewWorld draft new.world
 new_world keeps draft t held of new = record {
@@ -63,7 +63,7 @@ commands_first keeps draft t made new command reply topology fresh leads (Played
 commands_first keeps draft t made new command reply topology fresh leads (Named same) shown of =
     let after = leads keeps fresh.world fresh.shows (nothing_played fresh.world fresh.journals fresh.links) in
     record {
-      game = Played after.later;
+      state = Played after.later;
       shows = after.shows;
       holds = record {
         before = fresh.world;
@@ -74,15 +74,15 @@ commands_first keeps draft t made new command reply topology fresh leads (Named 
       };
     }
 
--- ---- each game has a world
+-- ---- each state has a world
 
-pub world_named : (draft : Draft) (t : Topology) → IsTopologyOf draft.edition draft.rows t → (keeps : Bool) (game : Game) → IsShown keeps game (HeldNamed draft) → HasWorld game
+pub world_named : (draft : Draft) (t : Topology) → IsTopologyOf draft.edition draft.rows t → (keeps : Bool) (state : PlayState) → IsShown keeps state (HeldNamed draft) → HasWorld state
 world_named draft t topology keeps (Played world) shown = absurd shown
 world_named draft t topology keeps (Named same) shown = (
   record { topology = t; journals = []; links = ([], []) },
   subst (λ (d : Draft). IsNewWorld d (record { topology = t; journals = []; links = ([], []) })) shown (record { topology = topology; journals = λ s. refl; links = λ a b. refl }),
 )
 
-pub world_played : (held : Held) (keeps : Bool) (game : Game) → IsShown keeps game (HeldPlayed held) → HasWorld game
+pub world_played : (held : Held) (keeps : Bool) (state : PlayState) → IsShown keeps state (HeldPlayed held) → HasWorld state
 world_played held keeps (Named draft) shown = absurd shown
 world_played held keeps (Played world) shown = (world, refl)

@@ -1,4 +1,4 @@
--- The lines of a script that were answered so far, of a game that is shown.
+-- The lines of a script that were answered so far, of a state that is shown.
 use Rattle.std.proofs.Common.{◌≡◌, ◌≢◌, ℕ, ◌+◌, Bool, List, Option, Some, subst, sym}
 use Rattle.std.specs.Prelude.{IfSome}
 use Rattle.std.specs.Io.BufRead.{drop_through}
@@ -8,41 +8,41 @@ use Rattle.cmh_script.specs.declared.lines.NextLine.{NextLine}
 use Rattle.cmh_script.specs.declared.lines.NextLine.TheVariants.{End}
 use Rattle.cmh_play.proofs.PlayedLines.{replied, said_no_got}
 use Rattle.cmh_play.proofs.Plays.{HasPlayed, begun, played_more}
-use Rattle.cmh_play.specs.Games.{Game, Named}
+use Rattle.cmh_play.specs.PlayStates.{PlayState, Named}
 use Rattle.cmh_play.specs.Keeping.{AnswersAndKeeps}
 use Rattle.cmh_play.specs.Play.{IsOfRun}
 use Rattle.cmh_play.specs.Showing.{IsNewHeld, IsShown, LeadsOn}
-use Rattle.cmh_play.specs.declared.play.Game.{Game as HeldGame}
+use Rattle.cmh_play.specs.declared.play.PlayState.{PlayState as HeldState}
 use Rattle.cmh_frames.specs.declared.edition.Edition.TheVariants.{One}
 use Rattle.std.proofs.Common.{[], refl}
 
--- n lines led to a game that is shown
-pub record HasLed (keeps : Bool) (held : HeldGame) (start now old out : Option (List ℕ)) (n : ℕ) : Type 0 where
-  pub game : Game
-  pub shows : IsShown keeps game held
-  pub of_run : IsOfRun game
-  pub played : HasPlayed start now old out game n
+-- n lines led to a state that is shown
+pub record HasLed (keeps : Bool) (held : HeldState) (start now old out : Option (List ℕ)) (n : ℕ) : Type 0 where
+  pub state : PlayState
+  pub shows : IsShown keeps state held
+  pub of_run : IsOfRun state
+  pub played : HasPlayed start now old out state n
 
-pub led_begun : (keeps : Bool) (held : HeldGame) (start out : Option (List ℕ)) → IsNewHeld held → HasLed keeps held start start out out 0
+pub led_begun : (keeps : Bool) (held : HeldState) (start out : Option (List ℕ)) → IsNewHeld held → HasLed keeps held start start out out 0
 led_begun keeps held start out new =
-    let game : Game = Named (record { edition = One; rows = [] }) in
+    let state : PlayState = Named (record { edition = One; rows = [] }) in
     record {
-      game = game;
-      shows = subst (λ (h : HeldGame). IsShown keeps game h) (sym new) refl;
+      state = state;
+      shows = subst (λ (h : HeldState). IsShown keeps state h) (sym new) refl;
       of_run = tt;
-      played = begun start out game refl;
+      played = begun start out state refl;
     }
 
 -- one line more
-pub led_more : {K : Type 0} → (Keeps : K → List Journal → K → Type 0) (keeps : Bool) (held later : HeldGame) (start now old out after wrote : Option (List ℕ)) (n : ℕ) (next : NextLine) (keeper_old keeper_new : K)
+pub led_more : {K : Type 0} → (Keeps : K → List Journal → K → Type 0) (keeps : Bool) (held later : HeldState) (start now old out after wrote : Option (List ℕ)) (n : ℕ) (next : NextLine) (keeper_old keeper_new : K)
     → HasLed keeps held start now old out n → IfSome now (λ bytes. IsNextLine bytes next) → IfSome now (λ bytes. after ≡ Some (drop_through 10 bytes)) → next ≢ End
     → LeadsOn keeps (λ before behind. AnswersAndKeeps Keeps before behind next out wrote keeper_old keeper_new) held later → HasLed keeps later start after old wrote (n + 1)
 led_more Keeps keeps held later start now old out after wrote n next keeper_old keeper_new so_far is left more leads =
-    let behind = leads so_far.game so_far.shows so_far.of_run in
+    let behind = leads so_far.state so_far.shows so_far.of_run in
     let a = behind.holds.answers in
     record {
-      game = behind.game;
+      state = behind.state;
       shows = behind.shows;
-      of_run = (replied so_far.game behind.game a.said a.reply (said_no_got next a.said a.says) a.replies so_far.of_run).1;
-      played = played_more start now old out so_far.game n so_far.played after wrote next a.said a.reply behind.game is left a.says more a.replies so_far.of_run a.wrote;
+      of_run = (replied so_far.state behind.state a.said a.reply (said_no_got next a.said a.says) a.replies so_far.of_run).1;
+      played = played_more start now old out so_far.state n so_far.played after wrote next a.said a.reply behind.state is left a.says more a.replies so_far.of_run a.wrote;
     }

@@ -18,7 +18,7 @@ use Rattle.cmh_script.specs.declared.script.Line.{Line}
 use Rattle.cmh_script.specs.declared.script.Line.TheVariants.{Silent, Bad, Edition as Edition_line, Site, Command as Command_line}
 use Rattle.cmh_script.specs.declared.lines.NextLine.{NextLine}
 use Rattle.cmh_script.specs.declared.lines.NextLine.TheVariants.{Line as Read, TooLong, End}
-use Rattle.cmh_play.specs.Games.{Game, Named, Played}
+use Rattle.cmh_play.specs.PlayStates.{PlayState, Named, Played}
 use Rattle.cmh_play.specs.declared.reply.Reply.{Reply as Reply_text}
 use Rattle.cmh_play.specs.declared.reply.Reply.TheVariants.{Silent as NoReply, Ok, BadLine, Late, Topology, Step as StepReply, Delivery as DeliveryReply, Severance as SeveranceReply, Report as ReportReply}
 use Rattle.cmh_play.specs.Play.{IsWorldOf, CarriesOut, Commands, SetsEdition, AddsSite, IsSaidBy, Replies, IsOfRun, IsOfHonestSites}
@@ -33,7 +33,7 @@ said_no_got TooLong line says process event is = absurd (cc (says, is))
 said_no_got End line says process event is = absurd (cc (says, is))
 
 -- the world that a command finds is at the end of a run
-world_of : (game : Game) (world : World) → IsWorldOf game world → IsOfRun game → IsPlayed world
+world_of : (state : PlayState) (world : World) → IsWorldOf state world → IsOfRun state → IsPlayed world
 world_of (Named draft) world is of = nothing_played world is.journals is.links
 world_of (Played played) world is of = subst IsPlayed is of
 
@@ -94,26 +94,26 @@ carried_out old new Report (DeliveryReply delivery) says is played = absurd is
 carried_out old new Report (SeveranceReply severance) says is played = absurd is
 
 -- a line that names a site or the edition
-same_game : (old new : Game) → new ≡ old → IsOfRun old → IsOfRun new
-same_game old new same of = subst IsOfRun (sym same) of
+same_state : (old new : PlayState) → new ≡ old → IsOfRun old → IsOfRun new
+same_state old new same of = subst IsOfRun (sym same) of
 
-set_edition : (old new : Game) (edition : Edition) (reply : Reply_text) → SetsEdition old new edition reply → IsOfRun old → IsOfHonestSites reply × IsOfRun new
-set_edition (Played world) new edition reply is of = (subst IsOfHonestSites (sym is.1) tt, same_game (Played world) new is.0 of)
+set_edition : (old new : PlayState) (edition : Edition) (reply : Reply_text) → SetsEdition old new edition reply → IsOfRun old → IsOfHonestSites reply × IsOfRun new
+set_edition (Played world) new edition reply is of = (subst IsOfHonestSites (sym is.1) tt, same_state (Played world) new is.0 of)
 set_edition (Named draft) new edition reply is of = go (length draft.rows == 0) is
   where
     go : (first : Bool) → MatchBool first ((reply ≡ Ok) × (new ≡ Named (record { edition = edition; rows = [] }))) ((new ≡ Named draft) × (reply ≡ Late)) → IsOfHonestSites reply × IsOfRun new
     go true is = (subst IsOfHonestSites (sym is.0) tt, subst IsOfRun (sym is.1) tt)
     go false is = (subst IsOfHonestSites (sym is.1) tt, subst IsOfRun (sym is.0) tt)
 
-add_site : (old new : Game) (row : Row) (reply : Reply_text) → AddsSite old new row reply → IsOfRun old → IsOfHonestSites reply × IsOfRun new
-add_site (Played world) new row reply is of = (subst IsOfHonestSites (sym is.1) tt, same_game (Played world) new is.0 of)
+add_site : (old new : PlayState) (row : Row) (reply : Reply_text) → AddsSite old new row reply → IsOfRun old → IsOfHonestSites reply × IsOfRun new
+add_site (Played world) new row reply is of = (subst IsOfHonestSites (sym is.1) tt, same_state (Played world) new is.0 of)
 add_site (Named draft) new row reply (inl is) of = (subst IsOfHonestSites (sym is.1) tt, subst IsOfRun (sym is.2) tt)
 add_site (Named draft) new row reply (inr is) of = (subst IsOfHonestSites (sym is.2.1) tt, subst IsOfRun (sym is.2.0) tt)
 
 -- any line
-pub replied : (old new : Game) (line : Line) (reply : Reply_text) → NoGot line → Replies old new line reply → IsOfRun old → IsOfHonestSites reply × IsOfRun new
-replied old new Silent reply says is of = (subst IsOfHonestSites (sym is.1) tt, same_game old new is.0 of)
-replied old new Bad reply says is of = (subst IsOfHonestSites (sym is.1) tt, same_game old new is.0 of)
+pub replied : (old new : PlayState) (line : Line) (reply : Reply_text) → NoGot line → Replies old new line reply → IsOfRun old → IsOfHonestSites reply × IsOfRun new
+replied old new Silent reply says is of = (subst IsOfHonestSites (sym is.1) tt, same_state old new is.0 of)
+replied old new Bad reply says is of = (subst IsOfHonestSites (sym is.1) tt, same_state old new is.0 of)
 replied old new (Edition_line edition) reply says is of = set_edition old new edition reply is of
 replied old new (Site row) reply says is of = add_site old new row reply is of
 replied old new (Command_line command) reply says is of =

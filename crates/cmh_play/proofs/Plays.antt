@@ -1,19 +1,19 @@
 -- A script that is played, line after line.
-use Rattle.std.proofs.Common.{◌≡◌, ◌≢◌, ℕ, ◌+◌, ◌-◌, ◌^◌, ◌<◌, ◌≤◌, ◌==◌, Bool, true, false, List, [], ◌∷◌, ◌++◌, Option, None, Some, length, nat_lt, refl, sym, ap, subst, ◌∙◌, arith, inl, inr, true≢false}
-use Rattle.std.specs.Prelude.{if◌then◌else◌, IfErr, IfSome, IsErr, IsErrAnd, MatchBool, OnErr, OnOk, Result, Ok, Err}
+use Rattle.std.proofs.Common.{◌≡◌, ◌≢◌, ℕ, ◌+◌, ◌-◌, ◌^◌, ◌<◌, ◌≤◌, Bool, true, false, List, [], ◌++◌, Option, None, Some, length, nat_lt, refl, sym, subst, ◌∙◌, arith, inl, inr, true≢false}
+use Rattle.std.specs.Prelude.{IfErr, IfSome, IsErr, IsErrAnd, MatchBool, OnErr, OnOk, Result, Ok, Err}
 use Rattle.std.specs.Io.BufRead.{first_line, drop_through}
 use Rattle.std.specs.Io.KnownBytes.{Appends, Keeps}
 use Rattle.std.proofs.lemmas.Bool.{lt-ltb, le-ltb}
-use Rattle.std.proofs.lemmas.List.{append-nil, append_assoc}
 use Rattle.std.specs.Global.{Global}
-use Rattle.cmh_files.proofs.TextLemmas.{appends-kept}
+use Rattle.cmh_files.proofs.LineLemmas.{at_some, length-drop_through, long_some}
+use Rattle.cmh_files.proofs.TextLemmas.{appends-kept, appends-more, appends-none}
 use Rattle.cmh_script.proofs.LinesSeen.{if_some}
 use Rattle.cmh_frames.specs.declared.edition.Edition.TheVariants.{One}
 use Rattle.cmh_script.specs.Device.{Tells}
-use Rattle.cmh_files.specs.Faults.{status_of, of_line}
+use Rattle.cmh_files.specs.Faults.{IsAnswerFault, IsPlayFault, status_of, of_line}
 use Rattle.cmh_script.specs.Lines.{IsNextLine, IsEndless, IsLineFault}
 use Rattle.cmh_play.proofs.PlayedLines.{replied, said_no_got}
-use Rattle.cmh_play.specs.Play.{Plays, begin, answer, IsNewGame, FirstSays, IsSaidBy, Replies, Answered, IsAnswerFault, IsOfRun, IsPlayFault, status_after}
+use Rattle.cmh_play.specs.Play.{Plays, begin, answer, IsNewState, FirstSays, IsSaidBy, Replies, Answered, IsOfRun, status_after}
 use Rattle.cmh_play.specs.Replies.{reply_text}
 use Rattle.cmh_script.specs.Script.{Says}
 use Rattle.cmh_script.specs.declared.device.WriteFault.{WriteFault}
@@ -23,32 +23,12 @@ use Rattle.cmh_script.specs.declared.lines.LineFault.{LineFault}
 use Rattle.cmh_script.specs.declared.lines.LineFault.TheVariants.{Input as NoInput, Memory as NoSpace}
 use Rattle.cmh_script.specs.declared.lines.NextLine.{NextLine}
 use Rattle.cmh_script.specs.declared.lines.NextLine.TheVariants.{Line as Read, TooLong, End}
-use Rattle.cmh_play.specs.Games.{Game, Named}
+use Rattle.cmh_play.specs.PlayStates.{PlayState, Named}
 use Rattle.cmh_play.specs.declared.reply.Reply.{Reply}
 use Rattle.cmh_script.specs.declared.script.Line.{Line}
 use Rattle.cmh_script.specs.declared.script.Line.TheVariants.{Bad}
 
 -- ---- the first line of what is left
-
-shrinks : (b : ℕ) (xs : List ℕ) → length (drop_through b xs) ≤ length xs
-shrinks b [] = omega arith
-shrinks b (x ∷ xs) = go (x == b) (shrinks b xs)
-  where
-    go : (t : Bool) → length (drop_through b xs) ≤ length xs → length (if t then xs else drop_through b xs) ≤ length (x ∷ xs)
-    go true h = omega arith
-    go false h = omega (arith, h)
-
-pub length-drop_through : (b : ℕ) (xs : List ℕ) → 0 < length xs → length (drop_through b xs) + 1 ≤ length xs
-length-drop_through b [] some = absurd (omega arith)
-length-drop_through b (x ∷ xs) some = go (x == b) (shrinks b xs)
-  where
-    go : (t : Bool) → length (drop_through b xs) ≤ length xs → length (if t then xs else drop_through b xs) + 1 ≤ length (x ∷ xs)
-    go true h = omega arith
-    go false h = omega (arith, h)
-
-pub long_some : (bytes : List ℕ) → 1024 < length (first_line bytes) → 0 < length bytes
-long_some [] long = absurd (omega (arith, long))
-long_some (b ∷ bs) long = omega arith
 
 first_says : (bytes : List ℕ) (next : NextLine) (said : Line) → IsNextLine bytes next → IsSaidBy next said → next ≢ End → (0 < length bytes) × FirstSays bytes said
 first_says bytes (Read line) said is says more =
@@ -59,16 +39,6 @@ first_says bytes TooLong said is says more =
 first_says bytes End said is says more = absurd (more refl)
 
 -- ---- what is written
-
-pub appends-none : (out : Option (List ℕ)) → Appends out out []
-appends-none None = tt
-appends-none (Some bytes) = sym (append-nil bytes)
-
-pub appends-more : (old out new : Option (List ℕ)) (text more : List ℕ) → Appends old out text → Appends out new more → Appends old new (text ++ more)
-appends-more None out new text more first next = tt
-appends-more (Some old) None new text more first next = absurd first
-appends-more (Some old) (Some out) None text more first next = absurd next
-appends-more (Some old) (Some out) (Some new) text more first next = next ∙ ap (λ bytes. bytes ++ more) first ∙ append_assoc old text more
 
 pub fault_not_0 : (fault : Fault) → status_of fault ≢ 0
 fault_not_0 TopologyFile e = absurd (omega (arith, e))
@@ -92,7 +62,7 @@ answered_none None out alloc has_failed fault = tt
 answered_none (Some bytes) out alloc has_failed fault = record {
   rest = bytes;
   text = [];
-  game = Named (record { edition = One; rows = [] });
+  state = Named (record { edition = One; rows = [] });
   plays = begin (Named (record { edition = One; rows = [] })) refl;
   wrote = inr (appends-none out);
   all = λ zero. absurd (fault_not_0 fault zero);
@@ -107,47 +77,44 @@ answered_none_err start out alloc has_failed (Err fault) err = answered_none sta
 -- ---- the lines so far
 
 -- n lines of the bytes were answered
-pub record PlayedSoFar (bytes : List ℕ) (now old out : Option (List ℕ)) (game : Game) (n : ℕ) : Type 0 where
+pub record PlayedSoFar (bytes : List ℕ) (now old out : Option (List ℕ)) (state : PlayState) (n : ℕ) : Type 0 where
   pub rest : List ℕ
   pub text : List ℕ
   pub now_is : now ≡ Some rest
-  pub plays : Plays bytes rest text game
+  pub plays : Plays bytes rest text state
   pub wrote : Appends old out text
   pub counted : n + length rest ≤ length bytes
 
 -- the same, where the reader tells its bytes
-abbrev pub HasPlayed : Option (List ℕ) → Option (List ℕ) → Option (List ℕ) → Option (List ℕ) → Game → ℕ → Type 0
-HasPlayed start now old out game n = (bytes : List ℕ) → start ≡ Some bytes → PlayedSoFar bytes now old out game n
+abbrev pub HasPlayed : Option (List ℕ) → Option (List ℕ) → Option (List ℕ) → Option (List ℕ) → PlayState → ℕ → Type 0
+HasPlayed start now old out state n = (bytes : List ℕ) → start ≡ Some bytes → PlayedSoFar bytes now old out state n
 
-pub begun : (start out : Option (List ℕ)) (game : Game) → IsNewGame game → HasPlayed start start out out game 0
-begun start out game new = λ bytes e. record {
+pub begun : (start out : Option (List ℕ)) (state : PlayState) → IsNewState state → HasPlayed start start out out state 0
+begun start out state new = λ bytes e. record {
   rest = bytes;
   text = [];
   now_is = e;
-  plays = begin game new;
+  plays = begin state new;
   wrote = appends-none out;
   counted = omega arith;
 }
 
-pub at_some : (o : Option (List ℕ)) (P : List ℕ → Type 0) (bytes : List ℕ) → o ≡ Some bytes → IfSome o P → P bytes
-at_some o P bytes e h = subst (λ (x : Option (List ℕ)). IfSome x P) e h
-
-module _ (start now old out : Option (List ℕ)) (game : Game) (n : ℕ) (so_far : HasPlayed start now old out game n) where
+module _ (start now old out : Option (List ℕ)) (state : PlayState) (n : ℕ) (so_far : HasPlayed start now old out state n) where
   -- one line more
-  pub played_more : (after wrote : Option (List ℕ)) (next : NextLine) (said : Line) (reply : Reply) (later : Game)
+  pub played_more : (after wrote : Option (List ℕ)) (next : NextLine) (said : Line) (reply : Reply) (later : PlayState)
       → IfSome now (λ bytes. IsNextLine bytes next) → IfSome now (λ bytes. after ≡ Some (drop_through 10 bytes)) → IsSaidBy next said → next ≢ End
-      → Replies game later said reply → IsOfRun game → Appends out wrote (reply_text reply) → HasPlayed start after old wrote later (n + 1)
+      → Replies state later said reply → IsOfRun state → Appends out wrote (reply_text reply) → HasPlayed start after old wrote later (n + 1)
   played_more after wrote next said reply later is left says more replies of tells = λ bytes e.
       let s = so_far bytes e in
       let first = first_says s.rest next said (at_some now (λ bytes. IsNextLine bytes next) s.rest s.now_is is) says more in
       let shorter = length-drop_through 10 s.rest first.0 in
-      let follows = replied game later said reply (said_no_got next said says) replies of in
+      let follows = replied state later said reply (said_no_got next said says) replies of in
       let counted = s.counted in
       record {
         rest = drop_through 10 s.rest;
         text = s.text ++ reply_text reply;
         now_is = at_some now (λ bytes. after ≡ Some (drop_through 10 bytes)) s.rest s.now_is left;
-        plays = answer s.rest s.text game later said reply s.plays first.0 first.1 replies follows.0 follows.1;
+        plays = answer s.rest s.text state later said reply s.plays first.0 first.1 replies follows.0 follows.1;
         wrote = appends-more old out wrote s.text (reply_text reply) s.wrote tells;
         counted = omega (arith, shorter, counted);
       }
@@ -160,7 +127,7 @@ module _ (start now old out : Option (List ℕ)) (game : Game) (n : ℕ) (so_far
       record {
         rest = s.rest;
         text = s.text;
-        game = game;
+        state = state;
         plays = s.plays;
         wrote = inr s.wrote;
         all = λ _. subst (IsNextLine s.rest) ends (at_some now (λ bytes. IsNextLine bytes next) s.rest s.now_is is);
@@ -174,7 +141,7 @@ module _ (start now old out : Option (List ℕ)) (game : Game) (n : ℕ) (so_far
       record {
         rest = s.rest;
         text = s.text;
-        game = game;
+        state = state;
         plays = s.plays;
         wrote = inr s.wrote;
         all = λ zero. absurd (fault_not_0 fault zero);
@@ -188,7 +155,7 @@ module _ (start now old out : Option (List ℕ)) (game : Game) (n : ℕ) (so_far
       record {
         rest = s.rest;
         text = s.text;
-        game = game;
+        state = state;
         plays = s.plays;
         wrote = inl failed;
         all = λ zero. absurd (fault_not_0 fault zero);
@@ -227,7 +194,7 @@ module _ (start now old out : Option (List ℕ)) (game : Game) (n : ℕ) (so_far
   endless_before : IsEndless now → IsEndless start
   endless_before endless = go start (λ bytes e. so_far bytes e)
     where
-      go : (s : Option (List ℕ)) → ((bytes : List ℕ) → s ≡ Some bytes → PlayedSoFar bytes now old out game n) → IsEndless s
+      go : (s : Option (List ℕ)) → ((bytes : List ℕ) → s ≡ Some bytes → PlayedSoFar bytes now old out state n) → IsEndless s
       go None h = tt
       go (Some bytes) h =
           let s = h bytes refl in
@@ -238,7 +205,7 @@ module _ (start now old out : Option (List ℕ)) (game : Game) (n : ℕ) (so_far
   pub endless_lines : 2 ^ 64 - 1 ≤ n → IsEndless start
   endless_lines many = go start (λ bytes e. so_far bytes e)
     where
-      go : (s : Option (List ℕ)) → ((bytes : List ℕ) → s ≡ Some bytes → PlayedSoFar bytes now old out game n) → IsEndless s
+      go : (s : Option (List ℕ)) → ((bytes : List ℕ) → s ≡ Some bytes → PlayedSoFar bytes now old out state n) → IsEndless s
       go None h = tt
       go (Some bytes) h =
           let counted = (h bytes refl).counted in
@@ -290,7 +257,7 @@ answered_flushed None old out new before after status answered kept same = tt
 answered_flushed (Some bytes) old out new before after status a kept same = record {
   rest = a.rest;
   text = a.text;
-  game = a.game;
+  state = a.state;
   plays = a.plays;
   wrote = tells_kept old out new before after a.text a.wrote kept same;
   all = a.all;
@@ -303,7 +270,7 @@ answered_unflushed None old out new before after status fault answered failed = 
 answered_unflushed (Some bytes) old out new before after status fault a failed = record {
   rest = a.rest;
   text = a.text;
-  game = a.game;
+  state = a.state;
   plays = a.plays;
   wrote = inl failed;
   all = λ zero. absurd (fault_not_0 fault zero);
@@ -314,7 +281,7 @@ restated : (bytes : List ℕ) (old out : Option (List ℕ)) (has_failed : Bool) 
 restated bytes old out has_failed status fault a = record {
   rest = a.rest;
   text = a.text;
-  game = a.game;
+  state = a.state;
   plays = a.plays;
   wrote = a.wrote;
   all = λ zero. absurd (fault_not_0 fault zero);

@@ -6,8 +6,9 @@ use Rattle.cmh_playground.specs.World.{World}
 use Rattle.cmh_script.specs.declared.lines.NextLine.{NextLine}
 use Rattle.cmh_files.specs.declared.faults.Fault.{Fault}
 use Rattle.cmh_files.specs.declared.faults.Fault.TheVariants.{OutFile, Memory}
-use Rattle.cmh_play.specs.Play.{Answered, AnswersLine, IsAnswerFault, IsPlayFault, IsWorldOf, Plays}
-use Rattle.cmh_play.specs.Games.{Game}
+use Rattle.cmh_play.specs.Play.{Answered, AnswersLine, IsWorldOf, Plays}
+use Rattle.cmh_files.specs.Faults.{IsAnswerFault, IsPlayFault}
+use Rattle.cmh_play.specs.PlayStates.{PlayState}
 use Rattle.cmh_play.specs.declared.reply.Reply.{Reply}
 use Rattle.cmh_play.specs.declared.reply.Reply.TheVariants.{Report}
 
@@ -17,34 +18,34 @@ IsUnkept OutFile = ⊤
 IsUnkept Memory = ⊤
 IsUnkept fault = ⊥
 
--- the journals of the game's world were kept; of a draft those of its sites, which are empty
-pub record KeepsWorld {K : Type 0} (Keeps : K → List Journal → K → Type 0) (game : Game) (old new : K) : Type 0 where
+-- the journals of the state's world were kept; of a draft those of its sites, which are empty
+pub record KeepsWorld {K : Type 0} (Keeps : K → List Journal → K → Type 0) (state : PlayState) (old new : K) : Type 0 where
   pub world : World
-  pub stands : IsWorldOf game world
+  pub stands : IsWorldOf state world
   pub kept : Keeps old world.journals new
 
 -- a report comes after the journals were kept; other replies leave the keeper as it was
-abbrev pub KeepsAt : {K : Type 0} → (K → List Journal → K → Type 0) → Reply → Game → K → K → Type 0
-KeepsAt Keeps (Report edition verdict) game old new = KeepsWorld Keeps game old new
-KeepsAt Keeps reply game old new = new ≡ old
+abbrev pub KeepsAt : {K : Type 0} → (K → List Journal → K → Type 0) → Reply → PlayState → K → K → Type 0
+KeepsAt Keeps (Report edition verdict) state old new = KeepsWorld Keeps state old new
+KeepsAt Keeps reply state old new = new ≡ old
 
 -- a line was answered, and journals were kept where it asked for a report
-pub record AnswersAndKeeps {K : Type 0} (Keeps : K → List Journal → K → Type 0) (old new : Game) (next : NextLine)
+pub record AnswersAndKeeps {K : Type 0} (Keeps : K → List Journal → K → Type 0) (old new : PlayState) (next : NextLine)
     (out_old out_new : Option (List ℕ)) (keeper_old keeper_new : K) : Type 0 where
   pub answers : AnswersLine old new next out_old out_new
   pub keeps : KeepsAt Keeps answers.reply new keeper_old keeper_new
 
--- all lines of the bytes were answered, and led to the game
-pub record PlayedToEnd (bytes : List ℕ) (old new : Option (List ℕ)) (game : Game) : Type 0 where
+-- all lines of the bytes were answered, and led to the state
+pub record PlayedToEnd (bytes : List ℕ) (old new : Option (List ℕ)) (state : PlayState) : Type 0 where
   pub text : List ℕ
-  pub plays : Plays bytes [] text game
+  pub plays : Plays bytes [] text state
   pub wrote : Appends old new text
 
 -- lines of a script were answered; at its end the journals of its world were kept
 pub record AnsweredAndKept {K : Type 0} (Keeps : K → List Journal → K → Type 0) (bytes : List ℕ)
     (old new : Option (List ℕ)) (has_failed : Bool) (status : ℕ) (keeper : K) : Type 0 where
   pub answered : Answered bytes old new has_failed status
-  pub kept : status ≡ 0 → (before : K) × KeepsWorld Keeps answered.game before keeper
+  pub kept : status ≡ 0 → (before : K) × KeepsWorld Keeps answered.state before keeper
 
 -- why a line was not answered: before a report, also that the journals were not kept
 abbrev pub IsUnanswered : (Fault → Type 0) → Option (List ℕ) → Option (List ℕ) → Bool → Fault → Type 0

@@ -1,4 +1,4 @@
-pub mod Games
+pub mod PlayStates
 pub mod Keeping
 pub mod Play
 pub mod Replies

@@ -1,5 +1,5 @@
--- A script that is played: what each line does to the game, and what is written for it.
-use Rattle.std.specs.Prelude.{◌≡◌, ℕ, ◌<◌, Bool, true, ◌==◌, nat_lt, ◌⊎◌, List, [], ◌∷◌, ◌++◌, length, Option, None, Some, Result, Ok as Ok_result, Err, MatchBool, ⊤}
+-- A script that is played: what each line does to the state, and what is written for it.
+use Rattle.std.specs.Prelude.{◌≡◌, ℕ, ◌<◌, Bool, ◌==◌, nat_lt, ◌⊎◌, List, [], ◌∷◌, ◌++◌, length, Option, None, Some, Result, Ok as Ok_result, Err, MatchBool, ⊤}
 use Rattle.std.specs.Io.BufRead.{first_line, drop_through}
 use Rattle.std.specs.Io.KnownBytes.{Appends}
 use Rattle.cmh_frames.specs.declared.edition.Edition.{Edition}
@@ -11,17 +11,15 @@ use Rattle.cmh_play.specs.Replies.{reply_text}
 use Rattle.cmh_audit.specs.Verdicts.{IsAccepted, IsVerdictOn}
 use Rattle.cmh_script.specs.Device.{Tells}
 use Rattle.cmh_playground.specs.Draft.{Draft}
-use Rattle.cmh_script.specs.Lines.{IsEndless}
 use Rattle.cmh_playground.specs.World.{World, entries_at, link_at, IsStepOf, IsDelivery, IsSeverance}
 use Rattle.cmh_playground.specs.Runs.{IsPlayed, IsWantOfRoom}
 use Rattle.cmh_playground.specs.declared.playground.Delivery.TheVariants.{Refused as DeliveryRefused}
 use Rattle.cmh_script.specs.Script.{Says}
 use Rattle.cmh_files.specs.Faults.{status_of}
 use Rattle.cmh_files.specs.declared.faults.Fault.{Fault}
-use Rattle.cmh_files.specs.declared.faults.Fault.TheVariants.{Input, Output, Memory}
 use Rattle.cmh_script.specs.declared.lines.NextLine.{NextLine}
 use Rattle.cmh_script.specs.declared.lines.NextLine.TheVariants.{Line as Read, TooLong, End}
-use Rattle.cmh_play.specs.Games.{Game, Named, Played}
+use Rattle.cmh_play.specs.PlayStates.{PlayState, Named, Played}
 use Rattle.cmh_play.specs.declared.reply.Reply.{Reply}
 use Rattle.cmh_play.specs.declared.reply.Reply.TheVariants.{Silent as NoReply, Ok, BadLine, Late, Topology, Step as StepReply, Delivery as DeliveryReply, Severance as SeveranceReply, Report as ReportReply}
 use Rattle.cmh_script.specs.declared.script.Command.{Command}
@@ -37,8 +35,8 @@ pub record IsNewWorld (draft : Draft) (world : World) : Type 0 where
   pub journals : (s : ℕ) → entries_at world s ≡ []
   pub links : (a b : ℕ) → link_at world a b ≡ Some []
 
--- the world of a game is this one; that of a draft is new
-abbrev pub IsWorldOf : Game → World → Type 0
+-- the world of a state is this one; that of a draft is new
+abbrev pub IsWorldOf : PlayState → World → Type 0
 IsWorldOf (Named draft) world = IsNewWorld draft world
 IsWorldOf (Played played) world = played ≡ world
 
@@ -52,7 +50,7 @@ CarriesOut old new Report (ReportReply edition verdict) =
 CarriesOut old new command reply = ⊥
 
 -- the first command makes the world of the draft
-pub record Commands (old new : Game) (command : Command) (reply : Reply) : Type 0 where
+pub record Commands (old new : PlayState) (command : Command) (reply : Reply) : Type 0 where
   pub before : World
   pub after : World
   pub stands : IsWorldOf old before
@@ -60,29 +58,29 @@ pub record Commands (old new : Game) (command : Command) (reply : Reply) : Type 
   pub kept : new ≡ Played after
 
 -- nothing has changed, and this is answered
-abbrev pub OnlyAnswers : Game → Game → Reply → Reply → Type 0
+abbrev pub OnlyAnswers : PlayState → PlayState → Reply → Reply → Type 0
 OnlyAnswers old new reply answer = (new ≡ old) × (reply ≡ answer)
 
 -- the edition is set while no site is named
-abbrev pub SetsEdition : Game → Game → Edition → Reply → Type 0
+abbrev pub SetsEdition : PlayState → PlayState → Edition → Reply → Type 0
 SetsEdition (Played world) new edition reply = OnlyAnswers (Played world) new reply Late
 SetsEdition (Named draft) new edition reply = MatchBool (length draft.rows == 0)
     ((reply ≡ Ok) × (new ≡ Named (record { edition = edition; rows = [] })))
     (OnlyAnswers (Named draft) new reply Late)
 
 -- a row with which the rows are no topology is left out
-abbrev pub AddsRow : Draft → Game → Row → Reply → Type 0
+abbrev pub AddsRow : Draft → PlayState → Row → Reply → Type 0
 AddsRow draft new row reply = let rows = draft.rows ++ row ∷ [] in
     ((fault_of draft.edition rows ≡ None) × (reply ≡ Ok)
     × (new ≡ Named (record { edition = draft.edition; rows = rows })))
     ⊎ ((fault : TopologyFault) × IsFaultOf draft.edition rows fault
     × OnlyAnswers (Named draft) new reply (Topology fault))
 
-abbrev pub AddsSite : Game → Game → Row → Reply → Type 0
+abbrev pub AddsSite : PlayState → PlayState → Row → Reply → Type 0
 AddsSite (Played world) new row reply = OnlyAnswers (Played world) new reply Late
 AddsSite (Named draft) new row reply = AddsRow draft new row reply
 
-abbrev pub Replies : Game → Game → Line → Reply → Type 0
+abbrev pub Replies : PlayState → PlayState → Line → Reply → Type 0
 Replies old new Silent reply = OnlyAnswers old new reply NoReply
 Replies old new Bad reply = OnlyAnswers old new reply BadLine
 Replies old new (Edition_line edition) reply = SetsEdition old new edition reply
@@ -92,8 +90,8 @@ Replies old new (Command_line command) reply = Commands old new command reply
 -- ---- a whole script
 
 -- neither sites nor commands
-abbrev pub IsNewGame : Game → Type 0
-IsNewGame game = game ≡ Named (record { edition = One; rows = [] })
+abbrev pub IsNewState : PlayState → Type 0
+IsNewState state = state ≡ Named (record { edition = One; rows = [] })
 
 -- what was read of a script says this; a line that is too long is a bad one
 abbrev pub IsSaidBy : NextLine → Line → Type 0
@@ -101,8 +99,8 @@ IsSaidBy (Read line) said = Says line.now said
 IsSaidBy TooLong said = said ≡ Bad
 IsSaidBy End said = said ≡ Bad
 
--- what was read of a script did this to the game, and its reply was written
-pub record AnswersLine (old new : Game) (next : NextLine)
+-- what was read of a script did this to the state, and its reply was written
+pub record AnswersLine (old new : PlayState) (next : NextLine)
     (out_old out_new : Option (List ℕ)) : Type 0 where
   pub said : Line
   pub reply : Reply
@@ -110,18 +108,12 @@ pub record AnswersLine (old new : Game) (next : NextLine)
   pub replies : Replies old new said reply
   pub wrote : Appends out_old out_new (reply_text reply)
 
--- why it was not answered
-abbrev pub IsAnswerFault : Option (List ℕ) → Option (List ℕ) → Bool → Fault → Type 0
-IsAnswerFault old new has_failed Output = has_failed ≡ true
-IsAnswerFault old new has_failed Memory = new ≡ old
-IsAnswerFault old new has_failed fault = ⊥
-
 -- what the first line of the bytes says; one of more than 1,024 bytes is a bad line
 abbrev pub FirstSays : List ℕ → Line → Type 0
 FirstSays bytes line = MatchBool (nat_lt 1024 (length (first_line bytes))) (line ≡ Bad) (Says (first_line bytes) line)
 
--- a game whose world, if it has one, is at the end of a run
-abbrev pub IsOfRun : Game → Type 0
+-- a state whose world, if it has one, is at the end of a run
+abbrev pub IsOfRun : PlayState → Type 0
 IsOfRun (Named draft) = ⊤
 IsOfRun (Played world) = IsPlayed world
 
@@ -131,12 +123,12 @@ IsOfHonestSites (DeliveryReply (DeliveryRefused refused)) = IsWantOfRoom refused
 IsOfHonestSites (ReportReply edition verdict) = IsAccepted verdict.value
 IsOfHonestSites reply = ⊤
 
--- Of the bytes of a script the lines before the rest were answered by the text, and led to the game. The world of each
--- game is at the end of a run, so a frame is refused only where a journal has no room, and each report is
+-- Of the bytes of a script the lines before the rest were answered by the text, and led to the state. The world of each
+-- state is at the end of a run, so a frame is refused only where a journal has no room, and each report is
 -- accepted.
-pub data Plays (bytes : List ℕ) : List ℕ → List ℕ → Game → Type 0 where
-  begin : (game : Game) → IsNewGame game → Plays bytes bytes [] game
-  answer : (rest text : List ℕ) (old new : Game) (line : Line) (reply : Reply) → Plays bytes rest text old
+pub data Plays (bytes : List ℕ) : List ℕ → List ℕ → PlayState → Type 0 where
+  begin : (state : PlayState) → IsNewState state → Plays bytes bytes [] state
+  answer : (rest text : List ℕ) (old new : PlayState) (line : Line) (reply : Reply) → Plays bytes rest text old
       → 0 < length rest → FirstSays rest line → Replies old new line reply
       → IsOfHonestSites reply → IsOfRun new → Plays bytes (drop_through 10 rest) (text ++ reply_text reply) new
 
@@ -144,8 +136,8 @@ pub data Plays (bytes : List ℕ) : List ℕ → List ℕ → Game → Type 0 wh
 pub record Answered (bytes : List ℕ) (old new : Option (List ℕ)) (has_failed : Bool) (status : ℕ) : Type 0 where
   pub rest : List ℕ
   pub text : List ℕ
-  pub game : Game
-  pub plays : Plays bytes rest text game
+  pub state : PlayState
+  pub plays : Plays bytes rest text state
   pub wrote : Tells old new has_failed text
   pub all : status ≡ 0 → rest ≡ []
   pub all_written : status ≡ 0 → Appends old new text
@@ -154,10 +146,3 @@ pub record Answered (bytes : List ℕ) (old new : Option (List ℕ)) (has_failed
 abbrev pub status_after : Result (Unit {0}) Fault → ℕ
 status_after (Ok_result played) = 0
 status_after (Err fault) = status_of fault
-
--- why a script is not played to its end; nothing is said of running out of memory
-abbrev pub IsPlayFault : Option (List ℕ) → Bool → Bool → Fault → Type 0
-IsPlayFault bytes read_failed write_failed Input = (read_failed ≡ true) ⊎ IsEndless bytes
-IsPlayFault bytes read_failed write_failed Output = write_failed ≡ true
-IsPlayFault bytes read_failed write_failed Memory = ⊤
-IsPlayFault bytes read_failed write_failed fault = ⊥

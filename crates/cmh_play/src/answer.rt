@@ -18,7 +18,7 @@ use std::io::Write;
 /// Writes a reply. One that is frequent is put together from its end, which takes less time than to format it.
 #[inline(always)]
 pub fn write_reply<W: Write>(out: &mut Output<W>, reply: &Reply) -> Result<(), WriteFault>
-    ensures bytes { OnOk result (Appends (W.contents out.old.inner) (W.contents out.new.inner) (reply_text reply.now)) }
+    ensures bytes { OnOk result (Appends out.old.written out.new.written (reply_text reply.now)) }
     ensures ok { OnOk result (out.new.has_failed ≡ out.old.has_failed) }
     ensures err { OnErr result (out.new.has_failed ≡ true) }
 {

@@ -7,5 +7,5 @@ mod play;
 mod reply;
 mod tail;
 
-pub use crate::keeper::{Folder, Keeper, NoKeeper, path_in};
+pub use crate::keeper::{Folder, Keeper, NoKeeper};
 pub use crate::play::{run_play, run_play_keeping};

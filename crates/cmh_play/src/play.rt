@@ -2,10 +2,10 @@
 
 ghost use Rattle.std.specs.Prelude.{◌≡◌, ◌≢◌, ◌⊎◌, Bool, true, false, IfOk, IfErr, IfSome, OnOk, OnErr, Some};
 ghost use Rattle.std.specs.Io.KnownBytes.{Keeps};
-ghost use Rattle.cmh_files.specs.Faults.{NamesFault};
-ghost use Rattle.cmh_play.specs.Games as games;
+ghost use Rattle.cmh_files.specs.Faults.{IsPlayFault, NamesFault};
+ghost use Rattle.cmh_play.specs.PlayStates as states;
 ghost use Rattle.cmh_play.specs.Keeping.{AnsweredAndKept, AnswersAndKeeps, IsKeptPlayFault, IsUnanswered, KeepsAt, KeepsWorld, PlayedToEnd};
-ghost use Rattle.cmh_play.specs.Play.{AddsSite, Answered, CarriesOut, Commands, IsPlayFault, IsSaidBy, Replies, SetsEdition, status_after};
+ghost use Rattle.cmh_play.specs.Play.{AddsSite, Answered, CarriesOut, Commands, IsSaidBy, Replies, SetsEdition, status_after};
 ghost use Rattle.cmh_play.specs.Showing.{HasWorld, IsNewHeld, IsShown, LeadsOn, LeadsPlayed, ShowsSome};
 ghost use Rattle.cmh_files.specs.Status.{IsStatus};
 
@@ -35,16 +35,16 @@ pub fn run_play<R: BufRead + Ahead, W: Write, E: Write>(
     ensures status { IsStatus result }
 
     // What is written answers the script line by line. Where the status is 0, all answers were written, and no write failed.
-    ensures answers { IfSome (R.remaining input.old.inner) (λ bytes. Answered bytes (W.contents out.old.inner)
-        (W.contents out.new.inner) out.new.has_failed result) }
+    ensures answers { IfSome input.old.left (λ bytes. Answered bytes out.old.written
+        out.new.written out.new.has_failed result) }
     ensures silent { result ≡ 0 → err.new ≡ err.old }
 
     // What was written is flushed, also before a fault.
     ensures flushed { result ≡ 0 → out.new.is_flushed ≡ true }
     ensures unfailed { result ≡ 0 → out.new.has_failed ≡ out.old.has_failed }
     ensures left { out.new.has_failed ≡ false → (out.new.is_flushed ≡ true) ⊎ (out.new ≡ out.old) }
-    ensures fault { result ≢ 0 → NamesFault (IsPlayFault (R.remaining input.old.inner) input.new.has_failed
-        out.new.has_failed) result (E.contents err.old.inner) (E.contents err.new.inner) err.new.has_failed }
+    ensures fault { result ≢ 0 → NamesFault (IsPlayFault input.old.left input.new.has_failed
+        out.new.has_failed) result err.old err.new }
 {
     run_play_keeping(alloc, input, out, err, &mut NoKeeper)
 }
@@ -61,17 +61,16 @@ pub fn run_play_keeping<R: BufRead + Ahead, W: Write, E: Write, K: Keeper>(
     ensures status { IsStatus result }
 
     // What is written answers the script line by line, and the journals of the world that it leads to are kept.
-    ensures answers { IfSome (R.remaining input.old.inner) (λ bytes. AnsweredAndKept K.keeps bytes
-        (W.contents out.old.inner) (W.contents out.new.inner) out.new.has_failed result keeper.new) }
+    ensures answers { IfSome input.old.left (λ bytes. AnsweredAndKept K.keeps bytes
+        out.old.written out.new.written out.new.has_failed result keeper.new) }
     ensures silent { result ≡ 0 → err.new ≡ err.old }
 
     // What was written is flushed, also before a fault.
     ensures flushed { result ≡ 0 → out.new.is_flushed ≡ true }
     ensures unfailed { result ≡ 0 → out.new.has_failed ≡ out.old.has_failed }
     ensures left { out.new.has_failed ≡ false → (out.new.is_flushed ≡ true) ⊎ (out.new ≡ out.old) }
-    ensures fault { result ≢ 0 → NamesFault (IsKeptPlayFault K.fails (R.remaining input.old.inner)
-        input.new.has_failed out.new.has_failed) result (E.contents err.old.inner) (E.contents err.new.inner)
-        err.new.has_failed }
+    ensures fault { result ≢ 0 → NamesFault (IsKeptPlayFault K.fails input.old.left
+        input.new.has_failed out.new.has_failed) result err.old err.new }
 {
     match play(alloc, input, out, keeper) {
         Ok(()) => 0,
@@ -85,38 +84,36 @@ fn play<R: BufRead + Ahead, W: Write, K: Keeper>(
     out: &mut Output<W>,
     keeper: &mut K,
 ) -> Result<(), Fault>
-    ensures answers { IfSome (R.remaining input.old.inner) (λ bytes. AnsweredAndKept K.keeps bytes
-        (W.contents out.old.inner) (W.contents out.new.inner) out.new.has_failed (status_after result) keeper.new) }
-    ensures fault { IfErr result (IsKeptPlayFault K.fails (R.remaining input.old.inner) input.new.has_failed
-        out.new.has_failed) }
+    ensures answers { IfSome input.old.left (λ bytes. AnsweredAndKept K.keeps bytes
+        out.old.written out.new.written out.new.has_failed (status_after result) keeper.new) }
+    ensures fault { IfErr result (IsKeptPlayFault K.fails input.old.left input.new.has_failed out.new.has_failed) }
     ensures flushed { OnOk result (out.new.is_flushed ≡ true) }
     ensures unfailed { OnOk result (out.new.has_failed ≡ out.old.has_failed) }
     ensures left { out.new.has_failed ≡ false → (out.new.is_flushed ≡ true) ⊎ (out.new ≡ out.old) }
 {
-    let mut game = Game::new(alloc)?;
-    let played = answer_all(alloc, &mut game, input, out, keeper);
+    let mut state = PlayState::new(alloc)?;
+    let played = answer_all(alloc, &mut state, input, out, keeper);
     let flushed = out.flush();
     played?;
     flushed?;
-    game.keep_wanted(alloc, keeper)
+    state.keep_wanted(alloc, keeper)
 }
 
 /// Reads and answers line after line.
 fn answer_all<R: BufRead + Ahead, W: Write, K: Keeper>(
     alloc: Global,
-    game: &mut Game,
+    state: &mut PlayState,
     input: &mut Input<R>,
     out: &mut Output<W>,
     keeper: &mut K,
 ) -> Result<(), Fault>
-    requires { IsNewHeld game.old }
-    ensures answers { IfSome (R.remaining input.old.inner) (λ bytes. Answered bytes (W.contents out.old.inner)
-        (W.contents out.new.inner) out.new.has_failed (status_after result)) }
-    ensures all { OnOk result (ShowsSome K.wants game.new (λ shown. IfSome (R.remaining input.old.inner)
-        (λ bytes. PlayedToEnd bytes (W.contents out.old.inner) (W.contents out.new.inner) shown))) }
+    requires { IsNewHeld state.old }
+    ensures answers { IfSome input.old.left (λ bytes. Answered bytes out.old.written
+        out.new.written out.new.has_failed (status_after result)) }
+    ensures all { OnOk result (ShowsSome K.wants state.new (λ shown. IfSome input.old.left
+        (λ bytes. PlayedToEnd bytes out.old.written out.new.written shown))) }
     ensures unfailed { OnOk result (out.new.has_failed ≡ out.old.has_failed) }
-    ensures fault { IfErr result (IsKeptPlayFault K.fails (R.remaining input.old.inner) input.new.has_failed
-        out.new.has_failed) }
+    ensures fault { IfErr result (IsKeptPlayFault K.fails input.old.left input.new.has_failed out.new.has_failed) }
 {
     let mut buffer = Vec::new(alloc);
     let mut room = Vec::new(alloc);
@@ -125,14 +122,14 @@ fn answer_all<R: BufRead + Ahead, W: Write, K: Keeper>(
         if next.is_end() {
             return Ok(());
         }
-        game.answer_line(alloc, next, &mut room, input.has_line(), out, keeper)?;
+        state.answer_line(alloc, next, &mut room, input.has_line(), out, keeper)?;
     }
     Err(Fault::Input)
 }
 
 /// Flushes the answers so far, but where a whole line is at hand: its answer is flushed with them.
 fn flush_awaited<W: Write>(out: &mut Output<W>, has_line: bool) -> Result<(), WriteFault>
-    ensures bytes { Keeps (W.contents out.old.inner) (W.contents out.new.inner) }
+    ensures bytes { Keeps out.old.written out.new.written }
     ensures ok { OnOk result (out.new.has_failed ≡ out.old.has_failed) }
     ensures flushed { has_line ≡ false → OnOk result (out.new.is_flushed ≡ true) }
     ensures err { OnErr result (out.new.has_failed ≡ true) }
@@ -153,22 +150,22 @@ fn said_by(alloc: Global, next: NextLine<'_>, room: &mut Vec<ProcId>) -> Result<
 
 /// A world that a script names and then plays: the first command closes the draft.
 #[derive(Drop)]
-enum Game {
+enum PlayState {
     Named(Draft),
     Played(Playground),
 }
 
-impl Game {
-    fn new(alloc: Global) -> Result<Game, AllocError>
+impl PlayState {
+    fn new(alloc: Global) -> Result<PlayState, AllocError>
         ensures { IfOk result IsNewHeld }
     {
-        Ok(Game::Named(Draft::new(alloc)?))
+        Ok(PlayState::Named(Draft::new(alloc)?))
     }
 
     /// Keeps the journals of the world, where they are wanted.
     fn keep_wanted<K: Keeper>(&self, alloc: Global, keeper: &mut K) -> Result<(), Fault>
-        ensures kept { OnOk result ((game : games.Game) → IsShown K.wants game self.now
-            → KeepsWorld K.keeps game keeper.old keeper.new) }
+        ensures kept { OnOk result ((state : states.PlayState) → IsShown K.wants state self.now
+            → KeepsWorld K.keeps state keeper.old keeper.new) }
         ensures fault { IfErr result (λ fault. (fault ≡ Fault.Memory) ⊎ K.fails fault) }
     {
         if !keeper.wants_journals() {
@@ -178,11 +175,11 @@ impl Game {
         self.keep(alloc, keeper)
     }
 
-    /// Each game has a world, which is new while it is named.
+    /// Each state has a world, which is new while it is named.
     fn world_law(&self)
-        ensures { (keeps : Bool) (game : games.Game) → IsShown keeps game self.now → HasWorld game }
+        ensures { (keeps : Bool) (state : states.PlayState) → IsShown keeps state self.now → HasWorld state }
     {
-        if let Game::Named(draft) = self {
+        if let PlayState::Named(draft) = self {
             let _ = draft.topology();
         }
     }
@@ -191,13 +188,13 @@ impl Game {
     #[cold]
     #[inline(never)]
     fn keep<K: Keeper>(&self, alloc: Global, keeper: &mut K) -> Result<(), Fault>
-        ensures kept { OnOk result ((game : games.Game) → IsShown true game self.now
-            → KeepsWorld K.keeps game keeper.old keeper.new) }
+        ensures kept { OnOk result ((state : states.PlayState) → IsShown true state self.now
+            → KeepsWorld K.keeps state keeper.old keeper.new) }
         ensures fault { IfErr result (λ fault. (fault ≡ Fault.Memory) ⊎ K.fails fault) }
     {
         match self {
-            Game::Played(world) => keeper.keep(alloc, world.journals()),
-            Game::Named(draft) => {
+            PlayState::Played(world) => keeper.keep(alloc, world.journals()),
+            PlayState::Named(draft) => {
                 let world = Playground::new(alloc, draft.topology(), true)?;
                 keeper.keep(alloc, world.journals())
             }
@@ -206,8 +203,8 @@ impl Game {
 
     /// Keeps the journals where the reply is a report.
     fn keep_for<K: Keeper>(&self, alloc: Global, reply: &Reply, keeper: &mut K) -> Result<(), Fault>
-        ensures kept { OnOk result ((game : games.Game) → IsShown K.wants game self.now
-            → KeepsAt K.keeps reply.now game keeper.old keeper.new) }
+        ensures kept { OnOk result ((state : states.PlayState) → IsShown K.wants state self.now
+            → KeepsAt K.keeps reply.now state keeper.old keeper.new) }
         ensures fault { IfErr result (λ fault. (fault ≡ Fault.Memory) ⊎ K.fails fault) }
     {
         match reply {
@@ -228,10 +225,9 @@ impl Game {
         keeper: &mut K,
     ) -> Result<(), Fault>
         ensures answers { OnOk result (LeadsOn K.wants (λ old new. AnswersAndKeeps K.keeps old new next.entry
-            (W.contents out.old.inner) (W.contents out.new.inner) keeper.old keeper.new) self.old self.new) }
+            out.old.written out.new.written keeper.old keeper.new) self.old self.new) }
         ensures unfailed { OnOk result (out.new.has_failed ≡ out.old.has_failed) }
-        ensures fault { IfErr result (IsUnanswered K.fails (W.contents out.old.inner)
-            (W.contents out.new.inner) out.new.has_failed) }
+        ensures fault { IfErr result (IsUnanswered K.fails out.old.written out.new.written out.new.has_failed) }
     {
         let said = said_by(alloc, next, room)?;
         let reply = self.answer(alloc, said, room, keeper.wants_journals())?;
@@ -268,7 +264,7 @@ impl Game {
             → LeadsOn keeps (λ old new. SetsEdition old new edition reply) self.old self.new) }
     {
         match self {
-            Game::Named(draft) if draft.is_empty() => {
+            PlayState::Named(draft) if draft.is_empty() => {
                 draft.set_edition(edition)?;
                 Ok(Reply::Ok)
             }
@@ -283,11 +279,11 @@ impl Game {
             → LeadsOn keeps (λ old new. AddsSite old new row reply) self.old self.new) }
     {
         match self {
-            Game::Named(draft) => match draft.add(row)? {
+            PlayState::Named(draft) => match draft.add(row)? {
                 None => Ok(Reply::Ok),
                 Some(fault) => Ok(Reply::Topology(fault)),
             },
-            Game::Played(_) => Ok(Reply::Late),
+            PlayState::Played(_) => Ok(Reply::Late),
         }
     }
 
@@ -302,8 +298,8 @@ impl Game {
         ensures { IfOk result (λ reply. LeadsOn keeps (λ old new. Commands old new command reply) self.old self.new) }
     {
         match self {
-            Game::Played(world) => carry_out(alloc, world, command, room),
-            Game::Named(_) => self.first_command(alloc, command, room, keeps),
+            PlayState::Played(world) => carry_out(alloc, world, command, room),
+            PlayState::Named(_) => self.first_command(alloc, command, room, keeps),
         }
     }
 
@@ -320,11 +316,11 @@ impl Game {
         ensures { IfOk result (λ reply. LeadsOn keeps (λ old new. Commands old new command reply) self.old self.new) }
     {
         match self {
-            Game::Played(world) => carry_out(alloc, world, command, room),
-            Game::Named(draft) => {
+            PlayState::Played(world) => carry_out(alloc, world, command, room),
+            PlayState::Named(draft) => {
                 let mut world = Playground::new(alloc, draft.topology(), keeps)?;
                 let reply = carry_out(alloc, &mut world, command, room)?;
-                *self = Game::Played(world);
+                *self = PlayState::Played(world);
                 Ok(reply)
             }
         }

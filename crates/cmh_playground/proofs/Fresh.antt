@@ -13,7 +13,7 @@ use Rattle.cmh_journal.specs.Journal.{Journal, entry_limit}
 use Rattle.cmh_audit.specs.Journals.{journal_of}
 use Rattle.cmh_audit.specs.Sums.{in_journals}
 use Rattle.cmh_audit.proofs.TotalLemmas.{totals_same}
-use Rattle.cmh_playground.specs.Books.{AreBlank, blank_journal}
+use Rattle.cmh_playground.specs.History.{AreBlank, blank_journal}
 use Rattle.cmh_playground.specs.Held.{Held, ShowsNew, step_counts}
 use Rattle.cmh_playground.specs.Links.{link_of}
 use Rattle.cmh_playground.specs.Sites.{controller_of}
@@ -61,7 +61,7 @@ mapped_all f made sites all k end same so_far = so_far ∙ ap (map f) (take_all 
 -- ---- the world
 
 pub shows_new : (t : Topology) (keeps : Bool) (held : Held) → held.topology ≡ t → held.controllers ≡ map (new_controller t) (sites_of t) → IsStrictlyIncreasing (sites_of t)
-    → AreBlank t keeps held.books → ((a b : ℕ) → link_of held.links a b ≡ Some []) → ShowsNew t keeps held
+    → AreBlank t keeps held.history → ((a b : ℕ) → link_of held.links a b ≡ Some []) → ShowsNew t keeps held
 shows_new t keeps held same controllers ascending blank links =
     let journals : List Journal = map (blank_journal t.edition) (sites_of t) in
     record {
@@ -78,7 +78,7 @@ shows_new t keeps held same controllers ascending blank links =
         };
         limit = All-map (λ (j : Journal). length j.entries ≤ entry_limit) (blank_journal t.edition) (sites_of t) (λ k d l. omega arith);
         steps = blank.no_steps ∙ sym (blank_steps t.edition (sites_of t));
-        totals = totals_same (λ f. in_journals f []) (λ f. in_journals f journals) held.books.totals (λ f. blank_sum t.edition f (sites_of t)) blank.no_totals;
+        totals = totals_same (λ f. in_journals f []) (λ f. in_journals f journals) held.history.totals (λ f. blank_sum t.edition f (sites_of t)) blank.no_totals;
         journals = blank.no_entries;
       };
       topology = refl;

@@ -14,7 +14,7 @@ use Rattle.cmh_playground.specs.World.{World, is_link, joins, link_at, IsDeliver
 use Rattle.cmh_playground.proofs.Deliveries.{delivered, ends_differ}
 
 abbrev with_links : Held → Links → Held
-with_links held links = record { topology = held.topology; controllers = held.controllers; books = held.books; links = links }
+with_links held links = record { topology = held.topology; controllers = held.controllers; history = held.history; links = links }
 
 abbrev relinked : World → Links → World
 relinked world links = record { topology = world.topology; journals = world.journals; links = links }

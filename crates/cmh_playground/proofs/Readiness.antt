@@ -14,7 +14,7 @@ use Rattle.cmh_controller.specs.Controller.{Controller, new_controller}
 use Rattle.cmh_journal.specs.Entries.{IsWhole}
 use Rattle.cmh_journal.specs.Journal.{Journal}
 use Rattle.cmh_journal.specs.WholeEntries.{IsStep, EachStepWhole, WaitsStayFew, HasFewWaits}
-use Rattle.cmh_playground.specs.Books.{Books, Adds, AreBlank, Grows, blank_journal, kept_of}
+use Rattle.cmh_playground.specs.History.{History, Adds, AreBlank, Grows, blank_journal, kept_of}
 use Rattle.cmh_playground.specs.Held.{AreKept, AreReady, IsReady}
 use Rattle.cmh_playground.specs.Sites.{AreOfEdition}
 
@@ -45,9 +45,9 @@ module _ (t : Topology) (c : Controller) (ready : IsReady t c) (entry : Entry) (
     few = subst (λ (x : Topology). HasFewWaits t (after x c.site c.state entry.event entry.declared)) (sym ready.topology) (stay c.site c.state entry ready.few step_is);
   })
 
--- ---- the books
+-- ---- the history
 
-pub kept_after : (t : Topology) (old new : Books) (place : ℕ) (entry : Entry) → AreOfEdition t old.journals → Adds old new place entry → AreKept t old new
+pub kept_after : (t : Topology) (old new : History) (place : ℕ) (entry : Entry) → AreOfEdition t old.journals → Adds old new place entry → AreKept t old new
 kept_after t old new place entry edition adds = record {
   counted = ap length adds.counted ∙ length-set old.steps place (get_or old.steps place 0 + 1);
   edition = go (slice_get old.journals place) (λ j. λ at. at) adds.written;
@@ -62,7 +62,7 @@ kept_after t old new place entry edition adds = record {
         (All-set (λ (x : Journal). x.edition ≡ t.edition) old.journals place grows.grown
         (grows.holds.edition ∙ sym (ap (λ (x : Journal). x.edition) (get_or_from_slice_get old.journals place j j at)) ∙ edition place j (slice_get_within old.journals place j at)) edition)
 
-pub ready_set : (t : Topology) (cs : List Controller) (old new : Books) (place : ℕ) (d : Controller) → AreReady t cs old → IsReady t d → AreKept t old new → AreReady t (set cs place d) new
+pub ready_set : (t : Topology) (cs : List Controller) (old new : History) (place : ℕ) (d : Controller) → AreReady t cs old → IsReady t d → AreKept t old new → AreReady t (set cs place d) new
 ready_set t cs old new place d all ready kept = record {
   each = length-set cs place d ∙ all.each;
   ready = All-set (IsReady t) cs place d ready all.ready;
@@ -72,8 +72,8 @@ ready_set t cs old new place d all ready kept = record {
 
 -- ---- at the beginning
 
-pub ready_new : (t : Topology) (keeps : Bool) (cs : List Controller) (books : Books) → cs ≡ map (new_controller t) (sites_of t) → AreBlank t keeps books → AreReady t cs books
-ready_new t keeps cs books are blank = record {
+pub ready_new : (t : Topology) (keeps : Bool) (cs : List Controller) (history : History) → cs ≡ map (new_controller t) (sites_of t) → AreBlank t keeps history → AreReady t cs history
+ready_new t keeps cs history are blank = record {
   each = ap length are ∙ length-map (sites_of t) (new_controller t);
   ready = subst (All (IsReady t)) (sym are) (all_new t (sites_of t));
   counted = ap length blank.no_steps ∙ length-replicate (length (sites_of t)) 0;

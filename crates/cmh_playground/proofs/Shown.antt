@@ -6,7 +6,7 @@ use Rattle.cmh_playground.specs.Runs.{IsPlayed}
 use Rattle.cmh_playground.specs.World.{World}
 use Rattle.cmh_playground.proofs.Seats.{is_set}
 
-pub totals_of_run : (keeps : Bool) (world : World) (held : Held) → Shows keeps world held → IsPlayed world → AreTotalsOfRun world.topology world.journals held.books.totals
+pub totals_of_run : (keeps : Bool) (world : World) (held : Held) → Shows keeps world held → IsPlayed world → AreTotalsOfRun world.topology world.journals held.history.totals
 totals_of_run keeps world held shows (events, of) = record {
   set = is_set world.topology world.journals shows.standing.ascending shows.standing.placed shows.standing.edition;
   limit = shows.limit;

@@ -1,4 +1,4 @@
--- A step of one site, as the books and its controller have it, is a step of each world that is shown.
+-- A step of one site, as the history and its controller have it, is a step of each world that is shown.
 use Rattle.std.proofs.Common.{◌≡◌, ℕ, zero, suc, ◌+◌, ◌<◌, ◌≤◌, Bool, true, false, List, [], ◌∷◌, ◌++◌, length, set, get_or, Option, Some, refl, sym, ap, subst, ◌∙◌, arith, length-append}
 use Rattle.std.specs.Prelude.{MatchOption, slice_get}
 use Rattle.std.proofs.lemmas.List.{map-set, set-get_or, length-map, get_or-map, get_or_default}
@@ -16,7 +16,7 @@ use Rattle.cmh_journal.specs.WholeEntries.{EachStepGrows}
 use Rattle.cmh_audit.specs.Journals.{journal_of}
 use Rattle.cmh_audit.specs.Sums.{in_entries, in_journals}
 use Rattle.cmh_audit.proofs.TotalLemmas.{totals_more}
-use Rattle.cmh_playground.specs.Books.{Books, Grows, blank_journal, kept_of}
+use Rattle.cmh_playground.specs.History.{History, Grows, blank_journal, kept_of}
 use Rattle.cmh_playground.specs.Held.{Held, Shows, ShowsLater, Takes, IsReasonAt, IsTaken, step_counts}
 use Rattle.cmh_playground.specs.Links.{Links, link_after}
 use Rattle.cmh_playground.specs.Sites.{IsStanding, IsReasonOf}
@@ -68,7 +68,7 @@ written false js kept_old kept_new place j entry l here kept grows =
 -- ---- the step
 
 module _ (keeps : Bool) (world : World) (held : Held) (shows : Shows keeps world held) (s place : ℕ) (inside : place < length (sites_of held.topology)) (known : get_or (sites_of held.topology) place 0 ≡ s)
-    (grows : EachStepGrows held.topology) (c d : Controller) (c_here : c ≡ get_or held.controllers place c) (books : Books) (links : Links) (event : Event) where
+    (grows : EachStepGrows held.topology) (c d : Controller) (c_here : c ≡ get_or held.controllers place c) (history : History) (links : Links) (event : Event) where
   abbrev t : Topology
   t = world.topology
 
@@ -106,7 +106,7 @@ module _ (keeps : Bool) (world : World) (held : Held) (shows : Shows keeps world
   wrote : c ≡ record { topology = t; site = s; state = value t s (journal_of js s) }
   wrote = stands.wrote ∙ (λ i. record { topology = t; site = j_site i; state = value t (j_site i) (sym entries_are i) })
 
-  steps_are : get_or held.books.steps place 0 ≡ length j.entries
+  steps_are : get_or held.history.steps place 0 ≡ length j.entries
   unfolding j
   steps_are =
       ap (λ (ns : List ℕ). get_or ns place 0) shows.steps
@@ -116,10 +116,10 @@ module _ (keeps : Bool) (world : World) (held : Held) (shows : Shows keeps world
   unfolding j
   few = shows.limit place (blank_journal t.edition s) l
 
-  taken : (done : Done) → Takes s c d place held.books books held.links links event done → ShowsLater (λ old new. IsWorldStep old new s event (Taken done)) keeps world (record { topology = held.topology; controllers = set held.controllers place d; books = books; links = links })
+  taken : (done : Done) → Takes s c d place held.history history held.links links event done → ShowsLater (λ old new. IsWorldStep old new s event (Taken done)) keeps world (record { topology = held.topology; controllers = set held.controllers place d; history = history; links = links })
   taken done takes =
       let entry : Entry = record { event = event; sent = takes.sent; declared = done.declared } in
-      let w = written keeps js held.books.journals books.journals place j entry l j_here shows.journals takes.adds.written in
+      let w = written keeps js held.history.journals history.journals place j entry l j_here shows.journals takes.adds.written in
       let grown : Journal = w.grown in
       let site : grown.site ≡ s = w.holds.site ∙ j_site in
       let same : grown.site ≡ (get_or js place grown).site = w.holds.site ∙ ap (λ (x : Journal). x.site) (j_here ∙ get_or_default js place j grown l) in
@@ -135,10 +135,10 @@ module _ (keeps : Bool) (world : World) (held : Held) (shows : Shows keeps world
           standing = standing_after t held.controllers js shows.standing place l d grown same stands_now;
           limit = All-set (λ (x : Journal). length x.entries ≤ entry_limit) js place grown (omega (arith, long, room, counted)) shows.limit;
           steps = takes.adds.counted
-              ∙ ap (λ (ns : List ℕ). set ns place (get_or held.books.steps place 0 + 1)) shows.steps
+              ∙ ap (λ (ns : List ℕ). set ns place (get_or held.history.steps place 0 + 1)) shows.steps
               ∙ ap (λ (n : ℕ). set (step_counts js) place n) (ap (λ n. n + 1) counted ∙ sym long)
               ∙ sym (map-set (λ (x : Journal). length x.entries) js place grown);
-          totals = totals_more (λ f. in_journals f js) (λ f. in_journals f (set js place grown)) held.books.totals books.totals entry shows.totals takes.adds.summed
+          totals = totals_more (λ f. in_journals f js) (λ f. in_journals f (set js place grown)) held.history.totals history.totals entry shows.totals takes.adds.summed
               (λ f. sum_grown f js place j grown entry l j_here w.holds.entries_are);
           journals = w.kept;
         };
@@ -157,21 +157,21 @@ module _ (keeps : Bool) (world : World) (held : Held) (shows : Shows keeps world
         };
       }
 
-  reason : (refused : Refused) → IsReasonAt c (get_or held.books.steps place 0) event refused → IsReasonOf t s (journal_of js s) event refused
+  reason : (refused : Refused) → IsReasonAt c (get_or held.history.steps place 0) event refused → IsReasonOf t s (journal_of js s) event refused
   reason Full full = ap length entries_are ∙ (let is = steps_are in let most = few in omega (arith, full, is, most))
   reason (Rule refusal) because = (
     let same = ap length entries_are in let is = steps_are in let room = because.0 in omega (arith, same, is, room),
     subst (λ (k : Controller). Refuses k.topology k.site k.state event refusal) wrote because.1,
   )
 
-  pub step_shown : (step : Step) → IsTaken s c d place held.books books held.links links event step
-      → ShowsLater (λ old new. IsWorldStep old new s event step) keeps world (record { topology = held.topology; controllers = set held.controllers place d; books = books; links = links })
+  pub step_shown : (step : Step) → IsTaken s c d place held.history history held.links links event step
+      → ShowsLater (λ old new. IsWorldStep old new s event step) keeps world (record { topology = held.topology; controllers = set held.controllers place d; history = history; links = links })
   step_shown (Taken done) takes = taken done takes
   step_shown (StepRefused refused) stays =
       let controllers : set held.controllers place d ≡ held.controllers =
       ap (set held.controllers place) (stays.0 ∙ c_here) ∙ set-get_or held.controllers place c in
       record {
         later = world;
-        shows = subst (λ (h : Held). Shows keeps world h) (λ i. record { topology = held.topology; controllers = sym controllers i; books = sym stays.1 i; links = sym stays.2 i }) shows;
+        shows = subst (λ (h : Held). Shows keeps world h) (λ i. record { topology = held.topology; controllers = sym controllers i; history = sym stays.1 i; links = sym stays.2 i }) shows;
         related = (record { journals = λ q. refl; links = λ a b. refl; topology = refl }, reason refused stays.3);
       }

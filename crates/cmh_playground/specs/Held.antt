@@ -10,7 +10,7 @@ use Rattle.cmh_controller.specs.Refusals.{Refuses}
 use Rattle.cmh_journal.specs.Journal.{Journal, entry_limit}
 use Rattle.cmh_journal.specs.WholeEntries.{HasFewWaits}
 use Rattle.cmh_audit.specs.Totals.{AreTotalsOf, AreWithinLimit}
-use Rattle.cmh_playground.specs.Books.{Books, Adds, kept_of}
+use Rattle.cmh_playground.specs.History.{History, Adds, kept_of}
 use Rattle.cmh_playground.specs.Links.{Links, link_of, link_after}
 use Rattle.cmh_playground.specs.Sites.{AreOfEdition, AreStanding}
 use Rattle.cmh_playground.specs.World.{World, entries_at, link_at}
@@ -23,7 +23,7 @@ use Rattle.cmh_playground.specs.declared.site.Step.TheVariants.{Taken, Refused a
 pub record Held : Type 0 where
   pub topology : Topology
   pub controllers : List Controller  -- of each site, in the order of the topology
-  pub books : Books
+  pub history : History
   pub links : Links
 
 -- ---- the worlds that it shows
@@ -32,16 +32,16 @@ pub record Held : Type 0 where
 abbrev pub step_counts : List Journal → List ℕ
 step_counts journals = map (λ (j : Journal). length j.entries) journals
 
--- What is held is of this world: the controllers wrote its journals, and the books tell what these come to, and have
+-- What is held is of this world: the controllers wrote its journals, and the history tell what these come to, and have
 -- them where journals are kept.
 pub record Shows (keeps : Bool) (world : World) (held : Held) : Type 0 where
   pub topology : held.topology ≡ world.topology
   pub links : held.links ≡ world.links
   pub standing : AreStanding world.topology held.controllers world.journals
   pub limit : AreWithinLimit world.journals
-  pub steps : held.books.steps ≡ step_counts world.journals
-  pub totals : AreTotalsOf world.journals held.books.totals
-  pub journals : held.books.journals ≡ kept_of keeps world.journals
+  pub steps : held.history.steps ≡ step_counts world.journals
+  pub totals : AreTotalsOf world.journals held.history.totals
+  pub journals : held.history.journals ≡ kept_of keeps world.journals
 
 -- it shows a world in which nothing has happened yet
 pub record ShowsNew (t : Topology) (keeps : Bool) (held : Held) : Type 0 where
@@ -69,19 +69,19 @@ pub record IsReady (t : Topology) (c : Controller) : Type 0 where
   pub few : HasFewWaits t c.state
 
 -- what holds of all that is held, also after an error
-pub record AreReady (t : Topology) (cs : List Controller) (books : Books) : Type 0 where
+pub record AreReady (t : Topology) (cs : List Controller) (history : History) : Type 0 where
   pub each : length cs ≡ length (sites_of t)
   pub ready : All (IsReady t) cs
-  pub counted : length books.steps ≡ length (sites_of t)
-  pub edition : AreOfEdition t books.journals
+  pub counted : length history.steps ≡ length (sites_of t)
+  pub edition : AreOfEdition t history.journals
 
--- what of the books stays as it was, also after an error
-pub record AreKept (t : Topology) (old new : Books) : Type 0 where
+-- what of the history stays as it was, also after an error
+pub record AreKept (t : Topology) (old new : History) : Type 0 where
   pub counted : length new.steps ≡ length old.steps
   pub edition : AreOfEdition t new.journals
 
--- the controller took the event by the rules, the books have the entry, its frames are on the links of the site s
-pub record Takes (s : ℕ) (c d : Controller) (place : ℕ) (old new : Books) (before after_links : Links) (event : Event)
+-- the controller took the event by the rules, the history have the entry, its frames are on the links of the site s
+pub record Takes (s : ℕ) (c d : Controller) (place : ℕ) (old new : History) (before after_links : Links) (event : Event)
     (done : Done) : Type 0 where
   pub sent : List (ℕ × Frame)
   pub accepted : Accepts c.topology c.site c.state event
@@ -99,7 +99,7 @@ IsReasonAt c steps event (Rule refusal) =
     (steps < entry_limit) × Refuses c.topology c.site c.state event refusal
 
 -- what came of an event
-abbrev pub IsTaken : ℕ → Controller → Controller → ℕ → Books → Books → Links → Links → Event → Step → Type 0
+abbrev pub IsTaken : ℕ → Controller → Controller → ℕ → History → History → Links → Links → Event → Step → Type 0
 IsTaken s c d place old new before after_links event (Taken done) =
     Takes s c d place old new before after_links event done
 IsTaken s c d place old new before after_links event (StepRefused refused) =

@@ -1,8 +1,8 @@
 //! A world in memory: the controllers of all its sites, what their steps come to, and the links between them.
 #![tactic(auto)]
 
-mod books;
 mod draft;
+mod history;
 mod links;
 mod playground;
 mod site;

@@ -6,7 +6,7 @@ ghost use Rattle.cmh_frames.specs.Topology.{is_site, sites_of};
 ghost use Rattle.cmh_controller.specs.Controller.{new_controller};
 ghost use Rattle.cmh_playground.specs.Texts as texts;
 
-use crate::books::Books;
+use crate::history::History;
 use crate::links::Links;
 use crate::site::{Done, Refused, Step, take};
 use cmh_audit::{AuditMemory, Verdict};
@@ -24,7 +24,7 @@ use std::marker::Model;
 pub struct Playground {
     topology: Topology,
     controllers: Vec<Controller>,
-    books: Books,
+    history: History,
     links: Links,
 }
 
@@ -42,11 +42,11 @@ impl Model for Playground {
     ghost view = { λ w. record {
       topology = w.topology;
       controllers = w.controllers.items;
-      books = w.books;
+      history = w.history;
       links = w.links;
     } };
 
-    ghost invariant = { λ w. spec.AreReady w.topology w.controllers.items w.books };
+    ghost invariant = { λ w. spec.AreReady w.topology w.controllers.items w.history };
 }
 
 /// What came of handing over the next frame of a link.
@@ -117,7 +117,7 @@ impl Playground {
         Ok(Playground {
             topology: topology.copy(alloc)?,
             controllers: new_controllers(alloc, topology)?,
-            books: Books::new(alloc, topology, keeps_journals)?,
+            history: History::new(alloc, topology, keeps_journals)?,
             links: Links::new(alloc),
         })
     }
@@ -130,9 +130,9 @@ impl Playground {
 
     /// The journals of all sites, in the order of the topology, where they are kept.
     pub fn journals(&self) -> &[Journal]
-        ensures { result.now ≡ self.now.books.journals }
+        ensures { result.now ≡ self.now.history.journals }
     {
-        self.books.journals()
+        self.history.journals()
     }
 
     /// Gives an event to the controller of its process's home. Where memory runs out after the step, an error is
@@ -152,7 +152,7 @@ impl Playground {
     pub fn give_room(&mut self, room: &mut Vec<ProcId>)
         ensures { self.new ≡ self.old }
     {
-        self.books.give_room(room);
+        self.history.give_room(room);
     }
 
     /// Hands over the oldest frame of a link. Where the receiver refuses it, it stays there. An error is as in `act`.
@@ -214,7 +214,7 @@ impl Playground {
             site,
             place,
             &mut self.controllers[place],
-            &mut self.books,
+            &mut self.history,
             &mut self.links,
             event,
         )
@@ -226,7 +226,7 @@ impl Playground {
         ensures { IfOk result (λ verdict. (keeps : Bool) (world : World) → Shows keeps world self.now → IsPlayed world
             → IsVerdictOn world.topology world.journals verdict) }
     {
-        self.books.verdict(alloc, &self.topology)
+        self.history.verdict(alloc, &self.topology)
     }
 }
 

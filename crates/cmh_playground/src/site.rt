@@ -1,4 +1,4 @@
-//! A step of one site: its controller takes an event, its frames go on the links, and the books have the entry.
+//! A step of one site: its controller takes an event, its frames go on the links, and the history has the entry.
 
 ghost use Rattle.std.specs.Prelude.{◌≡◌, ◌<◌, ℕ, IfOk, OnOk, Some, length};
 ghost use Rattle.cmh_playground.specs.Held.{AreKept, IsReady, IsTaken};
@@ -6,7 +6,7 @@ ghost use Rattle.cmh_playground.specs.Links.{link_of, link_after};
 ghost use Rattle.cmh_playground.specs.Sites.{AreOfEdition};
 ghost use Rattle.cmh_playground.specs.Texts as texts;
 
-use crate::books::Books;
+use crate::history::History;
 use crate::links::Links;
 use cmh_controller::{Controller, Refusal};
 use cmh_frames::{Frame, ProcId, SiteId, Topology};
@@ -86,27 +86,27 @@ impl fmt::Display for Step {
 }
 
 /// Gives an event to the controller of the site at this place, puts what it sends on the site's links, and the entry
-/// into the books. A full journal comes before the controller's reasons to refuse. An error is out of memory, after
-/// which the books and the links may lack what the controller did.
+/// into the history. A full journal comes before the controller's reasons to refuse. An error is out of memory, after
+/// which the history and the links may lack what the controller did.
 #[inline(always)]
 pub(crate) fn take(
     topology: &Topology,
     site: SiteId,
     place: usize,
     controller: &mut Controller,
-    books: &mut Books,
+    history: &mut History,
     links: &mut Links,
     event: Event,
 ) -> Result<Step, AllocError>
-    requires place { place < length books.old.steps }
+    requires place { place < length history.old.steps }
     requires ready { IsReady topology.now controller.old }
-    requires edition { AreOfEdition topology.now books.old.journals }
+    requires edition { AreOfEdition topology.now history.old.journals }
     ensures ready { IsReady topology.now controller.new }
-    ensures kept { AreKept topology.now books.old books.new }
-    ensures step { IfOk result (IsTaken site controller.old controller.new place books.old books.new links.old
+    ensures kept { AreKept topology.now history.old history.new }
+    ensures step { IfOk result (IsTaken site controller.old controller.new place history.old history.new links.old
         links.new event) }
 {
-    if books.is_full(place) {
+    if history.is_full(place) {
         return Ok(Step::Refused(Refused::Full));
     }
     whole_law(topology);
@@ -117,7 +117,7 @@ pub(crate) fn take(
                 declared: outcome.declared,
             };
             send_all(links, site, outcome.sent.as_slice())?;
-            books.add(place, event, outcome)?;
+            history.add(place, event, outcome)?;
             Ok(Step::Taken(done))
         }
         Err(refusal) => Ok(Step::Refused(Refused::Rule(refusal))),

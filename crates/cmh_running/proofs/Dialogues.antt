@@ -10,12 +10,12 @@ use Rattle.cmh_script.specs.declared.lines.LineFault.{LineFault}
 use Rattle.cmh_script.specs.declared.lines.LineFault.TheVariants.{Input as NoInput, Memory as NoSpace}
 use Rattle.cmh_script.specs.declared.lines.NextLine.{NextLine}
 use Rattle.cmh_script.specs.declared.lines.NextLine.TheVariants.{Line as Read, TooLong, End}
-use Rattle.cmh_files.specs.Faults.{of_line}
+use Rattle.cmh_files.specs.Faults.{IsAnswerFault, IsPlayFault, of_line}
 use Rattle.cmh_files.specs.declared.faults.Fault.{Fault}
 use Rattle.cmh_files.specs.declared.faults.Fault.TheVariants.{TopologyFile, ScriptFile, OutFile, JournalFile, Json, Topology, Journal, Set, Site, JournalDisk, Listen, Input, Output, Memory}
-use Rattle.cmh_play.proofs.Plays.{appends-more, appends-none, at_some, length-drop_through, long_some}
+use Rattle.cmh_files.proofs.LineLemmas.{at_some, length-drop_through, long_some}
+use Rattle.cmh_files.proofs.TextLemmas.{appends-more, appends-none}
 use Rattle.cmh_running.specs.Dialogue.{line_of, line_in, HasAnswered, Dialogue, begin, turn, Conversed}
-use Rattle.cmh_play.specs.Play.{IsAnswerFault, IsPlayFault}
 use Rattle.cmh_running.specs.declared.dialogue.Flow.{Flow}
 use Rattle.cmh_running.specs.declared.dialogue.Flow.TheVariants.{Awaits, Ends}
 

@@ -10,6 +10,7 @@ use arrayvec::ArrayString;
 use memchr::{memchr, memrchr};
 use std::fmt::Write as _;
 use std::io::{BufRead, BufReader, ErrorKind, Read, Write};
+use std::marker::Model;
 use std::{fmt, io};
 
 /// The writer failed.
@@ -57,16 +58,30 @@ enum PieceFault {
 
 /// A reader of a script, and whether a call of it has failed. Only a call that failed sets that.
 #[derive(Debug, Drop)]
-pub struct Input<R> {
+pub struct Input<R: BufRead> {
     inner: R,
     has_failed: bool,
     /// How many of the bytes that were read ahead are known to end with a line feed.
     fed: usize,
 }
 
-impl<R> Input<R> {
+impl<R: BufRead> Model for Input<R> {
+    ghost use Rattle.cmh_script.specs.Device.{Reading};
+
+    ghost Value = { Reading R };
+
+    ghost view = { λ i. record {
+      inner = i.inner;
+      left = R.remaining i.inner;
+      has_failed = i.has_failed;
+      fed = i.fed;
+    } };
+}
+
+impl<R: BufRead> Input<R> {
     pub fn new(inner: R) -> Self
         ensures inner { result.inner ≡ inner }
+        ensures left { result.left ≡ R.remaining inner }
         ensures fresh { result.has_failed ≡ false }
     {
         Input {
@@ -81,9 +96,7 @@ impl<R> Input<R> {
     {
         self.has_failed
     }
-}
 
-impl<R: BufRead> Input<R> {
     /// Reads on, at most to a line feed, and puts after the line what stands before it.
     ///
     /// The line grows to at most `most` bytes; what is over is read and left out. A read that a signal interrupted is
@@ -95,9 +108,9 @@ impl<R: BufRead> Input<R> {
     /// - [`LineFault::Memory`]: memory for the line was refused.
     #[inline(always)]
     pub fn next_piece(&mut self, line: &mut Vec<u8>, most: usize) -> Result<Piece, LineFault>
-        ensures piece { IfOk result (λ piece. IfSome (R.remaining self.old.inner)
-            (λ bytes. IsPiece most bytes line.old.items line.new.items piece (R.remaining self.new.inner))) }
-        ensures fed { OnOk result (IsTakenOff (R.remaining self.old.inner) (R.remaining self.new.inner)
+        ensures piece { IfOk result (λ piece. IfSome self.old.left
+            (λ bytes. IsPiece most bytes line.old.items line.new.items piece self.new.left)) }
+        ensures fed { OnOk result (IsTakenOff self.old.left self.new.left
             self.old.fed self.new.fed) }
         ensures ok { OnOk result (self.new.has_failed ≡ self.old.has_failed) }
         ensures err { IfErr result (λ fault. fault ≡ LineFault.Input → self.new.has_failed ≡ true) }
@@ -118,11 +131,12 @@ impl<R: BufRead> Input<R> {
     }
 }
 
-impl<R: Ahead> Input<R> {
+impl<R: BufRead + Ahead> Input<R> {
     /// Whether a whole line can be read without waiting. It looks for the last line feed that was read ahead, so that it
     /// need not look again before each of the lines up to there.
     pub fn has_line(&mut self) -> bool
         ensures inner { self.new.inner ≡ self.old.inner }
+        ensures left { self.new.left ≡ self.old.left }
         ensures has_failed { self.new.has_failed ≡ self.old.has_failed }
     {
         if self.fed == 0 {
@@ -206,15 +220,29 @@ fn feed_at(bytes: &[u8]) -> usize
 
 /// A writer, whether a call of it has failed, and whether nothing was written since it was flushed.
 #[derive(Debug, Drop)]
-pub struct Output<W> {
+pub struct Output<W: Write> {
     inner: W,
     has_failed: bool,
     is_flushed: bool,
 }
 
-impl<W> Output<W> {
+impl<W: Write> Model for Output<W> {
+    ghost use Rattle.cmh_script.specs.Device.{Writing};
+
+    ghost Value = { Writing W };
+
+    ghost view = { λ o. record {
+      inner = o.inner;
+      written = W.contents o.inner;
+      has_failed = o.has_failed;
+      is_flushed = o.is_flushed;
+    } };
+}
+
+impl<W: Write> Output<W> {
     pub fn new(inner: W) -> Self
         ensures inner { result.inner ≡ inner }
+        ensures written { result.written ≡ W.contents inner }
         ensures fresh { result.has_failed ≡ false }
     {
         Output {
@@ -229,12 +257,10 @@ impl<W> Output<W> {
     {
         self.has_failed
     }
-}
 
-impl<W: Write> Output<W> {
     /// Writes all of the bytes.
     pub fn write_bytes(&mut self, bytes: &[u8]) -> Result<(), WriteFault>
-        ensures bytes { OnOk result (Appends (W.contents self.old.inner) (W.contents self.new.inner) bytes.now) }
+        ensures bytes { OnOk result (Appends self.old.written self.new.written bytes.now) }
         ensures ok { OnOk result (self.new.has_failed ≡ self.old.has_failed) }
         ensures err { OnErr result (self.new.has_failed ≡ true) }
         ensures unflushed { self.new.is_flushed ≡ false }
@@ -251,8 +277,8 @@ impl<W: Write> Output<W> {
 
     /// Writes all of the text.
     pub fn write_text<T: fmt::Display + Drop>(&mut self, text: T) -> Result<(), WriteFault>
-        ensures bytes { OnOk result (IfSome (T.output text) (Appends (W.contents self.old.inner)
-            (W.contents self.new.inner))) }
+        ensures bytes { OnOk result (IfSome (T.output text) (Appends self.old.written
+            self.new.written)) }
         ensures ok { OnOk result (self.new.has_failed ≡ self.old.has_failed) }
         ensures err { OnErr result (self.new.has_failed ≡ true) }
         ensures unflushed { self.new.is_flushed ≡ false }
@@ -270,7 +296,7 @@ impl<W: Write> Output<W> {
     /// Writes all of the text and a line feed.
     pub fn write_line<T: fmt::Display + Drop>(&mut self, text: T) -> Result<(), WriteFault>
         ensures bytes { OnOk result (IfSome (with_newline (T.output text))
-            (Appends (W.contents self.old.inner) (W.contents self.new.inner))) }
+            (Appends self.old.written self.new.written)) }
         ensures ok { OnOk result (self.new.has_failed ≡ self.old.has_failed) }
         ensures err { OnErr result (self.new.has_failed ≡ true) }
         ensures unflushed { self.new.is_flushed ≡ false }
@@ -286,7 +312,7 @@ impl<W: Write> Output<W> {
     }
 
     pub fn flush(&mut self) -> Result<(), WriteFault>
-        ensures bytes { Keeps (W.contents self.old.inner) (W.contents self.new.inner) }
+        ensures bytes { Keeps self.old.written self.new.written }
         ensures ok { OnOk result (self.new.has_failed ≡ self.old.has_failed) }
         ensures flushed { OnOk result (self.new.is_flushed ≡ true) }
         ensures err { OnErr result (self.new.has_failed ≡ true) }

@@ -94,11 +94,11 @@ pub fn read_line<'a, R: BufRead>(
     buffer: &'a mut Vec<u8>,
 ) -> Result<NextLine<'a>, LineFault>
     // Where the reader tells its bytes, the line is the first of them.
-    ensures line { IfOk result (λ next. IfSome (R.remaining input.old.inner) (λ bytes. IsNextLine bytes next)) }
-    ensures rest { IfOk result (λ next. IfSome (R.remaining input.old.inner)
-        (λ bytes. R.remaining input.new.inner ≡ Some (drop_through 10 bytes))) }
+    ensures line { IfOk result (λ next. IfSome input.old.left (λ bytes. IsNextLine bytes next)) }
+    ensures rest { IfOk result (λ next. IfSome input.old.left
+        (λ bytes. input.new.left ≡ Some (drop_through 10 bytes))) }
     ensures ok { OnOk result (input.new.has_failed ≡ input.old.has_failed) }
-    ensures fault { IfErr result (IsLineFault (R.remaining input.old.inner) input.new.has_failed) }
+    ensures fault { IfErr result (IsLineFault input.old.left input.new.has_failed) }
 {
     buffer.clear();
     for turn in 0..u64::MAX {

@@ -1,5 +1,5 @@
 -- The next line of a client.
-use Rattle.std.proofs.Common.{◌≡◌, ◌≢◌, ℕ, zero, suc, ◌+◌, ◌<◌, ◌≤◌, ◌==◌, Bool, true, false, List, [], ◌∷◌, Some, length, slice_index, drop, arith, sym, ap, subst, ◌∙◌, refl}
+use Rattle.std.proofs.Common.{◌≡◌, ◌≢◌, ℕ, zero, suc, ◌+◌, ◌<◌, ◌==◌, Bool, true, List, [], ◌∷◌, Some, length, slice_index, drop, arith, sym, ap, subst, ◌∙◌}
 use native.Mathlib.Numerals.{unary_clauses}
 use Rattle.std.proofs.lemmas.Bool.{ne_eqb, eq-eqb}
 use Rattle.std.specs.Prelude.{if◌then◌else◌}
@@ -8,7 +8,7 @@ use Rattle.memchr.specs.Find.{IsFirstByte, Nowhere, Passes, is_byte}
 use Rattle.cmh_script.specs.Lines.{IsNextLine}
 use Rattle.cmh_script.specs.declared.lines.NextLine.{NextLine}
 use Rattle.cmh_script.specs.declared.lines.NextLine.TheVariants.{End}
-use Rattle.cmh_running.specs.Dialogue.{line_of, line_in}
+use Rattle.cmh_running.specs.Dialogue.{line_of}
 use Rattle.cmh_running.proofs.Dialogues.{first_is}
 use Rattle.cmh_service.specs.Clients.{IsNext}
 use Rattle.cmh_service.specs.Said.{WasSaid}

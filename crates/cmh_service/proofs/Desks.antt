@@ -1,5 +1,5 @@
 -- Answers that were handed back so far.
-use Rattle.std.proofs.Common.{◌≡◌, ℕ, ◌+◌, ◌<◌, List, [], ◌∷◌, ◌++◌, length, take, slice_index_or, zero, suc, rules, arith, ap, refl}
+use Rattle.std.proofs.Common.{◌≡◌, ℕ, ◌+◌, ◌<◌, List, [], ◌∷◌, ◌++◌, length, take, slice_index_or, zero, suc, arith, ap}
 use native.Mathlib.Numerals.{unary_clauses}
 use Rattle.cmh_service.specs.Desks.{addressed}
 

@@ -2,8 +2,7 @@
 use Rattle.std.proofs.Common.{◌≡◌, ◌≢◌, ℕ, List, [], ◌∷◌, sym, ap, subst, ◌∙◌}
 use Rattle.std.specs.Prelude.{codes}
 use Rattle.cmh_script.specs.Front.{Begins, BeginsNone}
-use Rattle.cmh_service.specs.Said.{AsksNoService, AsksService, NamesProcess}
-use Rattle.cmh_service.specs.declared.said.Said.{Said}
+use Rattle.cmh_service.specs.Said.{AsksNoService, NamesProcess}
 use Rattle.cmh_service.specs.declared.said.Said.TheVariants.{Event, Declared, Links, Waits, Owed, Watch, Status, Quit}
 
 abbrev rest : List (List ℕ) → List (List ℕ)

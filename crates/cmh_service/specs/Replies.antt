@@ -3,10 +3,10 @@ use Rattle.std.specs.Prelude.{◌≡◌, List, [], ◌∷◌, ◌⊎◌, ⊤}
 use Rattle.cmh_model.specs.declared.event.Event.{Event}
 use Rattle.cmh_service.specs.declared.host.Together.{Together}
 use Rattle.cmh_service.specs.declared.host.Together.TheVariants.{Each, Disk as DiskFailed, Alone}
-use Rattle.cmh_site.specs.SiteTalk.{WasStepped}
-use Rattle.cmh_site.specs.Together.{AreTaken}
-use Rattle.cmh_site.specs.declared.site_reply.SiteReply.{SiteReply}
-use Rattle.cmh_site.specs.declared.site_reply.SiteReply.TheVariants.{Refused}
+use Rattle.cmh_host.specs.Steps.{WasStepped}
+use Rattle.cmh_host.specs.Together.{AreTaken}
+use Rattle.cmh_host.specs.declared.site_reply.SiteReply.{SiteReply}
+use Rattle.cmh_host.specs.declared.site_reply.SiteReply.TheVariants.{Refused}
 use Rattle.cmh_station.specs.declared.refusal.StationRefusal.TheVariants.{Disk}
 
 -- a station stepped the event or refused it; or the disk failed under a sync that it was to share

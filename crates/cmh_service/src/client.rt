@@ -1,6 +1,6 @@
 //! What a service knows of a client, whatever carries its bytes.
 
-ghost use Rattle.std.specs.Prelude.{◌≡◌, ◌≤◌, ◌++◌, drop, length, min, vec_len, IfOk, IfSome, OnOk};
+ghost use Rattle.std.specs.Prelude.{◌≡◌, ◌≤◌, ◌++◌, drop, min, vec_len, IfOk, IfSome, OnOk};
 
 use crate::said::{Said, said_by};
 use cmh_frames::ProcId;

@@ -39,11 +39,6 @@ impl Desk {
         })
     }
 
-    /// How many more may wait.
-    pub fn room(&self) -> usize {
-        BATCH_LIMIT.saturating_sub(self.events.len())
-    }
-
     pub fn events(&self) -> &[Event]
         ensures events { result.now ≡ self.now.events.items }
         ensures few { length result.now ≤ batch_limit }

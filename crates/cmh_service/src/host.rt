@@ -3,18 +3,18 @@
 ghost use Rattle.std.specs.Prelude.{◌≡◌, ◌≤◌, [], length, map, vec_capacity, IfOk};
 ghost use Rattle.cmh_station.specs.Journaled.{batch_limit};
 ghost use Rattle.cmh_service.specs.Replies.{AreReplies, WereTaken};
-ghost use Rattle.cmh_site.specs.Together.{reply_of};
+ghost use Rattle.cmh_host.specs.Together.{reply_of};
 
 use crate::reply::{Reply, Status};
 use crate::said::Said;
 use cmh_controller::Refusal;
 use cmh_frames::{ProcId, SiteId, Topology};
+use cmh_host::{Answer, FileStation, SiteReply, declared, link_ends, note_seal, reply_to, step};
 use cmh_journal::ENTRY_LIMIT;
 use cmh_links::{LinkState, LinkView};
 use cmh_model::Event;
 use cmh_notes::Speaker;
 use cmh_running::JournalSink;
-use cmh_site::{Answer, FileStation, SiteReply, declared, link_ends, note_seal, reply_to, step};
 use cmh_station::{BoardReader, Declared, KeptBoard, StationRefusal};
 use std::alloc::{AllocError, Global};
 use std::sync::{Arc, Wait};
@@ -75,7 +75,7 @@ impl<R: Wait + Drop> Host<R> {
 
     /// Gives events to the station with one sync, and wakes the threads that write what they sent once the lock is given
     /// back.
-    #[tactic(auto, using(cmh_site::proofs::Taking::taken_all))]
+    #[tactic(auto, using(cmh_host::proofs::Taking::taken_all))]
     fn take_together(&self, events: &[Event]) -> Together
         requires few { length events.now ≤ batch_limit }
         ensures { WereTaken events.now result }

@@ -4,7 +4,7 @@ ghost use Rattle.std.specs.Prelude.{None};
 
 use crate::desk::Waiting;
 use crate::guests::MOST_CLIENTS;
-use cmh_site::SiteReply;
+use cmh_host::SiteReply;
 use cmh_station::BATCH_LIMIT;
 use mio::Waker;
 use mio::net::TcpStream;

@@ -1,7 +1,7 @@
 //! What a service answers, as it is sent.
 
 use cmh_frames::ProcId;
-use cmh_site::SiteReply;
+use cmh_host::SiteReply;
 use std::fmt;
 
 /// What is sent for a line of a client.

@@ -6,9 +6,10 @@ use crate::mailbox::{Mailbox, Post};
 use crate::reply::Reply;
 use crate::said::Said;
 use cmh_controller::Refusal;
+use cmh_host::SiteReply;
 use cmh_model::Event;
-use cmh_site::SiteReply;
 use cmh_station::{BATCH_LIMIT, Declared, StationRefusal};
+use mio::Waker;
 use std::alloc::AllocError;
 use std::mem::swap;
 use std::sync::atomic::{AtomicBool, Ordering};
@@ -23,16 +24,32 @@ pub(crate) struct Rounds<R: Wait + Drop> {
     /// Whether a round is under way.
     is_stepping: AtomicBool,
     pub mailboxes: Arc<Vec<Mailbox>>,
+    /// Whether a thread can't serve its clients any more.
+    has_ended: AtomicBool,
+    /// Wakes the thread that lets clients in.
+    doors: Waker,
 }
 
 impl<R: Wait + Drop> Rounds<R> {
-    pub fn new(host: Host<R>, desk: Desk, mailboxes: Arc<Vec<Mailbox>>) -> Rounds<R> {
+    pub fn new(host: Host<R>, desk: Desk, mailboxes: Arc<Vec<Mailbox>>, doors: Waker) -> Rounds<R> {
         Rounds {
             host: Mutex::new(host),
             desk: Mutex::new(desk),
             is_stepping: AtomicBool::new(false),
             mailboxes,
+            has_ended: AtomicBool::new(false),
+            doors,
         }
+    }
+
+    /// A thread can't serve its clients any more: the service ends.
+    pub fn end(&self) {
+        self.has_ended.store(true, Ordering::SeqCst);
+        let _ = self.doors.wake();
+    }
+
+    pub fn has_ended(&self) -> bool {
+        self.has_ended.load(Ordering::SeqCst)
     }
 
     /// Has an event of the client at a place wait for the next round. An error where as many wait as a round takes.

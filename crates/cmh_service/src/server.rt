@@ -61,11 +61,12 @@ impl<R: Wait + Copy + Drop> Server<R> {
         })
     }
 
-    /// Serves clients until it can't go on.
+    /// Serves clients until it can't go on, which ends the service.
     pub fn serve_all(&mut self) {
         let rt = self.rt;
         for _ in rt.forever() {
             if !self.hear() {
+                self.rounds.end();
                 return;
             }
             self.serve();

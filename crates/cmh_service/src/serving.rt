@@ -9,11 +9,11 @@ use crate::mailbox::Mailbox;
 use crate::rounds::Rounds;
 use crate::server::{MAIL, PAUSE_MILLISECONDS, Server};
 use cmh_files::{Fault, read_topology_file_with_ports};
-use cmh_frames::{SiteId, Topology};
+use cmh_frames::Topology;
+use cmh_host::{Place, Running, SiteStart, System, start_site};
 use cmh_notes::{Noting, Voice};
 use cmh_running::Ports;
 use cmh_script::Output;
-use cmh_site::{Running, SiteHost, SiteStart};
 use cmh_station::BATCH_LIMIT;
 use crossbeam_utils::sync::Parker;
 use mio::net::TcpListener as Listener;
@@ -37,6 +37,9 @@ const FEW_CLIENTS: usize = BATCH_LIMIT;
 /// The port on which clients connect.
 const LISTENER: Token = Token(0);
 
+/// A thread can't serve its clients any more.
+const ENDED: Token = Token(1);
+
 /// Runs one site of a topology for clients that connect, until the program is ended, and answers the status of the program
 /// where it can't go on: 1 where memory ran out, 3 at another fault, which is named on `err`.
 ///
@@ -52,15 +55,7 @@ pub fn run_service<R, W: Write, E: Write, V>(
     voice: Option<V>,
 ) -> u8
 where
-    R: Wait
-        + Threads
-        + Clock
-        + Net<Listener = TcpListener, Stream = TcpStream>
-        + Files<File = File>
-        + Copy
-        + Send
-        + Drop
-        + 'static,
+    R: System + Files<File = File> + Send + 'static,
     V: Voice + Send + Drop + 'static,
     ensures status { IsStatus result }
 {
@@ -74,9 +69,14 @@ where
         journal,
         patience,
     } = start;
-    let served = serve_into(
-        rt, alloc, topology, site, journal, patience, port, out, &noting,
-    );
+    // The borrow checker does not cover a record of references that is passed on as it came.
+    let start = SiteStart {
+        topology,
+        site,
+        journal,
+        patience,
+    };
+    let served = serve_into(rt, alloc, start, port, out, &noting);
     noting.end(&rt);
     match served {
         Ok(()) => 0,
@@ -87,25 +87,20 @@ where
 fn serve_into<R, W: Write>(
     rt: R,
     alloc: Global,
-    topology: &[u8],
-    site: SiteId,
-    journal: &str,
-    patience: Duration,
+    start: SiteStart<'_>,
     port: u16,
     out: &mut Output<W>,
     noting: &Noting,
 ) -> Result<(), Fault>
 where
-    R: Wait
-        + Threads
-        + Clock
-        + Net<Listener = TcpListener, Stream = TcpStream>
-        + Files<File = File>
-        + Copy
-        + Send
-        + Drop
-        + 'static,
+    R: System + Files<File = File> + Send + 'static,
 {
+    let SiteStart {
+        topology,
+        site,
+        journal,
+        patience,
+    } = start;
     let (file, ports) = read_topology_file_with_ports(alloc, topology)?;
     let world = Topology::new(alloc, file.edition, &file.rows)?;
     if !world.has_site(site) {
@@ -113,8 +108,14 @@ where
     }
     let ports = Ports::new(alloc, &file.rows, &ports)?;
     let doors = Doors::open(&rt, port)?;
-    let host = SiteHost::start(rt, alloc, &world, site, &ports, journal, patience, noting)?;
-    let ((station, reader, threads), speaker) = host.into_parts();
+    let place = Place {
+        topology: &world,
+        ports: &ports,
+        site,
+        journal,
+        patience,
+    };
+    let ((station, reader, threads), speaker) = start_site(rt, alloc, place, noting)?;
     let links = match threads.view() {
         Ok(links) => links,
         Err(AllocError) => return ended(threads, Fault::Memory),
@@ -144,14 +145,7 @@ fn say_listening<W: Write>(out: &mut Output<W>) -> Result<(), Fault> {
 /// Ends the threads of a site that can't go on.
 fn ended<R>(threads: Running<R>, fault: Fault) -> Result<(), Fault>
 where
-    R: Wait
-        + Threads
-        + Clock
-        + Net<Listener = TcpListener, Stream = TcpStream>
-        + Copy
-        + Send
-        + Drop
-        + 'static,
+    R: System + Send + 'static,
 {
     threads.cut_off();
     let _ = threads.stop();
@@ -176,7 +170,7 @@ where
         + Drop
         + 'static,
 {
-    let rounds = match start_servers(rt, alloc, host) {
+    let rounds = match start_servers(rt, alloc, host, &doors) {
         Ok(rounds) => rounds,
         Err(fault) => return ended(threads, fault),
     };
@@ -189,10 +183,18 @@ where
 }
 
 /// Starts the threads that serve clients, and one that wakes them at each declaration.
-fn start_servers<R>(rt: R, alloc: Global, host: Host<R>) -> Result<Arc<Rounds<R>>, Fault>
+fn start_servers<R>(
+    rt: R,
+    alloc: Global,
+    host: Host<R>,
+    doors: &Doors,
+) -> Result<Arc<Rounds<R>>, Fault>
 where
     R: Wait + Threads + Net + Copy + Send + Drop + 'static,
 {
+    let Ok(waker) = Waker::new(doors.poll.registry(), ENDED) else {
+        return Err(Fault::Listen);
+    };
     let mut mailboxes = Vec::with_capacity(alloc, SERVERS)?;
     let mut polls = Vec::with_capacity(alloc, SERVERS)?;
     for _ in 0..SERVERS {
@@ -208,7 +210,10 @@ where
     let parker = Parker::new(alloc)?;
     host.station.watch(parker.unparker().clone()?);
     let mailboxes = Arc::new(alloc, mailboxes)?;
-    let rounds = Arc::new(alloc, Rounds::new(host, Desk::new(alloc)?, mailboxes))?;
+    let rounds = Arc::new(
+        alloc,
+        Rounds::new(host, Desk::new(alloc)?, mailboxes, waker),
+    )?;
     let theirs = Arc::try_clone(&rounds)?;
     if thread::spawn(&rt, move || pass_on(rt, &parker, &theirs)).is_err() {
         return Err(Fault::Memory);
@@ -267,7 +272,7 @@ impl Doors {
             } else {
                 None
             };
-            if doors.poll.poll(&mut events, patience).is_err() {
+            if doors.poll.poll(&mut events, patience).is_err() || rounds.has_ended() {
                 return Fault::Listen;
             }
             may_accept = doors.accept(rt, rounds);

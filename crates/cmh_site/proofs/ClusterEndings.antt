@@ -1,28 +1,28 @@
 -- How a cluster ends.
-use Rattle.std.proofs.Common.{◌≡◌, ◌≢◌, ℕ, Bool, true, List, [], ◌∷◌, ◌++◌, Option, refl, sym, ap, subst, ◌∙◌, inl, inr, true≢false}
+use Rattle.std.proofs.Common.{◌≡◌, ◌≢◌, ℕ, Bool, List, [], ◌∷◌, ◌++◌, Option, refl, sym, ap, subst, ◌∙◌, inl, inr, true≢false}
 use Rattle.std.specs.Prelude.{IfErr, IfSome, IsErr, IsErrAnd, Result, Ok, Err}
 use Rattle.std.specs.Io.KnownBytes.{Appends}
 use Rattle.cmh_frames.specs.Topology.{Topology}
 use Rattle.cmh_script.proofs.LinesSeen.{if_some}
+use Rattle.cmh_script.specs.Device.{Writing}
 use Rattle.cmh_script.specs.Lines.{IsNextLine, IsLineFault}
 use Rattle.cmh_script.specs.declared.lines.LineFault.{LineFault}
 use Rattle.cmh_script.specs.declared.lines.NextLine.{NextLine}
 use Rattle.cmh_script.specs.declared.lines.NextLine.TheVariants.{End}
-use Rattle.cmh_files.proofs.TextLemmas.{texts_of-append}
+use Rattle.cmh_files.proofs.TextLemmas.{appends-more, appends-none, texts_of-append}
 use Rattle.cmh_files.specs.AuditTexts.{texts_of}
 use Rattle.cmh_files.specs.Audits.{AuditEnds}
-use Rattle.cmh_files.specs.Faults.{of_line}
+use Rattle.cmh_files.specs.Faults.{IsAnswerFault, IsPlayFault, of_line}
 use Rattle.cmh_files.specs.declared.faults.Fault.{Fault}
 use Rattle.cmh_files.specs.declared.faults.Fault.TheVariants.{TopologyFile, ScriptFile, OutFile, JournalFile, Json, Topology as NoTopology, Journal, Set, Site, JournalDisk, Listen, Input, Output, Memory}
-use Rattle.cmh_play.proofs.Plays.{appends-more, appends-none, at_some}
-use Rattle.cmh_play.specs.Play.{IsAnswerFault, IsPlayFault}
+use Rattle.cmh_files.proofs.LineLemmas.{at_some}
 use Rattle.cmh_running.proofs.Dialogues.{HasTalked, first_is, read_err, talked_fault_err, talked_some}
 use Rattle.cmh_running.specs.Dialogue.{Conversed, Dialogue, HasAnswered, begin, line_of}
 use Rattle.cmh_running.specs.declared.dialogue.Flow.{Flow}
 use Rattle.cmh_running.specs.declared.dialogue.Flow.TheVariants.{Awaits, Ends}
 use Rattle.cmh_site.specs.ClusterEndings.{Answered, Begun, ClusterEnds, IsRunFault, IsStartFault, IsTurn, NamesClosed, ReadsBack, Replied, closed_line, of_script}
 use Rattle.cmh_site.specs.SiteTalk.{IsTurnOfCluster}
-use Rattle.cmh_site.specs.declared.site_reply.ClosedLink.{ClosedLink}
+use Rattle.cmh_host.specs.declared.site_reply.ClosedLink.{ClosedLink}
 
 -- ---- the lines of the script
 
@@ -174,8 +174,12 @@ module _ (t : Topology) (script : List ℕ) (old : Option (List ℕ)) where
 -- ---- the whole command
 
 -- the files that were read back were audited
-pub audited : (topology script : List ℕ) (old before new : Option (List ℕ)) (has_failed is_flushed : Bool) (err_old err_new : Option (List ℕ)) (err_failed : Bool)
-    (status : ℕ) (files read : List (List ℕ)) → AuditEnds topology files before new has_failed is_flushed err_old err_new err_failed status → files ≡ read
-    → ReadsBack topology script old before read → ClusterEnds topology script old new has_failed is_flushed err_old err_new err_failed status
-audited topology script old before new has_failed is_flushed err_old err_new err_failed status files read ends same reads =
-    inl (record { files = files; before = before; reads = subst (ReadsBack topology script old before) (sym same) reads; ends = ends })
+pub audited : {W E : Type 0} (topology script : List ℕ) (old before new : Writing W) (err_old err_new : Writing E) (status : ℕ) (files read : List (List ℕ))
+    → AuditEnds topology files before new err_old err_new status → files ≡ read
+    → ReadsBack topology script old.written before.written read → ClusterEnds topology script old new err_old err_new status
+audited topology script old before new err_old err_new status files read ends same reads = inl (record {
+  files = files;
+  before = before;
+  reads = subst (ReadsBack topology script old.written before.written) (sym same) reads;
+  ends = ends;
+})

@@ -1,11 +1,11 @@
 -- How a running site ends.
-use Rattle.std.proofs.Common.{◌≡◌, ℕ, Bool, true, false, List, [], ◌++◌, Option, sym, ap, subst, inl, inr, true≢false}
+use Rattle.std.proofs.Common.{◌≡◌, ℕ, Bool, true, false, List, [], ◌++◌, Option, sym, subst, inl, inr, true≢false}
 use Rattle.std.specs.Prelude.{IfSome, IsErr, Result, Ok, Err, codes}
 use Rattle.std.specs.Io.KnownBytes.{Appends, Keeps}
 use Rattle.cmh_script.proofs.LinesSeen.{if_some}
-use Rattle.cmh_files.proofs.TextLemmas.{appends-kept}
+use Rattle.cmh_files.proofs.TextLemmas.{appends-kept, appends-more}
 use Rattle.cmh_files.specs.declared.faults.Fault.{Fault}
-use Rattle.cmh_play.proofs.Plays.{appends-more, at_some}
+use Rattle.cmh_files.proofs.LineLemmas.{at_some}
 use Rattle.cmh_running.specs.Dialogue.{Conversed, WroteBefore, begin}
 use Rattle.cmh_site.specs.Endings.{Served, Welcomed}
 use Rattle.cmh_site.specs.SiteTalk.{IsTurnOfSite}

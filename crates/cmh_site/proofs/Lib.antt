@@ -1,4 +1,3 @@
 pub mod ClusterEndings
 pub mod Endings
-pub mod Taking
 mod Waiting

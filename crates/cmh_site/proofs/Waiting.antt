@@ -1,5 +1,5 @@
 -- Lines whose events wait for their answers.
-use Rattle.std.proofs.Common.{◌≡◌, ◌≢◌, ℕ, ◌+◌, ◌-◌, ◌^◌, ◌<◌, ◌≤◌, Bool, true, false, List, [], ◌∷◌, ◌++◌, Option, None, Some, length, refl, sym, ap, subst, ◌∙◌, arith, inl, inr, true≢false}
+use Rattle.std.proofs.Common.{◌≡◌, ◌≢◌, ℕ, ◌+◌, ◌-◌, ◌^◌, ◌<◌, ◌≤◌, Bool, true, List, [], ◌∷◌, ◌++◌, Option, None, Some, length, refl, sym, subst, arith, inl, inr, true≢false}
 use Rattle.std.specs.Prelude.{IfErr, IfSome, IsErr, IsErrAnd, Result, Ok, Err}
 use Rattle.std.specs.Io.BufRead.{drop_through}
 use Rattle.std.specs.Io.KnownBytes.{Appends}
@@ -12,21 +12,21 @@ use Rattle.cmh_script.specs.declared.lines.LineFault.TheVariants.{Input as NoInp
 use Rattle.cmh_script.specs.declared.lines.NextLine.{NextLine}
 use Rattle.cmh_script.specs.declared.lines.NextLine.TheVariants.{End}
 use Rattle.cmh_files.specs.AuditTexts.{texts_of}
-use Rattle.cmh_files.specs.Faults.{of_line}
+use Rattle.cmh_files.specs.Faults.{IsPlayFault, of_line}
 use Rattle.cmh_files.specs.declared.faults.Fault.{Fault}
-use Rattle.cmh_play.proofs.Plays.{appends-more, at_some, length-drop_through}
-use Rattle.cmh_play.specs.Play.{IsPlayFault}
-use Rattle.cmh_running.proofs.Dialogues.{HasTalked, TalkedSoFar, begun, first_is}
-use Rattle.cmh_running.specs.Dialogue.{Conversed, Dialogue, HasAnswered, begin, line_in, line_of, turn}
+use Rattle.cmh_files.proofs.LineLemmas.{at_some, length-drop_through}
+use Rattle.cmh_files.proofs.TextLemmas.{appends-more}
+use Rattle.cmh_running.proofs.Dialogues.{HasTalked, begun, first_is}
+use Rattle.cmh_running.specs.Dialogue.{Conversed, Dialogue, HasAnswered, line_in, line_of, turn}
 use Rattle.cmh_running.specs.declared.dialogue.Flow.{Flow}
-use Rattle.cmh_running.specs.declared.dialogue.Flow.TheVariants.{Awaits}
 use Rattle.cmh_running.specs.declared.site_script.EventLine.TheVariants.{Act as ActEvent}
 use Rattle.cmh_running.specs.declared.site_script.SiteLine.{SiteLine}
 use Rattle.cmh_running.specs.declared.site_script.SiteLine.TheVariants.{Event as SiteEvent}
-use Rattle.cmh_site.specs.SiteReplies.{reply_text}
+use Rattle.cmh_host.specs.SiteReplies.{reply_text}
 use Rattle.cmh_site.specs.SiteTalk.{IsTurnOfSite, WasSaidToSite}
-use Rattle.cmh_site.specs.Together.{AreStepped, LinesSay, SaidTurn, SaysEvent, WereAnswered, more, none}
-use Rattle.cmh_site.specs.declared.site_reply.SiteReply.{SiteReply}
+use Rattle.cmh_host.specs.Together.{AreStepped, WereAnswered}
+use Rattle.cmh_site.specs.Together.{LinesSay, SaidTurn, SaysEvent, more, none}
+use Rattle.cmh_host.specs.declared.site_reply.SiteReply.{SiteReply}
 
 -- one line more says one event more
 said_more : (bytes now : List ℕ) (process : ℕ) (event : Event) (events : List Event) → LinesSay bytes events now → 0 < length now

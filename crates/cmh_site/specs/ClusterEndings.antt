@@ -2,7 +2,7 @@
 use Rattle.std.specs.Prelude.{◌≡◌, ℕ, Bool, true, ◌⊎◌, List, [], ◌∷◌, ◌++◌, length, map, codes, Option, Result, Ok, Err, ⊤}
 use Rattle.std.specs.Io.KnownBytes.{Appends}
 use Rattle.cmh_frames.specs.Topology.{Topology, sites_of}
-use Rattle.cmh_script.specs.Device.{Tells}
+use Rattle.cmh_script.specs.Device.{Tells, Writing}
 use Rattle.cmh_files.specs.AuditTexts.{texts_of}
 use Rattle.cmh_files.specs.Audits.{AuditEnds, IsOfNoTopology}
 use Rattle.cmh_files.specs.Faults.{NamesFault}
@@ -14,11 +14,11 @@ use Rattle.cmh_running.specs.Dialogue.{IsAll, EndsBy, IsPart}
 use Rattle.cmh_running.specs.declared.dialogue.Flow.{Flow}
 use Rattle.cmh_running.specs.declared.dialogue.Flow.TheVariants.{Awaits, Ends}
 use Rattle.cmh_site.specs.Endings.{IsWorldOf}
-use Rattle.cmh_site.specs.SiteReplies.{closed_text}
+use Rattle.cmh_host.specs.SiteReplies.{closed_text}
 use Rattle.cmh_site.specs.SiteTalk.{IsTurnOfCluster}
 use Rattle.cmh_site.specs.declared.cluster.Played.{Played}
 use Rattle.cmh_site.specs.declared.cluster.Played.TheVariants.{Read, NotSettled}
-use Rattle.cmh_site.specs.declared.site_reply.ClosedLink.{ClosedLink}
+use Rattle.cmh_host.specs.declared.site_reply.ClosedLink.{ClosedLink}
 
 -- ---- what was written
 
@@ -162,32 +162,31 @@ ComesTo topology script old new is_flushed NotSettled = SaysNotSettled topology 
 
 -- The sites settled behind each line, and the files that were read back were audited: the audit stands behind the answers,
 -- and its status is that of the command.
-pub record EndsInAudit (topology script : List ℕ) (old new : Option (List ℕ)) (has_failed is_flushed : Bool)
-    (err_old err_new : Option (List ℕ)) (err_failed : Bool) (status : ℕ) : Type 0 where
+pub record EndsInAudit {W E : Type 0} (topology script : List ℕ) (old new : Writing W) (err_old err_new : Writing E)
+    (status : ℕ) : Type 0 where
   pub files : List (List ℕ)
-  pub before : Option (List ℕ)
-  pub reads : ReadsBack topology script old before files
-  pub ends : AuditEnds topology files before new has_failed is_flushed err_old err_new err_failed status
+  pub before : Writing W
+  pub reads : ReadsBack topology script old.written before.written files
+  pub ends : AuditEnds topology files before new err_old err_new status
 
 -- they did not settle, which was flushed, and the status is 1
-pub record EndsUnsettled (topology script : List ℕ) (old new : Option (List ℕ)) (is_flushed : Bool)
-    (err_old err_new : Option (List ℕ)) (status : ℕ) : Type 0 where
-  pub says : SaysNotSettled topology script old new
-  pub flushed : is_flushed ≡ true
+pub record EndsUnsettled {W E : Type 0} (topology script : List ℕ) (old new : Writing W) (err_old err_new : Writing E)
+    (status : ℕ) : Type 0 where
+  pub says : SaysNotSettled topology script old.written new.written
+  pub flushed : new.is_flushed ≡ true
   pub silent : err_new ≡ err_old
   pub status_is : status ≡ 1
 
 -- a cluster ended in an audit, or did not settle, or named a fault that has its cause
-abbrev pub ClusterEnds : List ℕ → List ℕ → Option (List ℕ) → Option (List ℕ) → Bool → Bool → Option (List ℕ)
-    → Option (List ℕ) → Bool → ℕ → Type 0
-ClusterEnds topology script old new has_failed is_flushed err_old err_new err_failed status =
-    EndsInAudit topology script old new has_failed is_flushed err_old err_new err_failed status
-    ⊎ EndsUnsettled topology script old new is_flushed err_old err_new status
-    ⊎ NamesFault (IsClusterFault topology script old new has_failed) status err_old err_new err_failed
+abbrev pub ClusterEnds : {W E : Type 0} → List ℕ → List ℕ → Writing W → Writing W → Writing E → Writing E → ℕ → Type 0
+ClusterEnds topology script old new err_old err_new status =
+    EndsInAudit topology script old new err_old err_new status
+    ⊎ EndsUnsettled topology script old new err_old err_new status
+    ⊎ NamesFault (IsClusterFault topology script old.written new.written new.has_failed) status err_old err_new
 
 -- some files were audited, behind what was written before: its text, or why there is none
-pub record AuditsSome (topology : List ℕ) (new : Option (List ℕ)) (has_failed is_flushed : Bool)
-    (err_old err_new : Option (List ℕ)) (err_failed : Bool) (status : ℕ) : Type 0 where
+pub record AuditsSome {W E : Type 0} (topology : List ℕ) (new : Writing W) (err_old err_new : Writing E)
+    (status : ℕ) : Type 0 where
   pub files : List (List ℕ)
-  pub before : Option (List ℕ)
-  pub ends : AuditEnds topology files before new has_failed is_flushed err_old err_new err_failed status
+  pub before : Writing W
+  pub ends : AuditEnds topology files before new err_old err_new status

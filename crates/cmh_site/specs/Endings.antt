@@ -1,17 +1,16 @@
 -- How a running site ends: what it wrote, or why it did not get so far.
-use Rattle.std.specs.Prelude.{◌≡◌, ℕ, Bool, true, false, List, [], ◌++◌, codes, Option, Result, Ok, ⊤}
+use Rattle.std.specs.Prelude.{◌≡◌, ℕ, Bool, true, false, List, ◌++◌, codes, Option, Result, Ok, ⊤}
 use Rattle.std.specs.Io.KnownBytes.{Appends}
 use Rattle.cmh_frames.specs.Rows.{Row}
 use Rattle.cmh_frames.specs.Topology.{Topology, IsTopologyOf, is_site}
 use Rattle.cmh_frames.specs.declared.edition.Edition.{Edition}
-use Rattle.cmh_station.specs.Journaled.{Journaled}
 use Rattle.cmh_files.specs.Audits.{IsOfNoTopology}
 use Rattle.cmh_files.specs.TopologyFile.{Says, IsFaultOfFileWithPorts}
 use Rattle.cmh_files.specs.declared.faults.Fault.{Fault}
 use Rattle.cmh_files.specs.declared.faults.Fault.TheVariants.{Json, Topology as NoTopology, Site, JournalDisk, Listen, Input, Output, Memory}
 use Rattle.cmh_files.specs.declared.topology_file.TopologyFileFault.TheVariants.{Json as NoJson}
 use Rattle.cmh_running.specs.Dialogue.{IsTextOf, WroteBefore}
-use Rattle.cmh_play.specs.Play.{IsPlayFault}
+use Rattle.cmh_files.specs.Faults.{IsPlayFault}
 use Rattle.cmh_site.specs.SiteTalk.{IsTurnOfSite}
 
 -- ---- the start
@@ -28,13 +27,6 @@ pub record Knows (topology : List ℕ) (site : ℕ) (is_known : Bool) : Type 0 w
   pub world : Topology
   pub world_is : IsWorldOf topology world
   pub known : is_site world site ≡ is_known
-
--- the station is that of this site, and nothing has happened
-pub record IsNewStation (t : Topology) (number : ℕ) (j : Journaled) : Type 0 where
-  pub topology : j.topology ≡ t
-  pub site : j.site ≡ number
-  pub entries : j.entries ≡ []
-  pub is_open : j.sealed ≡ false
 
 -- ---- one site
 

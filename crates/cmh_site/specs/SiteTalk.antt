@@ -1,56 +1,22 @@
 -- What running sites answer to a line.
-use Rattle.std.specs.Prelude.{◌≡◌, ℕ, ◌+◌, Bool, true, ◌⊎◌, All, Contains, List, length, Option, None, Some, MatchBool, MatchOption, ⊤}
-use Rattle.cmh_frames.specs.declared.frame.Frame.{Frame}
+use Rattle.std.specs.Prelude.{◌≡◌, ℕ, ◌+◌, Bool, true, ◌⊎◌, List, Option, None, Some, MatchBool, MatchOption, ⊤}
 use Rattle.cmh_frames.specs.Topology.{Topology, home}
 use Rattle.cmh_model.specs.declared.event.Event.{Event}
 use Rattle.cmh_controller.specs.declared.refusal.Refusal.TheVariants.{NotHere, UnknownProcess}
-use Rattle.cmh_playground.specs.declared.site.Done.{Done}
-use Rattle.cmh_station.specs.Journaled.{Journaled}
-use Rattle.cmh_station.specs.Steps.{NotStepped, Stepped}
-use Rattle.cmh_station.specs.declared.refusal.StationRefusal.{StationRefusal}
 use Rattle.cmh_station.specs.declared.refusal.StationRefusal.TheVariants.{Rule}
-use Rattle.cmh_site.specs.SiteReplies.{reply_text}
+use Rattle.cmh_host.specs.SiteReplies.{reply_text}
+use Rattle.cmh_host.specs.Steps.{IsDeclared, IsLinks, WasStepped}
 use Rattle.cmh_running.specs.SiteScript.{SaysToCluster, SaysToSite}
 use Rattle.cmh_running.specs.declared.dialogue.Flow.{Flow}
 use Rattle.cmh_running.specs.declared.dialogue.Flow.TheVariants.{Awaits, Ends}
-use Rattle.cmh_site.specs.declared.site_reply.SiteReply.{SiteReply}
-use Rattle.cmh_site.specs.declared.site_reply.SiteReply.TheVariants.{Silent, BadLine, BadLink, Late, Taken, Refused, Declared, Connected, Links}
+use Rattle.cmh_host.specs.declared.site_reply.SiteReply.{SiteReply}
+use Rattle.cmh_host.specs.declared.site_reply.SiteReply.TheVariants.{Silent, BadLine, BadLink, Late, Refused, Connected}
 use Rattle.cmh_running.specs.declared.site_script.ClusterLine.{ClusterLine}
 use Rattle.cmh_running.specs.declared.site_script.ClusterLine.TheVariants.{Declared as DeclaredOf, Event as ClusterEvent}
-use Rattle.cmh_running.specs.declared.site_script.EventLine.{EventLine}
 use Rattle.cmh_running.specs.declared.site_script.EventLine.TheVariants.{Silent as SilentEvent, Bad as BadEvent, Act as ActEvent}
 use Rattle.cmh_running.specs.declared.site_script.Order.TheVariants.{Declared as DeclaredOrder, Connect as ConnectOrder, Links as LinksOrder, Quit}
 use Rattle.cmh_running.specs.declared.site_script.SiteLine.{SiteLine}
 use Rattle.cmh_running.specs.declared.site_script.SiteLine.TheVariants.{Order as SiteOrder, Event as SiteEvent}
-
--- A station took the event, by the rules, and its entry was kept. Which station it was is not told: what comes out of a lock
--- is known by its type alone.
-pub record WasTaken (event : Event) (done : Done) : Type 0 where
-  pub before : Journaled
-  pub after : Journaled
-  pub sent : List (ℕ × Frame)
-  pub step : Stepped before event sent done.declared after
-  pub counted : done.sent ≡ length sent
-
--- a station refused it
-pub record WasRefused (event : Event) (refusal : StationRefusal) : Type 0 where
-  pub before : Journaled
-  pub after : Journaled
-  pub step : NotStepped before event refusal after
-
-abbrev pub WasStepped : Event → SiteReply → Type 0
-WasStepped event (Taken done) = WasTaken event done
-WasStepped event (Refused refusal) = WasRefused event refusal
-WasStepped event reply = ⊥
-
-abbrev pub IsDeclared : ℕ → SiteReply → Type 0
-IsDeclared site (Declared named processes) = named ≡ site
-IsDeclared site reply = ⊥
-
--- these processes are told
-abbrev pub IsListOf : List ℕ → SiteReply → Type 0
-IsListOf list (Declared named processes) = processes ≡ list
-IsListOf list reply = ⊥
 
 abbrev pub IsConnected : SiteReply → Type 0
 IsConnected (Connected connected failed) = ⊤
@@ -62,15 +28,6 @@ abbrev pub CountsLinks : ℕ → ℕ → ℕ → ℕ → SiteReply → Type 0
 CountsLinks ran runs failed fails (Connected connected unconnected) =
     (runs ≡ ran + connected) × (fails ≡ failed + unconnected)
 CountsLinks ran runs failed fails reply = ⊥
-
-abbrev pub IsLinks : SiteReply → Type 0
-IsLinks (Links links) = ⊤
-IsLinks reply = ⊥
-
--- each link is with one of these sites
-abbrev pub AreLinksOf : List ℕ → SiteReply → Type 0
-AreLinksOf sites (Links links) = All (λ ends. Contains sites ends.site) links.items
-AreLinksOf sites reply = ⊥
 
 -- ---- one site
 

@@ -1,6 +1,6 @@
 //! The command `cluster`: all sites of a topology as threads of one program, driven by a script.
 
-ghost use Rattle.std.specs.Prelude.{◌≡◌, ◌⊎◌, None, true, MatchOption, IfOk, IfErr, IfSome, OnOk, codes, length, map};
+ghost use Rattle.std.specs.Prelude.{◌≡◌, ◌⊎◌, None, true, MatchOption, IfOk, IfErr, IfSome, OnOk, codes, length};
 ghost use Rattle.std.specs.Io.KnownBytes.{Appends};
 ghost use Rattle.cmh_controller.specs.declared.refusal.Refusal.TheVariants.{UnknownProcess};
 ghost use Rattle.cmh_files.specs.Status.{IsStatus};
@@ -9,25 +9,24 @@ ghost use Rattle.cmh_running.specs.Dialogue.{HasAnswered, line_of};
 ghost use Rattle.cmh_site.specs.ClusterEndings as spec;
 ghost use Rattle.cmh_site.specs.ClusterEndings.{AuditsSome, ClusterEnds, ComesTo, HasPlayed, IsClusterFault, IsRunFault, IsStartFault, IsWorldFault, NamesClosed, Replied};
 ghost use Rattle.cmh_site.specs.Endings.{IsWorldOf};
-ghost use Rattle.cmh_play.specs.Play.{IsAnswerFault, IsPlayFault};
-ghost use Rattle.cmh_site.specs.declared.site_reply.SiteReply.TheVariants.{Refused};
+ghost use Rattle.cmh_files.specs.Faults.{IsAnswerFault, IsPlayFault};
+ghost use Rattle.cmh_host.specs.declared.site_reply.SiteReply.TheVariants.{Refused};
 ghost use Rattle.cmh_station.specs.declared.refusal.StationRefusal.TheVariants.{Rule};
-ghost use Rattle.cmh_site.specs.SiteTalk.{AnswersCluster, IsDeclared, IsTurnOfCluster, WasSaidToCluster, WasSteppedOrAway};
+ghost use Rattle.cmh_host.specs.Steps.{IsDeclared};
+ghost use Rattle.cmh_site.specs.SiteTalk.{AnswersCluster, IsTurnOfCluster, WasSaidToCluster, WasSteppedOrAway};
 
-use crate::site_reply::{ClosedLink, SiteReply};
-use crate::starting::{
-    FileStation, Opened, Running, closed_in, closed_out, declared, fault_of, open_station,
-    start_threads, step,
-};
 use cmh_carriers::{Dial, Listen, TcpDial, TcpListen};
 use cmh_controller::Refusal;
-use cmh_files::{Fault, read_topology_file_with_ports, run_audit};
+use cmh_files::{Fault, path_in, read_topology_file_with_ports, run_audit};
 use cmh_frames::{ProcId, SiteId, Topology};
+use cmh_host::{
+    ClosedLink, FileStation, Opened, Running, SiteReply, System, closed_in, closed_out, declared,
+    fault_of, open_station, start_threads, step,
+};
 use cmh_journal::Sink;
 use cmh_links::LinkFault;
 use cmh_model::Event;
 use cmh_notes::{NoVoice, Noting, Origin, Speaker, Voice};
-use cmh_play::path_in;
 use cmh_running::{
     ClusterLine, Disk, EventLine, Flow, JournalFolder, JournalSink, Ports, ReceiptLook,
     SendingLook, Silence, Tally, can_be_made, parse_for_cluster,
@@ -79,13 +78,10 @@ where
 
     // The audit of what was read back stands behind the answers to the script; or the sites did not settle, which is said;
     // or a fault is named that has its cause.
-    ensures ends { ClusterEnds topology.now script.now (W.contents out.old.inner) (W.contents out.new.inner)
-        out.new.has_failed out.new.is_flushed (E.contents err.old.inner) (E.contents err.new.inner)
-        err.new.has_failed result }
+    ensures ends { ClusterEnds topology.now script.now out.old out.new err.old err.new result }
 
     // At status 0 the files that were read back were audited and accepted.
-    ensures audit { result ≡ 0 → AuditsSome topology.now (W.contents out.new.inner) out.new.has_failed
-        out.new.is_flushed (E.contents err.old.inner) (E.contents err.new.inner) err.new.has_failed result }
+    ensures audit { result ≡ 0 → AuditsSome topology.now out.new err.old err.new result }
 {
     let nobody: Option<NoVoice> = None;
     run_cluster_noting(rt, alloc, topology, script, dir, out, err, nobody)
@@ -103,28 +99,16 @@ pub fn run_cluster_noting<R, W: Write, E: Write, V>(
     voice: Option<V>,
 ) -> u8
 where
-    R: Wait
-        + Threads
-        + Clock
-        + Net<Listener = TcpListener, Stream = TcpStream>
-        + Files<File = File>
-        + AllocGlobal
-        + Copy
-        + Send
-        + Drop
-        + 'static,
+    R: System + Files<File = File> + AllocGlobal + Send + 'static,
     V: Voice + Send + Drop + 'static,
     ensures status { IsStatus result }
 
     // The audit of what was read back stands behind the answers to the script; or the sites did not settle, which is said;
     // or a fault is named that has its cause.
-    ensures ends { ClusterEnds topology.now script.now (W.contents out.old.inner) (W.contents out.new.inner)
-        out.new.has_failed out.new.is_flushed (E.contents err.old.inner) (E.contents err.new.inner)
-        err.new.has_failed result }
+    ensures ends { ClusterEnds topology.now script.now out.old out.new err.old err.new result }
 
     // At status 0 the files that were read back were audited and accepted.
-    ensures audit { result ≡ 0 → AuditsSome topology.now (W.contents out.new.inner) out.new.has_failed
-        out.new.is_flushed (E.contents err.old.inner) (E.contents err.new.inner) err.new.has_failed result }
+    ensures audit { result ≡ 0 → AuditsSome topology.now out.new err.old err.new result }
 {
     let noting = match Noting::start(rt, alloc, voice) {
         Ok(noting) => noting,
@@ -159,20 +143,10 @@ fn cluster_into<R, W: Write>(
     noting: &Noting,
 ) -> Result<Played, Fault>
 where
-    R: Wait
-        + Threads
-        + Clock
-        + Net<Listener = TcpListener, Stream = TcpStream>
-        + Files<File = File>
-        + AllocGlobal
-        + Copy
-        + Send
-        + Drop
-        + 'static,
-    ensures played { IfOk result (ComesTo topology.now script.now (W.contents out.old.inner)
-        (W.contents out.new.inner) out.new.is_flushed) }
-    ensures fault { IfErr result (IsClusterFault topology.now script.now (W.contents out.old.inner)
-        (W.contents out.new.inner) out.new.has_failed) }
+    R: System + Files<File = File> + AllocGlobal + Send + 'static,
+    ensures played { IfOk result (ComesTo topology.now script.now out.old.written out.new.written out.new.is_flushed) }
+    ensures fault { IfErr result (IsClusterFault topology.now script.now out.old.written
+        out.new.written out.new.has_failed) }
 {
     let Setting { world, ports } = read_setting(alloc, topology)?;
     match run_sites(rt, alloc, &world, &ports, script, dir, out, noting)? {
@@ -185,7 +159,7 @@ where
 }
 
 fn say_not_settled<W: Write>(out: &mut Output<W>) -> Result<(), Fault>
-    ensures said { OnOk result (Appends (W.contents out.old.inner) (W.contents out.new.inner)
+    ensures said { OnOk result (Appends out.old.written out.new.written
         (codes "not settled\n")) }
     ensures flushed { OnOk result (out.new.is_flushed ≡ true) }
     ensures fault { IfErr result (λ fault. (fault ≡ Fault.Output) × (out.new.has_failed ≡ true)) }
@@ -225,19 +199,9 @@ fn run_sites<R, W: Write>(
     noting: &Noting,
 ) -> Result<Flow, Fault>
 where
-    R: Wait
-        + Threads
-        + Clock
-        + Net<Listener = TcpListener, Stream = TcpStream>
-        + Files<File = File>
-        + Copy
-        + Send
-        + Drop
-        + 'static,
-    ensures played { IfOk result (HasPlayed world.now script.now (W.contents out.old.inner)
-        (W.contents out.new.inner)) }
-    ensures fault { IfErr result (IsRunFault world.now script.now (W.contents out.old.inner)
-        (W.contents out.new.inner) out.new.has_failed) }
+    R: System + Files<File = File> + Send + 'static,
+    ensures played { IfOk result (HasPlayed world.now script.now out.old.written out.new.written) }
+    ensures fault { IfErr result (IsRunFault world.now script.now out.old.written out.new.written out.new.has_failed) }
 {
     let mut cluster = Cluster::new(rt, alloc, world, noting)?;
     let played = cluster.play(ports, dir, script, out);
@@ -271,14 +235,7 @@ fn read_back<R: Files<File = File> + AllocGlobal>(
 /// for.
 fn stop_all<R>(mut running: Vec<Running<R>>)
 where
-    R: Wait
-        + Threads
-        + Clock
-        + Net<Listener = TcpListener, Stream = TcpStream>
-        + Copy
-        + Send
-        + Drop
-        + 'static,
+    R: System + Send + 'static,
 {
     cut_off_all(&running);
     while let Some(threads) = running.pop() {
@@ -289,14 +246,7 @@ where
 
 fn cut_off_all<R>(running: &[Running<R>])
 where
-    R: Wait
-        + Threads
-        + Clock
-        + Net<Listener = TcpListener, Stream = TcpStream>
-        + Copy
-        + Send
-        + Drop
-        + 'static,
+    R: System + Send + 'static,
 {
     for threads in running {
         threads.cut_off();
@@ -315,14 +265,7 @@ struct Member<R: Wait + Drop> {
 /// All sites of a topology, in the order of the topology. It isn't `Drop`: its threads have to be stopped.
 struct Cluster<'a, R>
 where
-    R: Wait
-        + Threads
-        + Clock
-        + Net<Listener = TcpListener, Stream = TcpStream>
-        + Copy
-        + Send
-        + Drop
-        + 'static,
+    R: System + Send + 'static,
     JournalSink: Sink,
     KeptBoard<R>: Listing,
     TcpDial<R>: Dial,
@@ -338,15 +281,7 @@ where
 
 impl<'a, R> Cluster<'a, R>
 where
-    R: Wait
-        + Threads
-        + Clock
-        + Net<Listener = TcpListener, Stream = TcpStream>
-        + Files<File = File>
-        + Copy
-        + Send
-        + Drop
-        + 'static,
+    R: System + Files<File = File> + Send + 'static,
 {
     /// None of the sites runs yet.
     fn new(
@@ -379,10 +314,9 @@ where
         script: &[u8],
         out: &mut Output<W>,
     ) -> Result<Flow, Fault>
-        ensures played { IfOk result (HasPlayed self.old.topology.now script.now (W.contents out.old.inner)
-            (W.contents out.new.inner)) }
-        ensures fault { IfErr result (IsRunFault self.old.topology.now script.now (W.contents out.old.inner)
-            (W.contents out.new.inner) out.new.has_failed) }
+        ensures played { IfOk result (HasPlayed self.old.topology.now script.now out.old.written out.new.written) }
+        ensures fault { IfErr result (IsRunFault self.old.topology.now script.now out.old.written
+            out.new.written out.new.has_failed) }
     {
         self.start_all(ports, dir)?;
         for threads in self.running.iter_mut() {
@@ -564,9 +498,9 @@ where
         input: &mut Input<I>,
         out: &mut Output<W>,
     ) -> Result<Flow, Fault>
-        ensures answers { IfSome (I.remaining input.old.inner) (λ bytes. Replied self.old.topology.now bytes
-            (W.contents out.old.inner) (W.contents out.new.inner) out.new.has_failed result) }
-        ensures fault { IfErr result (IsPlayFault (I.remaining input.old.inner) input.new.has_failed out.new.has_failed) }
+        ensures answers { IfSome input.old.left (λ bytes. Replied self.old.topology.now bytes
+            out.old.written out.new.written out.new.has_failed result) }
+        ensures fault { IfErr result (IsPlayFault input.old.left input.new.has_failed out.new.has_failed) }
     {
         let mut buffer = Vec::new(self.alloc);
         for turn in 0..u64::MAX {
@@ -586,9 +520,9 @@ where
     /// Answers a line and waits until all frames have come; where they don't, no other line is read.
     fn answer<W: Write>(&mut self, next: NextLine<'_>, out: &mut Output<W>) -> Result<Flow, Fault>
         ensures answers { IfOk result (λ flow. HasAnswered (λ said text. IsTurnOfCluster self.old.topology.now said text) (line_of next.entry)
-            (W.contents out.old.inner) (W.contents out.new.inner)) }
+            out.old.written out.new.written) }
         ensures topology { self.new.topology ≡ self.old.topology }
-        ensures fault { IfErr result (IsAnswerFault (W.contents out.old.inner) (W.contents out.new.inner) out.new.has_failed) }
+        ensures fault { IfErr result (IsAnswerFault out.old.written out.new.written out.new.has_failed) }
     {
         let said = said_by(self.alloc, next)?;
         let reply = self.reply(&said)?;
@@ -718,7 +652,7 @@ where
     /// A line for each link that is closed, ascending.
     #[tactic(auto, using(crate::proofs::ClusterEndings::none_closed, crate::proofs::ClusterEndings::one_more_closed))]
     fn write_closed<W: Write>(&self, out: &mut Output<W>) -> Result<(), Fault>
-        ensures closed { OnOk result (NamesClosed (W.contents out.old.inner) (W.contents out.new.inner)) }
+        ensures closed { OnOk result (NamesClosed out.old.written out.new.written) }
         ensures fault { IfErr result (λ fault. (fault ≡ Fault.Output) × (out.new.has_failed ≡ true)) }
     {
         for (i, from) in self.topology.sites().iter().enumerate() {

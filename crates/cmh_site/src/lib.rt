@@ -3,19 +3,14 @@
 
 mod cluster;
 mod site;
-mod site_reply;
-mod starting;
-mod together;
 
 pub use crate::cluster::{run_cluster, run_cluster_noting};
-pub use crate::site::{SiteHost, SiteStart, run_site, run_site_noting};
-pub use crate::site_reply::{LinkEnds, SiteReply};
-pub use crate::starting::{FileStation, Running, Started, declared, link_ends, note_seal, step};
-pub use crate::together::{Answer, reply_to};
+pub use crate::site::{run_site, run_site_noting};
 pub use cmh_files::{
     Fault, TopologyFile, TopologyFileFault, read_topology_file, read_topology_file_with_ports,
     run_audit, run_show,
 };
+pub use cmh_host::{LinkEnds, SiteReply, SiteStart, System};
 pub use cmh_notes::{NoVoice, Note, Noted, Voice};
 pub use cmh_play::{Folder, Keeper, NoKeeper, run_play, run_play_keeping};
 pub use cmh_script::{Ahead, Input, Output};

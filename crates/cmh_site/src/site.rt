@@ -1,31 +1,27 @@
 //! The command `site`: one site, driven by the lines of an input.
 
 ghost use Rattle.std.specs.Prelude.{◌≡◌, ◌≢◌, ◌≤◌, ◌⊎◌, [], length, true, false, IfOk, IfErr, IfSome, MatchBool, OnOk};
-ghost use Rattle.cmh_files.specs.Faults.{NamesFault};
+ghost use Rattle.cmh_files.specs.Faults.{IsAnswerFault, IsPlayFault, NamesFault};
 ghost use Rattle.cmh_files.specs.Status.{IsStatus};
 ghost use Rattle.cmh_running.specs.Dialogue.{Conversed, line_of};
 ghost use Rattle.cmh_links.specs.Threads.{connected_in, failed_in};
 ghost use Rattle.cmh_site.specs.Endings.{IsSiteFault, Served, Welcomed};
-ghost use Rattle.cmh_play.specs.Play.{IsAnswerFault, IsPlayFault};
 ghost use Rattle.cmh_site.specs.SiteTalk.{AnswersSite, CountsLinks, IsConnected, IsTurnOfSite, WasSaidToSite};
-ghost use Rattle.cmh_site.specs.Together.{SaidTurn, SaysEvent, WereAnswered};
+ghost use Rattle.cmh_host.specs.Together.{WereAnswered};
+ghost use Rattle.cmh_site.specs.Together.{SaidTurn, SaysEvent};
 ghost use Rattle.cmh_station.specs.Journaled.{batch_limit};
 
-use crate::site_reply::SiteReply;
-use crate::starting::{
-    FileStation, Running, Started, declared, fault_of, link_ends, open_station, start_threads, step,
-};
-use crate::together::answer_events;
-use cmh_carriers::{Dial, TcpDial, TcpListen};
+use cmh_carriers::{Dial, TcpDial};
 use cmh_files::{Fault, read_topology_file_with_ports};
 use cmh_frames::{SiteId, Topology};
+use cmh_host::{
+    FileStation, Place, Running, SiteReply, SiteStart, System, answer_events, declared, link_ends,
+    start_site, step,
+};
 use cmh_journal::Sink;
 use cmh_model::Event;
-use cmh_notes::{NoVoice, Note, Noting, Origin, Speaker, Voice};
-use cmh_running::{
-    Disk, EventLine, Flow, JournalSink, NewJournal, Order, Ports, SiteLine, can_be_made,
-    make_journal, parse_for_site,
-};
+use cmh_notes::{NoVoice, Noting, Speaker, Voice};
+use cmh_running::{EventLine, Flow, JournalSink, Order, Ports, SiteLine, parse_for_site};
 use cmh_script::{Ahead, Input, NextLine, Output, read_line};
 use cmh_station::{BATCH_LIMIT, BoardReader, KeptBoard, Listing};
 use std::alloc::{AllocError, Global};
@@ -67,15 +63,14 @@ where
     ensures status { IsStatus result }
 
     // At status 0 it said that it listens, answered each line in its order, and said that it stopped.
-    ensures served { result ≡ 0 → IfSome (I.remaining input.old.inner)
-        (λ bytes. Served site bytes (W.contents out.old.inner) (W.contents out.new.inner)) }
+    ensures served { result ≡ 0 → IfSome input.old.left (λ bytes. Served site bytes out.old.written out.new.written) }
     ensures flushed { result ≡ 0 → out.new.is_flushed ≡ true }
     ensures silent { result ≡ 0 → err.new ≡ err.old }
 
     // Else a fault is named that has a cause.
     ensures fault { result ≢ 0 → NamesFault
-        (IsSiteFault topology.now site (I.remaining input.old.inner) input.new.has_failed out.new.has_failed)
-        result (E.contents err.old.inner) (E.contents err.new.inner) err.new.has_failed }
+        (IsSiteFault topology.now site input.old.left input.new.has_failed out.new.has_failed)
+        result err.old err.new }
 {
     let nobody: Option<NoVoice> = None;
     let start = SiteStart {
@@ -85,18 +80,6 @@ where
         patience: Duration::ZERO,
     };
     run_site_noting(rt, alloc, start, input, out, err, nobody)
-}
-
-/// What one site is started with.
-#[derive(Clone, Copy)]
-pub struct SiteStart<'a> {
-    /// The bytes of the topology file.
-    pub topology: &'a [u8],
-    pub site: SiteId,
-    /// The path of the journal.
-    pub journal: &'a str,
-    /// How long sites that can't be connected are tried again, for all together.
-    pub patience: Duration,
 }
 
 /// The same, where what the site notices is told by a voice, if there is one, in a thread that nobody waits for.
@@ -110,28 +93,20 @@ pub fn run_site_noting<R, I: BufRead + Ahead, W: Write, E: Write, V>(
     voice: Option<V>,
 ) -> u8
 where
-    R: Wait
-        + Threads
-        + Clock
-        + Net<Listener = TcpListener, Stream = TcpStream>
-        + Files<File = File>
-        + Copy
-        + Send
-        + Drop
-        + 'static,
+    R: System + Files<File = File> + Send + 'static,
     V: Voice + Send + Drop + 'static,
     ensures status { IsStatus result }
 
     // At status 0 it said that it listens, answered each line in its order, and said that it stopped.
-    ensures served { result ≡ 0 → IfSome (I.remaining input.old.inner)
-        (λ bytes. Served start.entry.site bytes (W.contents out.old.inner) (W.contents out.new.inner)) }
+    ensures served { result ≡ 0 → IfSome input.old.left
+        (λ bytes. Served start.entry.site bytes out.old.written out.new.written) }
     ensures flushed { result ≡ 0 → out.new.is_flushed ≡ true }
     ensures silent { result ≡ 0 → err.new ≡ err.old }
 
     // Else a fault is named that has a cause.
     ensures fault { result ≢ 0 → NamesFault
-        (IsSiteFault start.entry.topology.now start.entry.site (I.remaining input.old.inner) input.new.has_failed out.new.has_failed)
-        result (E.contents err.old.inner) (E.contents err.new.inner) err.new.has_failed }
+        (IsSiteFault start.entry.topology.now start.entry.site input.old.left input.new.has_failed out.new.has_failed)
+        result err.old err.new }
 {
     let noting = match Noting::start(rt, alloc, voice) {
         Ok(noting) => noting,
@@ -143,9 +118,14 @@ where
         journal,
         patience,
     } = start;
-    let served = site_into(
-        rt, alloc, topology, site, journal, patience, input, out, &noting,
-    );
+    // The borrow checker does not cover a record of references that is passed on as it came.
+    let start = SiteStart {
+        topology,
+        site,
+        journal,
+        patience,
+    };
+    let served = site_into(rt, alloc, start, input, out, &noting);
     noting.end(&rt);
     match served {
         Ok(()) => 0,
@@ -156,37 +136,39 @@ where
 fn site_into<R, I: BufRead + Ahead, W: Write>(
     rt: R,
     alloc: Global,
-    topology: &[u8],
-    site: SiteId,
-    journal: &str,
-    patience: Duration,
+    start: SiteStart<'_>,
     input: &mut Input<I>,
     out: &mut Output<W>,
     noting: &Noting,
 ) -> Result<(), Fault>
 where
-    R: Wait
-        + Threads
-        + Clock
-        + Net<Listener = TcpListener, Stream = TcpStream>
-        + Files<File = File>
-        + Copy
-        + Send
-        + Drop
-        + 'static,
-    ensures served { OnOk result (IfSome (I.remaining input.old.inner)
-        (λ bytes. Served site bytes (W.contents out.old.inner) (W.contents out.new.inner))) }
+    R: System + Files<File = File> + Send + 'static,
+    ensures served { OnOk result (IfSome input.old.left
+        (λ bytes. Served start.entry.site bytes out.old.written out.new.written)) }
     ensures flushed { OnOk result (out.new.is_flushed ≡ true) }
     ensures fault { IfErr result
-        (IsSiteFault topology.now site (I.remaining input.old.inner) input.new.has_failed out.new.has_failed) }
+        (IsSiteFault start.entry.topology.now start.entry.site input.old.left input.new.has_failed out.new.has_failed) }
 {
+    let SiteStart {
+        topology,
+        site,
+        journal,
+        patience,
+    } = start;
     let (file, ports) = read_topology_file_with_ports(alloc, topology)?;
     let world = Topology::new(alloc, file.edition, &file.rows)?;
     if !world.has_site(site) {
         return Err(Fault::Site);
     }
     let ports = Ports::new(alloc, &file.rows, &ports)?;
-    let mut host = SiteHost::start(rt, alloc, &world, site, &ports, journal, patience, noting)?;
+    let place = Place {
+        topology: &world,
+        ports: &ports,
+        site,
+        journal,
+        patience,
+    };
+    let mut host = SiteHost::start(rt, alloc, place, noting)?;
     let answered = host.serve(input, out);
     host.stop();
     answered?;
@@ -195,43 +177,10 @@ where
     Ok(())
 }
 
-/// Notes the number under which a journal of before was kept.
-fn note_kept<R: Wait>(rt: &R, speaker: Option<&Speaker>, kept: Option<u32>) {
-    if let (Some(speaker), Some(number)) = (speaker, kept) {
-        speaker.note(rt, Note::Kept(number));
-    }
-}
-
-/// Listens on a port before the journal is made, so that a site which runs already keeps its journal, and one whose port
-/// is taken leaves nothing behind. Where both the journal can't be made and the port is taken, the journal is named.
-fn listen_at<R>(rt: &R, alloc: Global, port: u16, journal: &str) -> Result<TcpListen<R>, Fault>
-where
-    R: Net<Listener = TcpListener, Stream = TcpStream> + Files<File = File> + Clock + Copy + Drop,
-    ensures listens { IfOk result (λ listen. listen.faults ≡ 0) }
-    ensures fault { IfErr result (λ fault. (fault ≡ Fault.Listen) ⊎ (fault ≡ Fault.JournalDisk)
-        ⊎ (fault ≡ Fault.Memory)) }
-{
-    if let Ok(listen) = TcpListen::bind(rt, alloc, port) {
-        return Ok(listen);
-    }
-    if can_be_made(&mut Disk::new(rt), alloc, journal)? {
-        Err(Fault::Listen)
-    } else {
-        Err(Fault::JournalDisk)
-    }
-}
-
 /// A running site, as the lines of its input know it.
-pub struct SiteHost<'a, R>
+struct SiteHost<'a, R>
 where
-    R: Wait
-        + Threads
-        + Clock
-        + Net<Listener = TcpListener, Stream = TcpStream>
-        + Copy
-        + Send
-        + Drop
-        + 'static,
+    R: System + Send + 'static,
     JournalSink: Sink,
     KeptBoard<R>: Listing,
     TcpDial<R>: Dial,
@@ -249,50 +198,31 @@ where
 
 impl<'a, R> SiteHost<'a, R>
 where
-    R: Wait
-        + Threads
-        + Clock
-        + Net<Listener = TcpListener, Stream = TcpStream>
-        + Files<File = File>
-        + Copy
-        + Send
-        + Drop
-        + 'static,
+    R: System + Files<File = File> + Send + 'static,
 {
     /// Takes the site's port, makes its journal, and starts its threads.
-    pub fn start(
-        rt: R,
-        alloc: Global,
-        topology: &'a Topology,
-        site: SiteId,
-        ports: &Ports,
-        journal: &str,
-        patience: Duration,
-        noting: &Noting,
-    ) -> Result<Self, Fault>
-        ensures site { IfOk result (λ host. host.site ≡ site) }
+    fn start(rt: R, alloc: Global, place: Place<'a>, noting: &Noting) -> Result<Self, Fault>
+        ensures site { IfOk result (λ host. host.site ≡ place.entry.site) }
         ensures unconnected { IfOk result (λ host. host.has_connected ≡ false) }
         ensures fault { IfErr result (λ fault. (fault ≡ Fault.Listen) ⊎ (fault ≡ Fault.JournalDisk)
             ⊎ (fault ≡ Fault.Memory)) }
     {
-        let pairs = ports.pairs(alloc)?;
-        let speaker = noting.speaker(Origin::Alone)?;
-        let theirs = noting.speaker(Origin::Alone)?;
-        let Some(port) = ports.of(site) else {
-            // Never so: each row has its port.
-            return Err(Fault::Listen);
+        let Place {
+            topology,
+            ports,
+            site,
+            journal,
+            patience,
+        } = place;
+        // As above.
+        let place = Place {
+            topology,
+            ports,
+            site,
+            journal,
+            patience,
         };
-        let listen = listen_at(&rt, alloc, port, journal)?;
-        let NewJournal { sink, kept } = match make_journal(&rt, alloc, journal) {
-            Ok(made) => made,
-            Err(refused) => return Err(fault_of(refused, Fault::JournalDisk)),
-        };
-        let opened = open_station(rt, alloc, topology, site, sink, Fault::JournalDisk)?;
-        note_kept(&rt, speaker.as_ref(), kept);
-        let dial = TcpDial::new(rt, pairs).with_patience(patience);
-        let (station, reader, threads) = start_threads(
-            rt, alloc, topology, site, opened, listen, dial, theirs,
-        )?;
+        let ((station, reader, threads), speaker) = start_site(rt, alloc, place, noting)?;
         Ok(SiteHost {
             rt,
             alloc,
@@ -304,22 +234,6 @@ where
             threads,
             has_connected: false,
         })
-    }
-
-    /// Its station, the reader of its board, its threads, and what makes its notes.
-    pub fn into_parts(self) -> (Started<R>, Option<Speaker>) {
-        let SiteHost {
-            rt: _,
-            alloc: _,
-            topology: _,
-            site: _,
-            station,
-            speaker,
-            reader,
-            threads,
-            has_connected: _,
-        } = self;
-        ((station, reader, threads), speaker)
     }
 
     /// Ends the threads.
@@ -345,10 +259,10 @@ where
         input: &mut Input<I>,
         out: &mut Output<W>,
     ) -> Result<(), Fault>
-        ensures served { IfSome (I.remaining input.old.inner) (λ bytes.
+        ensures served { IfSome input.old.left (λ bytes.
             Welcomed self.old.site self.old.has_connected bytes
-            (W.contents out.old.inner) (W.contents out.new.inner) out.new.has_failed result) }
-        ensures fault { IfErr result (IsPlayFault (I.remaining input.old.inner) input.new.has_failed out.new.has_failed) }
+            out.old.written out.new.written out.new.has_failed result) }
+        ensures fault { IfErr result (IsPlayFault input.old.left input.new.has_failed out.new.has_failed) }
     {
         out.write_line("listening")?;
         out.flush()?;
@@ -362,10 +276,10 @@ where
         input: &mut Input<I>,
         out: &mut Output<W>,
     ) -> Result<(), Fault>
-        ensures answers { IfSome (I.remaining input.old.inner) (λ bytes.
+        ensures answers { IfSome input.old.left (λ bytes.
             Conversed (IsTurnOfSite self.old.site) self.old.has_connected bytes
-            (W.contents out.old.inner) (W.contents out.new.inner) out.new.has_failed result) }
-        ensures fault { IfErr result (IsPlayFault (I.remaining input.old.inner) input.new.has_failed out.new.has_failed) }
+            out.old.written out.new.written out.new.has_failed result) }
+        ensures fault { IfErr result (IsPlayFault input.old.left input.new.has_failed out.new.has_failed) }
     {
         let mut buffer = Vec::new(self.alloc);
         let mut events = Vec::new(self.alloc);
@@ -402,8 +316,7 @@ where
         out: &mut Output<W>,
     ) -> Result<(), Fault>
         requires { length events.old.items ≤ batch_limit }
-        ensures answered { OnOk result (WereAnswered events.old.items (W.contents out.old.inner)
-            (W.contents out.new.inner)) }
+        ensures answered { OnOk result (WereAnswered events.old.items out.old.written out.new.written) }
         ensures none { OnOk result (events.new.items ≡ []) }
         ensures fault { IfErr result (λ fault. (fault ≡ Fault.Output) × (out.new.has_failed ≡ true)) }
     {
@@ -420,9 +333,9 @@ where
     /// Answers a line, and flushes the answer.
     fn answer<W: Write>(&mut self, said: SiteLine, out: &mut Output<W>) -> Result<Flow, Fault>
         ensures answers { IfOk result (λ flow. SaidTurn self.old.site self.old.has_connected self.new.has_connected
-            said flow (W.contents out.old.inner) (W.contents out.new.inner)) }
+            said flow out.old.written out.new.written) }
         ensures site { self.new.site ≡ self.old.site }
-        ensures fault { IfErr result (IsAnswerFault (W.contents out.old.inner) (W.contents out.new.inner) out.new.has_failed) }
+        ensures fault { IfErr result (IsAnswerFault out.old.written out.new.written out.new.has_failed) }
     {
         let (reply, flow) = self.reply(said)?;
         out.write_text(&reply)?;

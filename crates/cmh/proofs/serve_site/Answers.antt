@@ -21,7 +21,7 @@ returns-clause-serves_some g c = inl (
 
 pub returns-clause-serves : goal.returns-clause-serves
 returns-clause-serves g c = λ site is told.
-    subst (λ (s : ℕ). ServesSite s (g.I.Read.remaining c.args.input.now.inner) c.run_site_noting.new.input.has_failed (g.W.Write.contents c.args.out.now.inner) (g.W.Write.contents c.run_site_noting.new.out.inner) c.run_site_noting.new.out.has_failed c.run_site_noting.new.out.is_flushed (g.E.Write.contents c.args.err.now.inner) (g.E.Write.contents c.run_site_noting.new.err.inner) c.run_site_noting.new.err.has_failed c.run_site_noting.result)
+    subst (λ (s : ℕ). ServesSite s c.args.input.now c.run_site_noting.new.input c.args.out.now c.run_site_noting.new.out c.args.err.now c.run_site_noting.new.err c.run_site_noting.result)
     (c.in-Some.ensures.1 ∙ c.number_of.ensures site is told)
     (inl (
       _,

@@ -6,9 +6,9 @@ use Rattle.cmh.proofs.drawing.draw.Goals as goal
 
 pub returns-in-Ok-clause-draws : goal.returns-in-Ok-clause-draws
 returns-in-Ok-clause-draws g c = λ kind format told how.
-    subst (λ (k : AKind). DrawsFiles k format (g.W.Write.contents c.args.out.now.inner) (g.W.Write.contents c.run_draw.new.out.inner) c.run_draw.new.out.has_failed c.run_draw.new.out.is_flushed (g.E.Write.contents c.args.err.now.inner) (g.E.Write.contents c.run_draw.new.err.inner) c.run_draw.new.err.has_failed c.run_draw.result)
+    subst (λ (k : AKind). DrawsFiles k format c.args.out.now c.run_draw.new.out c.args.err.now c.run_draw.new.err c.run_draw.result)
     (c.kind_of-kind.ensures kind told)
-    (subst (λ (f : AFormat). DrawsFiles c.kind_of-kind.result f (g.W.Write.contents c.args.out.now.inner) (g.W.Write.contents c.run_draw.new.out.inner) c.run_draw.new.out.has_failed c.run_draw.new.out.is_flushed (g.E.Write.contents c.args.err.now.inner) (g.E.Write.contents c.run_draw.new.err.inner) c.run_draw.new.err.has_failed c.run_draw.result)
+    (subst (λ (f : AFormat). DrawsFiles c.kind_of-kind.result f c.args.out.now c.run_draw.new.out c.args.err.now c.run_draw.new.err c.run_draw.result)
     (c.format_of-format.ensures format how)
     (inl (_, _, c.run_draw.ensures.ends)))
 

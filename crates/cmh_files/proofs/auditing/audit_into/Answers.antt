@@ -11,6 +11,6 @@ returns-clause-wrote g c =
       verdict = c.in_ok-audited.audited.verdict;
       audits = c.in_ok-audited.ensures.audits.audits;
       status_is = c.status_of-status.ensures;
-      wrote = subst (λ (text : List ℕ). Appends (g.W.Write.contents c.args.out.now.inner) (g.W.Write.contents c.flush.new.self.inner) text)
+      wrote = subst (λ (text : List ℕ). Appends c.args.out.now.written c.flush.new.self.written text)
           (c.as_str.ensures.value ∙ c.in_ok-text.ensures) (appends-kept _ _ _ _ c.in_ok-write_text.ensures.bytes c.flush.ensures.bytes);
     }

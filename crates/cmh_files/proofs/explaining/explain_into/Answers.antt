@@ -29,6 +29,6 @@ returns-clause-wrote g c =
       reasons = told.0;
       are_reasons = subst (λ (world : Topology). AreReasons world of.audits.journals verdict told.0) (sym of.world_is)
           (subst (λ (js : List Journal). AreReasons c.in_ok-audited.audited.world js verdict told.0) (sym of.journals_are) told.1);
-      wrote = subst (λ (text : List ℕ). Appends (g.W.Write.contents c.args.out.now.inner) (g.W.Write.contents c.flush.new.self.inner) text)
+      wrote = subst (λ (text : List ℕ). Appends c.args.out.now.written c.flush.new.self.written text)
           (c.as_str.ensures.value ∙ told.2) (appends-kept _ _ _ _ c.in_ok-write_text.ensures.bytes c.flush.ensures.bytes);
     }

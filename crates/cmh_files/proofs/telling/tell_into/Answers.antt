@@ -43,6 +43,6 @@ returns-clause-wrote g c =
       steps = steps;
       are_steps = subst (λ (world : Topology). AreStepsToTell world of.audits.journals verdict steps) (sym of.world_is)
           (subst (λ (js : List Journal). AreStepsToTell c.in_ok-audited.audited.world js verdict steps) (sym of.journals_are) c.in_ok-steps.ensures);
-      wrote = subst₂ (λ (a b : List ℕ). Appends (g.W.Write.contents c.args.out.now.inner) (g.W.Write.contents c.flush.new.self.inner) (a ++ b))
+      wrote = subst₂ (λ (a b : List ℕ). Appends c.args.out.now.written c.flush.new.self.written (a ++ b))
           first lines (appends-kept _ _ _ _ both c.flush.ensures.bytes);
     }

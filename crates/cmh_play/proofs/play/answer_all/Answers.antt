@@ -6,39 +6,39 @@ use Rattle.cmh_files.specs.declared.faults.Fault.TheVariants.{Input}
 use Rattle.cmh_play.proofs.play.answer_all.Goals as goal
 
 pub loop-turn-init : goal.loop-turn-init
-loop-turn-init g c = record { led = led_begun g.K.Keeper.wants c.args.game.now _ _ c.requires; unfailed = refl }
+loop-turn-init g c = record { led = led_begun g.K.Keeper.wants c.args.state.now _ _ c.requires; unfailed = refl }
 
 pub loop-turn-preserved : goal.loop-turn-preserved
 loop-turn-preserved g c = record {
-  led = rw c.has_line.ensures.inner
-      (led_more g.K.Keeper.keeps g.K.Keeper.wants c.loop-turn.game c.answer_line.new.self _ _ _ _ _ _ c.loop-turn.turn c.in_ok-next.next _ _ c.loop-turn.invariant.led
+  led = rw c.has_line.ensures.left
+      (led_more g.K.Keeper.keeps g.K.Keeper.wants c.loop-turn.state c.answer_line.new.self _ _ _ _ _ _ c.loop-turn.turn c.in_ok-next.next _ _ c.loop-turn.invariant.led
       c.in_ok-next.ensures.line c.in_ok-next.ensures.rest (c.is_end.ensures.no c.if-is_end.false) c.in_ok-answer_line.ensures.answers);
   unfailed = c.in_ok-answer_line.ensures.unfailed ∙ c.loop-turn.invariant.unfailed;
 }
 
 pub returns-then-is_end-clause-answers : goal.returns-then-is_end-clause-answers
 returns-then-is_end-clause-answers g c =
-    answered_all _ _ _ _ c.loop-turn.invariant.led.game c.loop-turn.turn c.loop-turn.invariant.led.played c.in_ok-next.next _
+    answered_all _ _ _ _ c.loop-turn.invariant.led.state c.loop-turn.turn c.loop-turn.invariant.led.played c.in_ok-next.next _
     c.in_ok-next.ensures.line (c.is_end.ensures.yes c.if-is_end.true)
 
 pub returns-then-is_end-clause-all : goal.returns-then-is_end-clause-all
 returns-then-is_end-clause-all g c = record {
-  game = c.loop-turn.invariant.led.game;
+  state = c.loop-turn.invariant.led.state;
   shows = c.loop-turn.invariant.led.shows;
-  holds = played_to_end _ _ _ _ c.loop-turn.invariant.led.game c.loop-turn.turn c.loop-turn.invariant.led.played c.in_ok-next.next
+  holds = played_to_end _ _ _ _ c.loop-turn.invariant.led.state c.loop-turn.turn c.loop-turn.invariant.led.played c.in_ok-next.next
       c.in_ok-next.ensures.line (c.is_end.ensures.yes c.if-is_end.true);
 }
 
 pub returns-in_err-next-clause-answers : goal.returns-in_err-next-clause-answers
-returns-in_err-next-clause-answers g c = answered_err _ _ _ _ c.loop-turn.invariant.led.game c.loop-turn.turn c.loop-turn.invariant.led.played _ _ c.from_residual.ensures.0
+returns-in_err-next-clause-answers g c = answered_err _ _ _ _ c.loop-turn.invariant.led.state c.loop-turn.turn c.loop-turn.invariant.led.played _ _ c.from_residual.ensures.0
 
 pub returns-in_err-next-clause-fault : goal.returns-in_err-next-clause-fault
 returns-in_err-next-clause-fault g c =
-    kept_fault _ _ _ _ _ (read_err _ _ _ _ c.loop-turn.invariant.led.game c.loop-turn.turn c.loop-turn.invariant.led.played _ _ c.from_residual.result c.in_err-next.field-0.0 c.from_residual.ensures.1 c.in_err-next.ensures.fault)
+    kept_fault _ _ _ _ _ (read_err _ _ _ _ c.loop-turn.invariant.led.state c.loop-turn.turn c.loop-turn.invariant.led.played _ _ c.from_residual.result c.in_err-next.field-0.0 c.from_residual.ensures.1 c.in_err-next.ensures.fault)
 
 pub returns-in_err-answer_line-clause-answers : goal.returns-in_err-answer_line-clause-answers
 returns-in_err-answer_line-clause-answers g c =
-    unanswered_err _ _ _ _ c.loop-turn.invariant.led.game c.loop-turn.turn c.loop-turn.invariant.led.played g.K.Keeper.fails _ _ c.from_residual-in_err-answer_line.result c.in_err-answer_line.field-0.0
+    unanswered_err _ _ _ _ c.loop-turn.invariant.led.state c.loop-turn.turn c.loop-turn.invariant.led.played g.K.Keeper.fails _ _ c.from_residual-in_err-answer_line.result c.in_err-answer_line.field-0.0
     c.from_residual-in_err-answer_line.ensures.1 c.in_err-answer_line.ensures.fault
 
 pub returns-in_err-answer_line-clause-fault : goal.returns-in_err-answer_line-clause-fault
@@ -47,7 +47,7 @@ returns-in_err-answer_line-clause-fault g c =
     c.from_residual-in_err-answer_line.ensures.1 c.in_err-answer_line.ensures.fault
 
 pub returns-clause-answers : goal.returns-clause-answers
-returns-clause-answers g c = answered_some _ _ _ _ c.loop-turn.invariant.led.game c.loop-turn.turn c.loop-turn.invariant.led.played _ Input
+returns-clause-answers g c = answered_some _ _ _ _ c.loop-turn.invariant.led.state c.loop-turn.turn c.loop-turn.invariant.led.played _ Input
 
 pub returns-clause-fault : goal.returns-clause-fault
-returns-clause-fault g c = inl (inr (endless_lines _ _ _ _ c.loop-turn.invariant.led.game c.loop-turn.turn c.loop-turn.invariant.led.played c.loop-turn-test.false))
+returns-clause-fault g c = inl (inr (endless_lines _ _ _ _ c.loop-turn.invariant.led.state c.loop-turn.turn c.loop-turn.invariant.led.played c.loop-turn-test.false))

@@ -3,8 +3,8 @@ use Rattle.cmh_play.proofs.KeptPlays.{kept_at_end, kept_none}
 use Rattle.cmh_play.proofs.Plays.{answered_none_err, answered_ended}
 use Rattle.cmh_play.proofs.play.play.Goals as goal
 
-pub returns-in_err-game-clause-answers : goal.returns-in_err-game-clause-answers
-returns-in_err-game-clause-answers g c =
+pub returns-in_err-state-clause-answers : goal.returns-in_err-state-clause-answers
+returns-in_err-state-clause-answers g c =
     kept_none _ _ _ _ _ c.from_residual.result _ (answered_none_err _ _ c.args.alloc _ _ c.from_residual.ensures.0) c.from_residual.ensures.0
 
 pub returns-in_err-played-clause-answers : goal.returns-in_err-played-clause-answers
@@ -24,5 +24,5 @@ returns-in_err-flushed-clause-answers g c =
 pub returns-clause-answers : goal.returns-clause-answers
 returns-clause-answers g c =
     let played = c.in_ok-played.ensures.all in
-    kept_at_end _ _ _ _ _ _ played.game _ _ c.keep_wanted.result played.holds c.flush-flushed.ensures.bytes
-    (on_ok_weaker c.keep_wanted.result (λ kept. kept played.game played.shows) c.keep_wanted.ensures.kept)
+    kept_at_end _ _ _ _ _ _ played.state _ _ c.keep_wanted.result played.holds c.flush-flushed.ensures.bytes
+    (on_ok_weaker c.keep_wanted.result (λ kept. kept played.state played.shows) c.keep_wanted.ensures.kept)

@@ -10,7 +10,7 @@ returns-in_err-send_all-in-Ok-clause-ready c =
 pub add-requires-clause-whole : goal.add-requires-clause-whole
 add-requires-clause-whole c =
     let entry : Entry = record { event = c.args.event; sent = c.in-Ok.outcome.sent; declared = c.in-Ok.outcome.declared } in
-    pushable c.args.topology.now c.args.controller.now c.requires.ready entry c.in-Ok.ensures.accepted c.in-Ok.ensures.sent c.whole_law.ensures.step c.args.books.now.journals c.requires.edition c.args.place
+    pushable c.args.topology.now c.args.controller.now c.requires.ready entry c.in-Ok.ensures.accepted c.in-Ok.ensures.sent c.whole_law.ensures.step c.args.history.now.journals c.requires.edition c.args.place
 
 pub returns-in_err-add-in-Ok-clause-ready : goal.returns-in_err-add-in-Ok-clause-ready
 returns-in_err-add-in-Ok-clause-ready c =
@@ -25,4 +25,4 @@ returns-in_ok-add-in-Ok-clause-ready c =
 pub returns-in_ok-add-in-Ok-clause-kept : goal.returns-in_ok-add-in-Ok-clause-kept
 returns-in_ok-add-in-Ok-clause-kept c =
     let entry : Entry = record { event = c.args.event; sent = c.in-Ok.outcome.sent; declared = c.in-Ok.outcome.declared } in
-    kept_after c.args.topology.now c.args.books.now c.add.new.self c.args.place entry c.requires.edition c.in_ok-add-in-Ok.ensures.ok
+    kept_after c.args.topology.now c.args.history.now c.add.new.self c.args.place entry c.requires.edition c.in_ok-add-in-Ok.ensures.ok

@@ -4,6 +4,6 @@ use Rattle.cmh_script.proofs.lines.read_line.Given as goal
 
 abbrev pub invariant-loop-turn : goal.invariant-loop-turn
 invariant-loop-turn g l = record {
-  seen : HasSeen (g.R.Read.remaining l.initial.input.inner) (g.R.Read.remaining l.input.inner) l.buffer.items l.turn;
+  seen : HasSeen l.initial.input.left l.input.left l.buffer.items l.turn;
   working : l.input.has_failed ≡ l.initial.input.has_failed;
 }

@@ -5,7 +5,7 @@ use Rattle.cmh_site.proofs.cluster.run_cluster_noting.Goals as goal
 
 pub returns-in-Ok-Read-clause-ends : goal.returns-in-Ok-Read-clause-ends
 returns-in-Ok-Read-clause-ends g c =
-    audited _ _ _ _ _ _ _ _ _ _ _ _ _ c.run_audit.ensures.ends (cc) (rw c.in-Ok-Read.field-0-is at c.in-Ok-Read.ensures.played)
+    audited _ _ _ c.cluster_into-played.new.out _ _ _ _ _ _ c.run_audit.ensures.ends (cc) (rw c.in-Ok-Read.field-0-is at c.in-Ok-Read.ensures.played)
 
 pub returns-in-Err-clause-ends : goal.returns-in-Err-clause-ends
 returns-in-Err-clause-ends g c =

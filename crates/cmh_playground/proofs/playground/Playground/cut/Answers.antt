@@ -10,8 +10,8 @@ pub returns : goal.returns
 returns c =
     let a = c.args.from in
     let b = c.args.to in
-    let held : Held = record { topology = c.self.inside.topology; controllers = c.self.inside.controllers.items; books = c.self.inside.books; links = c.self.inside.links } in
-    let new : Held = record { topology = c.self.inside.topology; controllers = c.self.inside.controllers.items; books = c.self.inside.books; links = c.cut.new.self } in
+    let held : Held = record { topology = c.self.inside.topology; controllers = c.self.inside.controllers.items; history = c.self.inside.history; links = c.self.inside.links } in
+    let new : Held = record { topology = c.self.inside.topology; controllers = c.self.inside.controllers.items; history = c.self.inside.history; links = c.cut.new.self } in
     let on : joins held.topology a b ≡ true = ap (λ (h : Held). joins h.topology a b) c.self.view_is ∙ sym c.is_link.ensures ∙ c.if-not-is_link.false in
     subst (λ (h : Held). Leads (λ (before later : World). IsSeverance before later a b (Lost c.len-lost.result)) h new) c.self.view_is
     (cut_led held a b c.cut.new.self c.len-lost.result on

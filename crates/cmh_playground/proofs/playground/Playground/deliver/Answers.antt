@@ -14,7 +14,7 @@ returns-in-Taken c =
     let a = c.args.from in
     let b = c.args.to in
     let done = c.in-Taken.done in
-    let mid : Held = record { topology = c.self-2.inside.topology; controllers = c.self-2.inside.controllers.items; books = c.self-2.inside.books; links = c.self-2.inside.links } in
+    let mid : Held = record { topology = c.self-2.inside.topology; controllers = c.self-2.inside.controllers.items; history = c.self-2.inside.history; links = c.self-2.inside.links } in
     let on : joins c.args.self.now.topology a b ≡ true = sym c.is_link.ensures ∙ c.if-not-is_link.false in
     let led : Leads (λ (before later : World). IsWorldStep before later b (Got a c.in-Some.frame) (Taken done)) c.args.self.now c.step.new.self =
     subst (λ (e : Event). Leads (λ (before later : World). IsWorldStep before later b e (Taken done)) c.args.self.now c.step.new.self) c.got.ensures

@@ -13,5 +13,5 @@ invariant_of-result c =
 
 pub returns : goal.returns
 returns c =
-    let held : Held = record { topology = c.in_ok-copy.field-0; controllers = c.in_ok-new_controllers.field-0.items; books = c.in_ok-new.field-0; links = c.new-2.result } in
+    let held : Held = record { topology = c.in_ok-copy.field-0; controllers = c.in_ok-new_controllers.field-0.items; history = c.in_ok-new.field-0; links = c.new-2.result } in
     shows_new c.args.topology.now c.args.keeps_journals held c.in_ok-copy.ensures c.in_ok-new_controllers.ensures.new c.new_controllers.ensures.ascending c.in_ok-new.ensures c.new-2.ensures

@@ -1,4 +1,4 @@
-use Rattle.std.proofs.Common.{rules, ◌≡◌, ℕ, ◌+◌, [], ◌∷◌, take, arith, ap, sym, ◌∙◌}
+use Rattle.std.proofs.Common.{rules, [], ◌∷◌, take, ap, sym, ◌∙◌}
 use Rattle.cmh_journal.specs.Sink.{known_and}
 use Rattle.cmh_journal.proofs.Telling.{known_and_both}
 use Rattle.cmh_service.specs.Desks.{addressed}

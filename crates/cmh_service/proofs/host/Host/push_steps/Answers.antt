@@ -1,4 +1,4 @@
-use Rattle.std.proofs.Common.{rules, ◌≡◌, ◌+◌, take, inl, inr, refl, sym, subst}
+use Rattle.std.proofs.Common.{rules, ◌+◌, take, inl, sym, subst}
 use Rattle.cmh_service.specs.Replies.{AreReplies}
 use Rattle.cmh_service.proofs.Replies.{one_more}
 use Rattle.cmh_service.proofs.host.Host.push_steps.Goals as goal

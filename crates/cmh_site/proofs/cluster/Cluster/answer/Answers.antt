@@ -1,6 +1,6 @@
 use Rattle.std.proofs.Common.{refl}
 use Rattle.cmh_files.proofs.TextLemmas.{appends-kept}
-use Rattle.cmh_site.specs.SiteReplies.{reply_text}
+use Rattle.cmh_host.specs.SiteReplies.{reply_text}
 use Rattle.cmh_site.proofs.cluster.Cluster.answer.Goals as goal
 
 pub returns-clause-answers : goal.returns-clause-answers

@@ -13,7 +13,7 @@ pub loop-turn-preserved : goal.loop-turn-preserved
 loop-turn-preserved g c = (
   talked_more _ _ _ _ _ _ _ tt c.loop-turn.turn c.loop-turn.invariant.0 _ _ c.in_ok-next.next
       tt c.in_ok-flow.flow c.in_ok-next.ensures.line c.in_ok-next.ensures.rest (c.is_end.ensures.no c.if-is_end.false) c.in-Awaits.is
-      (subst (λ t. HasAnswered (λ said text. IsTurnOfCluster t.now said text) (line_of c.in_ok-next.next) (g.W.Write.contents c.loop-turn.out.inner) (g.W.Write.contents c.answer.new.out.inner)) c.loop-turn.invariant.1 c.in_ok-flow.ensures.answers),
+      (subst (λ t. HasAnswered (λ said text. IsTurnOfCluster t.now said text) (line_of c.in_ok-next.next) c.loop-turn.out.written c.answer.new.out.written) c.loop-turn.invariant.1 c.in_ok-flow.ensures.answers),
   c.in_ok-flow.ensures.topology ∙ c.loop-turn.invariant.1,
 )
 
@@ -21,7 +21,7 @@ pub returns-in-Ends-clause-answers : goal.returns-in-Ends-clause-answers
 returns-in-Ends-clause-answers g c =
     replied_to_end _ _ _ _ _ c.loop-turn.turn c.loop-turn.invariant.0 _ c.in_ok-next.next
     _ c.in_ok-next.ensures.line (c.is_end.ensures.no c.if-is_end.false)
-    (subst (λ t. HasAnswered (λ said text. IsTurnOfCluster t.now said text) (line_of c.in_ok-next.next) (g.W.Write.contents c.loop-turn.out.inner) (g.W.Write.contents c.answer.new.out.inner)) c.loop-turn.invariant.1 c.in_ok-flow.ensures.answers)
+    (subst (λ t. HasAnswered (λ said text. IsTurnOfCluster t.now said text) (line_of c.in_ok-next.next) c.loop-turn.out.written c.answer.new.out.written) c.loop-turn.invariant.1 c.in_ok-flow.ensures.answers)
 
 pub returns-then-is_end-clause-answers : goal.returns-then-is_end-clause-answers
 returns-then-is_end-clause-answers g c =

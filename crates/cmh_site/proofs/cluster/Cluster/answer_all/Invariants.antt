@@ -5,5 +5,5 @@ use Rattle.cmh_site.specs.ClusterEndings.{IsTurn}
 
 abbrev pub invariant-loop-turn : goal.invariant-loop-turn
 invariant-loop-turn g l =
-    HasTalked (Unit {0}) (IsTurn l.initial.self.topology.now) tt (g.I.Read.remaining l.initial.input.inner) (g.I.Read.remaining l.input.inner)
-    (g.W.Write.contents l.initial.out.inner) (g.W.Write.contents l.out.inner) tt l.turn × (l.self.topology ≡ l.initial.self.topology)
+    HasTalked (Unit {0}) (IsTurn l.initial.self.topology.now) tt l.initial.input.left l.input.left
+    l.initial.out.written l.out.written tt l.turn × (l.self.topology ≡ l.initial.self.topology)

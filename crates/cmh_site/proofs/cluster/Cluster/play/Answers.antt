@@ -9,22 +9,20 @@ returns-in_err-start_all-clause-fault g c =
 
 pub returns-in_ok-write_closed-in-Ok-Awaits-clause-played : goal.returns-in_ok-write_closed-in-Ok-Awaits-clause-played
 returns-in_ok-write_closed-in-Ok-Awaits-clause-played g c =
-    let old = g.W.Write.contents c.args.out.now.inner in
-    let new = g.W.Write.contents c.write_closed.new.out.inner in
+    let old = c.args.out.now.written in
+    let new = c.write_closed.new.out.written in
     subst (λ t. Answered t.now c.args.script.now old new) c.start_all.ensures.topology
-    (subst (λ s. Answered c.start_all.new.self.topology.now s.now old new) c.new-input.ensures.inner
-    (answered c.start_all.new.self.topology.now c.new-input.result.inner.now old _ new _ c.answer_all.result c.in-Ok-Awaits.field-0 c.in-Ok-Awaits.is c.in-Ok-Awaits.field-0-is
-    c.answer_all.ensures.answers c.in_ok-write_closed-in-Ok-Awaits.ensures.closed))
+    (answered c.start_all.new.self.topology.now c.args.script.now old _ new _ c.answer_all.result c.in-Ok-Awaits.field-0 c.in-Ok-Awaits.is c.in-Ok-Awaits.field-0-is
+    (rw c.new-input.ensures.left at c.answer_all.ensures.answers) c.in_ok-write_closed-in-Ok-Awaits.ensures.closed)
 
 pub returns-in-Err : goal.returns-in-Err
 returns-in-Err g c =
-    let old = g.W.Write.contents c.args.out.now.inner in
-    let new = g.W.Write.contents c.answer_all.new.out.inner in
+    let old = c.args.out.now.written in
+    let new = c.answer_all.new.out.written in
     let failed = c.answer_all.new.out.has_failed in
     record {
       played = tt;
       fault = subst (λ t. IsRunFault t.now c.args.script.now old new failed c.of_script.result) c.start_all.ensures.topology
-          (subst (λ s. IsRunFault c.start_all.new.self.topology.now s.now old new failed c.of_script.result) c.new-input.ensures.inner
-          (run_fault_at c.start_all.new.self.topology.now c.new-input.result.inner.now old new failed (Some c.new-input.result.inner.now) c.answer_all.new.input.has_failed c.answer_all.result c.in-Err.fault c.of_script.result c.in-Err.is c.of_script.ensures
-          c.answer_all.ensures.answers c.answer_all.ensures.fault));
+          (run_fault_at c.start_all.new.self.topology.now c.args.script.now old new failed (Some c.args.script.now) c.answer_all.new.input.has_failed c.answer_all.result c.in-Err.fault c.of_script.result c.in-Err.is c.of_script.ensures
+          (rw c.new-input.ensures.left at c.answer_all.ensures.answers) (rw c.new-input.ensures.left at c.answer_all.ensures.fault));
     }

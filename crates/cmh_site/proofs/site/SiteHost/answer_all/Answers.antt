@@ -1,4 +1,4 @@
-use Rattle.std.proofs.Common.{ap, inr, refl, rules, sym, ◌∙◌}
+use Rattle.std.proofs.Common.{inr, refl, rules, sym, ◌∙◌}
 use Rattle.cmh_files.specs.declared.faults.Fault.TheVariants.{Input}
 use Rattle.cmh_running.proofs.Dialogues.{talked_all, talked_fault_err, talked_more, talked_to_end}
 use Rattle.cmh_site.proofs.Waiting.{all_told, answered_line, endless_wait, turn_anew, unread_err, waited_err, waited_failed, waited_some, waits_begin, waits_on}
@@ -55,19 +55,19 @@ pub loop-turn-preserved : goal.loop-turn-preserved
 loop-turn-preserved g c = elim c.match-event_of.branch [
   | in-Ok+in_ok-push-in-Ok+then-len-ge-BATCH_LIMIT+in_ok-answer_waiting-in-Ok w ↦ rw w.self-is (rw w.input-is (rw w.out-is (rw w.events-is (elim w.then-len-ge-BATCH_LIMIT.branch [
     | then-len-ge-BATCH_LIMIT-via-then-len-ge-BATCH_LIMIT w' ↦ rw w'.input-is (turn_anew _ _ _ _ _ _ _ _ _ _ c.loop-turn.invariant.0 w.in_ok-answer_waiting-in-Ok.ensures.none
-        (all_told _ _ _ _ _ _ c.loop-turn.self.has_connected _ _ (waits_on _ _ _ _ _ _ c.loop-turn.self.has_connected c.loop-turn.events.items c.loop-turn.turn c.loop-turn.invariant.2 (g.I.Read.remaining c.read_line.new.input.inner) _ _ c.in_ok-next.next c.in_ok-said.said w.in-Ok.event
+        (all_told _ _ _ _ _ _ c.loop-turn.self.has_connected _ _ (waits_on _ _ _ _ _ _ c.loop-turn.self.has_connected c.loop-turn.events.items c.loop-turn.turn c.loop-turn.invariant.2 c.read_line.new.input.left _ _ c.in_ok-next.next c.in_ok-said.said w.in-Ok.event
         refl w.in_ok-push-in-Ok.ensures.items c.in_ok-next.ensures.line c.in_ok-next.ensures.rest (c.is_end.ensures.no c.if-is_end.false)
         c.in_ok-said.ensures w.in-Ok.ensures.event) _ w.in_ok-answer_waiting-in-Ok.ensures.answered))
     | then-len-ge-BATCH_LIMIT-via-else-len-ge-BATCH_LIMIT+then-not-has_line w' ↦ rw w'.input-is (turn_anew _ _ _ _ _ _ _ _ _ _ c.loop-turn.invariant.0 w.in_ok-answer_waiting-in-Ok.ensures.none
-        (all_told _ _ _ _ _ _ c.loop-turn.self.has_connected _ _ (waits_on _ _ _ _ _ _ c.loop-turn.self.has_connected c.loop-turn.events.items c.loop-turn.turn c.loop-turn.invariant.2 (g.I.Read.remaining c.read_line.new.input.inner) _ _ c.in_ok-next.next c.in_ok-said.said w.in-Ok.event
-        (ap g.I.Read.remaining w'.has_line.ensures.inner) w.in_ok-push-in-Ok.ensures.items c.in_ok-next.ensures.line c.in_ok-next.ensures.rest (c.is_end.ensures.no c.if-is_end.false)
+        (all_told _ _ _ _ _ _ c.loop-turn.self.has_connected _ _ (waits_on _ _ _ _ _ _ c.loop-turn.self.has_connected c.loop-turn.events.items c.loop-turn.turn c.loop-turn.invariant.2 c.read_line.new.input.left _ _ c.in_ok-next.next c.in_ok-said.said w.in-Ok.event
+        w'.has_line.ensures.left w.in_ok-push-in-Ok.ensures.items c.in_ok-next.ensures.line c.in_ok-next.ensures.rest (c.is_end.ensures.no c.if-is_end.false)
         c.in_ok-said.ensures w.in-Ok.ensures.event) _ w.in_ok-answer_waiting-in-Ok.ensures.answered))
   ]))))
   | in-Ok+in_ok-push-in-Ok+else-len-ge-BATCH_LIMIT+else-not-has_line w ↦ rw w.self-is (rw w.input-is (rw w.out-is (rw w.events-is (
     c.loop-turn.invariant.0,
     search rules,
-    (waits_on _ _ _ _ _ _ c.loop-turn.self.has_connected c.loop-turn.events.items c.loop-turn.turn c.loop-turn.invariant.2 (g.I.Read.remaining c.read_line.new.input.inner) _ _ c.in_ok-next.next c.in_ok-said.said w.in-Ok.event
-        (ap g.I.Read.remaining w.has_line.ensures.inner) w.in_ok-push-in-Ok.ensures.items c.in_ok-next.ensures.line c.in_ok-next.ensures.rest (c.is_end.ensures.no c.if-is_end.false)
+    (waits_on _ _ _ _ _ _ c.loop-turn.self.has_connected c.loop-turn.events.items c.loop-turn.turn c.loop-turn.invariant.2 c.read_line.new.input.left _ _ c.in_ok-next.next c.in_ok-said.said w.in-Ok.event
+        w.has_line.ensures.left w.in_ok-push-in-Ok.ensures.items c.in_ok-next.ensures.line c.in_ok-next.ensures.rest (c.is_end.ensures.no c.if-is_end.false)
         c.in_ok-said.ensures w.in-Ok.ensures.event),
   ))))
   | in-Err+in_ok-answer_waiting-in-Err+in_ok-answer-in-Err+in-Awaits w ↦ rw w.self-is (rw w.input-is (rw w.out-is (rw w.events-is (

@@ -1,0 +1,4 @@
+pub mod Opening
+pub mod SiteReplies
+pub mod Steps
+pub mod Together

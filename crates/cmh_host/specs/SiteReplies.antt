@@ -1,0 +1,29 @@
+-- What is written for a line that running sites are given.
+use Rattle.std.specs.Prelude.{ℕ, List, [], ◌++◌, codes}
+use Rattle.std.specs.Fmt.{decimal}
+use Rattle.cmh_files.specs.AuditTexts.{members_text, texts_of}
+use Rattle.cmh_table.specs.Table.{number_of, state_text}
+use Rattle.cmh_playground.specs.Texts.{done_text}
+use Rattle.cmh_station.specs.Journaled as station
+use Rattle.cmh_host.specs.declared.site_reply.ClosedLink.{ClosedLink}
+use Rattle.cmh_host.specs.declared.site_reply.LinkEnds.{LinkEnds}
+use Rattle.cmh_host.specs.declared.site_reply.SiteReply.{SiteReply}
+use Rattle.cmh_host.specs.declared.site_reply.SiteReply.TheVariants.{Silent, BadLine, BadLink, Late, Taken, Refused, Declared, Connected, Links}
+
+abbrev pub ends_text : LinkEnds → List ℕ
+ends_text ends = codes "out " ++ decimal ends.site ++ codes " " ++ state_text ends.outgoing
+    ++ codes "\nin " ++ decimal ends.site ++ codes " " ++ state_text ends.incoming ++ codes "\n"
+
+abbrev pub closed_text : ClosedLink → List ℕ
+closed_text link = codes "link " ++ decimal link.from ++ codes " " ++ decimal link.to ++ codes " closed " ++ decimal (number_of link.fault)
+
+abbrev pub reply_text : SiteReply → List ℕ
+reply_text Silent = []
+reply_text BadLine = codes "bad line\n"
+reply_text BadLink = codes "bad link\n"
+reply_text Late = codes "late\n"
+reply_text (Taken done) = codes "ok " ++ done_text done ++ codes "\n"
+reply_text (Refused refusal) = codes "refused " ++ decimal (station.number_of refusal) ++ codes "\n"
+reply_text (Declared site processes) = codes "site " ++ decimal site ++ codes " declared" ++ members_text processes ++ codes "\n"
+reply_text (Connected connected failed) = codes "connected " ++ decimal connected ++ codes " failed " ++ decimal failed ++ codes "\n"
+reply_text (Links links) = texts_of ends_text links.items

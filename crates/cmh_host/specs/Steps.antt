@@ -1,0 +1,48 @@
+-- What a running site answers to an event, and to a question.
+use Rattle.std.specs.Prelude.{◌≡◌, ℕ, All, Contains, List, length, ⊤}
+use Rattle.cmh_frames.specs.declared.frame.Frame.{Frame}
+use Rattle.cmh_model.specs.declared.event.Event.{Event}
+use Rattle.cmh_playground.specs.declared.site.Done.{Done}
+use Rattle.cmh_station.specs.Journaled.{Journaled}
+use Rattle.cmh_station.specs.Steps.{NotStepped, Stepped}
+use Rattle.cmh_station.specs.declared.refusal.StationRefusal.{StationRefusal}
+use Rattle.cmh_host.specs.declared.site_reply.SiteReply.{SiteReply}
+use Rattle.cmh_host.specs.declared.site_reply.SiteReply.TheVariants.{Taken, Refused, Declared, Links}
+
+-- A station took the event, by the rules, and its entry was kept. Which station it was is not told: what comes out of a lock
+-- is known by its type alone.
+pub record WasTaken (event : Event) (done : Done) : Type 0 where
+  pub before : Journaled
+  pub after : Journaled
+  pub sent : List (ℕ × Frame)
+  pub step : Stepped before event sent done.declared after
+  pub counted : done.sent ≡ length sent
+
+-- a station refused it
+pub record WasRefused (event : Event) (refusal : StationRefusal) : Type 0 where
+  pub before : Journaled
+  pub after : Journaled
+  pub step : NotStepped before event refusal after
+
+abbrev pub WasStepped : Event → SiteReply → Type 0
+WasStepped event (Taken done) = WasTaken event done
+WasStepped event (Refused refusal) = WasRefused event refusal
+WasStepped event reply = ⊥
+
+abbrev pub IsDeclared : ℕ → SiteReply → Type 0
+IsDeclared site (Declared named processes) = named ≡ site
+IsDeclared site reply = ⊥
+
+-- these processes are told
+abbrev pub IsListOf : List ℕ → SiteReply → Type 0
+IsListOf list (Declared named processes) = processes ≡ list
+IsListOf list reply = ⊥
+
+abbrev pub IsLinks : SiteReply → Type 0
+IsLinks (Links links) = ⊤
+IsLinks reply = ⊥
+
+-- each link is with one of these sites
+abbrev pub AreLinksOf : List ℕ → SiteReply → Type 0
+AreLinksOf sites (Links links) = All (λ ends. Contains sites ends.site) links.items
+AreLinksOf sites reply = ⊥

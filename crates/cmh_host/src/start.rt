@@ -1,0 +1,103 @@
+//! How a site starts: its port, its journal, and its threads.
+
+ghost use Rattle.std.specs.Prelude.{◌≡◌, ◌⊎◌, IfOk, IfErr};
+
+use crate::starting::{Started, fault_of, open_station, start_threads};
+use crate::system::System;
+use cmh_carriers::{TcpDial, TcpListen};
+use cmh_files::Fault;
+use cmh_frames::{SiteId, Topology};
+use cmh_notes::{Note, Noting, Origin, Speaker};
+use cmh_running::{Disk, NewJournal, Ports, can_be_made, make_journal};
+use std::alloc::Global;
+use std::fs::File;
+use std::net::{Net, TcpListener, TcpStream};
+use std::rt::Files;
+use std::sync::Wait;
+use std::time::{Clock, Duration};
+
+/// What one site is started with.
+#[derive(Clone, Copy)]
+pub struct SiteStart<'a> {
+    /// The bytes of the topology file.
+    pub topology: &'a [u8],
+    pub site: SiteId,
+    /// The path of the journal.
+    pub journal: &'a str,
+    /// How long sites that can't be connected are tried again, for all together.
+    pub patience: Duration,
+}
+
+/// The same, where the topology file was read.
+#[derive(Clone, Copy)]
+pub struct Place<'a> {
+    pub topology: &'a Topology,
+    pub ports: &'a Ports,
+    pub site: SiteId,
+    pub journal: &'a str,
+    pub patience: Duration,
+}
+
+/// Takes the site's port, makes its journal, and starts its threads. What is answered beside them makes its notes.
+pub fn start_site<R>(
+    rt: R,
+    alloc: Global,
+    place: Place<'_>,
+    noting: &Noting,
+) -> Result<(Started<R>, Option<Speaker>), Fault>
+where
+    R: System + Files<File = File> + Send + 'static,
+    ensures fault { IfErr result (λ fault. (fault ≡ Fault.Listen) ⊎ (fault ≡ Fault.JournalDisk)
+        ⊎ (fault ≡ Fault.Memory)) }
+{
+    let Place {
+        topology,
+        ports,
+        site,
+        journal,
+        patience,
+    } = place;
+    let pairs = ports.pairs(alloc)?;
+    let speaker = noting.speaker(Origin::Alone)?;
+    let theirs = noting.speaker(Origin::Alone)?;
+    let Some(port) = ports.of(site) else {
+        // Never so: each row has its port.
+        return Err(Fault::Listen);
+    };
+    let listen = listen_at(&rt, alloc, port, journal)?;
+    let NewJournal { sink, kept } = match make_journal(&rt, alloc, journal) {
+        Ok(made) => made,
+        Err(refused) => return Err(fault_of(refused, Fault::JournalDisk)),
+    };
+    let opened = open_station(rt, alloc, topology, site, sink, Fault::JournalDisk)?;
+    note_kept(&rt, speaker.as_ref(), kept);
+    let dial = TcpDial::new(rt, pairs).with_patience(patience);
+    let started = start_threads(rt, alloc, topology, site, opened, listen, dial, theirs)?;
+    Ok((started, speaker))
+}
+
+/// Notes the number under which a journal of before was kept.
+fn note_kept<R: Wait>(rt: &R, speaker: Option<&Speaker>, kept: Option<u32>) {
+    if let (Some(speaker), Some(number)) = (speaker, kept) {
+        speaker.note(rt, Note::Kept(number));
+    }
+}
+
+/// Listens on a port before the journal is made, so that a site which runs already keeps its journal, and one whose port
+/// is taken leaves nothing behind. Where both the journal can't be made and the port is taken, the journal is named.
+fn listen_at<R>(rt: &R, alloc: Global, port: u16, journal: &str) -> Result<TcpListen<R>, Fault>
+where
+    R: Net<Listener = TcpListener, Stream = TcpStream> + Files<File = File> + Clock + Copy + Drop,
+    ensures listens { IfOk result (λ listen. listen.faults ≡ 0) }
+    ensures fault { IfErr result (λ fault. (fault ≡ Fault.Listen) ⊎ (fault ≡ Fault.JournalDisk)
+        ⊎ (fault ≡ Fault.Memory)) }
+{
+    if let Ok(listen) = TcpListen::bind(rt, alloc, port) {
+        return Ok(listen);
+    }
+    if can_be_made(&mut Disk::new(rt), alloc, journal)? {
+        Err(Fault::Listen)
+    } else {
+        Err(Fault::JournalDisk)
+    }
+}

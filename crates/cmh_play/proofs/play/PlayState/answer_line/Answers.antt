@@ -1,0 +1,31 @@
+use Rattle.std.proofs.Common.{Bool, subst}
+use Rattle.cmh_files.proofs.TextLemmas.{appends-kept}
+use Rattle.cmh_play.proofs.KeptPlays.{unkept_err}
+use Rattle.cmh_play.specs.PlayStates.{PlayState}
+use Rattle.cmh_play.specs.Play.{Replies}
+use Rattle.cmh_play.specs.Showing.{LeadsOn}
+use Rattle.cmh_play.proofs.play.PlayState.answer_line.Goals as goal
+
+pub returns-clause-answers : goal.returns-clause-answers
+returns-clause-answers g c = λ state shown of.
+    let leads : LeadsOn g.K.Keeper.wants (λ (before later : PlayState). Replies before later c.in_ok-said.said c.in_ok-reply.reply) c.args.self.now c.answer.new.self =
+    subst (λ (keeps : Bool). LeadsOn keeps (λ (before later : PlayState). Replies before later c.in_ok-said.said c.in_ok-reply.reply) c.args.self.now c.answer.new.self) c.wants_journals.ensures c.in_ok-reply.ensures in
+    let later = leads state shown of in
+    record {
+      state = later.state;
+      shows = later.shows;
+      holds = record {
+        answers = record {
+          said = c.in_ok-said.said;
+          reply = c.in_ok-reply.reply;
+          says = c.in_ok-said.ensures;
+          replies = later.holds;
+          wrote = appends-kept _ _ _ _ c.in_ok-write_reply.ensures.bytes c.in_ok-flush_awaited.ensures.bytes;
+        };
+        keeps = c.in_ok-keep_for.ensures.kept later.state later.shows;
+      };
+    }
+
+pub returns-in_err-keep_for-clause-fault : goal.returns-in_err-keep_for-clause-fault
+returns-in_err-keep_for-clause-fault g c =
+    unkept_err _ _ _ c.from_residual-in_err-keep_for.result c.in_err-keep_for.field-0.0 c.from_residual-in_err-keep_for.ensures.1 c.in_err-keep_for.ensures.fault
