@@ -263,7 +263,7 @@ where
         patience: patience_of(words),
     };
     let voice = voice_of(rt, words);
-    run_site_noting(*rt, rt.alloc(), start, input, out, err, voice)
+    run_site_noting(*rt, rt.alloc(), &start, input, out, err, voice)
 }
 
 /// Runs the site that the words name for clients.
@@ -298,7 +298,7 @@ where
     } else {
         Some(OnError { rt: *rt })
     };
-    run_service(*rt, rt.alloc(), start, port, out, err, voice)
+    run_service(*rt, rt.alloc(), &start, port, out, err, voice)
 }
 
 /// Tells notes on standard error.

@@ -2,7 +2,7 @@
 use Rattle.std.specs.Prelude.{◌≡◌, ◌≢◌, ℕ, ◌+◌, ◌<◌, ◌⊎◌, List, [], ◌∷◌, ◌++◌, drop, length, map, ⊤}
 use Rattle.cmh_frames.specs.declared.edition.Edition.{Edition}
 use Rattle.cmh_audit.specs.declared.verdict.Verdict.{Verdict}
-use Rattle.cmh_files.specs.AuditTexts.{cuts_text, verdict_text}
+use Rattle.cmh_show.specs.AuditTexts.{cuts_text, verdict_text}
 use Rattle.cmh_files.specs.Audits.{Audits, IsAuditFault as IsFaultOfAudit, status_of}
 use Rattle.cmh_files.specs.Faults.{fault_text}
 use Rattle.cmh_files.specs.declared.faults.Fault.{Fault}

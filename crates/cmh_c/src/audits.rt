@@ -1,7 +1,7 @@
 //! Audits.
 
 ghost use Rattle.std.specs.Prelude.{◌≡◌, ◌≢◌, ◌<◌, [], ◌∷◌, ◌++◌, IfErr, IfOk, Some, length, map, string_bytes};
-ghost use Rattle.cmh_files.specs.AuditTexts.{cuts_text, verdict_text};
+ghost use Rattle.cmh_show.specs.AuditTexts.{cuts_text, verdict_text};
 ghost use Rattle.cmh_files.specs.Audits as files_spec;
 ghost use Rattle.cmh_files.specs.Faults.{fault_text};
 ghost use Rattle.cmh_c.specs.Auditing as spec;
@@ -9,8 +9,8 @@ ghost use Rattle.cmh_c.specs.Auditing.{AnswersAudit, AreFiles, IsTooLong, Says, 
 
 use crate::codes::{DONE, SHORT};
 use cmh_audit::Verdict;
-use cmh_files::{Audited, Fault, VerdictText, audit_files};
-use cmh_frames::SiteId;
+use cmh_files::{Audited, Fault, audit_files};
+use cmh_show::{Cuts, VerdictText};
 use std::alloc::{AllocError, AllocFailed, Global};
 use std::fmt;
 
@@ -169,21 +169,4 @@ fn line_of(alloc: Global, fault: Fault) -> Result<String, AllocError>
     let mut text = String::new(alloc);
     write!(text, "{fault}\n")?;
     Ok(text)
-}
-
-/// Each site whose journal was cut off, with how many bytes stand after its last entry.
-#[derive(Drop)]
-struct Cuts<'a> {
-    cuts: &'a [(SiteId, usize)],
-}
-
-impl<'a> fmt::Display for Cuts<'a> {
-    ghost output = { λ c. Some (cuts_text c.cuts.now) };
-
-    fn fmt<W: fmt::Write>(&self, f: &mut fmt::Formatter<W>) -> fmt::Result {
-        for (site, bytes) in self.cuts {
-            write!(f, "cut {site} {bytes}\n")?;
-        }
-        Ok(())
-    }
 }

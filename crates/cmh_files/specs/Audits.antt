@@ -19,7 +19,7 @@ use Rattle.cmh_audit.specs.Verdicts.{IsVerdictOn}
 use Rattle.cmh_audit.specs.declared.verdict.Verdict.{Verdict}
 use Rattle.cmh_audit.specs.declared.verdict.Verdict.TheVariants.{Accepted, Refused}
 use Rattle.cmh_script.specs.Device.{Writing}
-use Rattle.cmh_files.specs.AuditTexts.{cuts_text, verdict_text}
+use Rattle.cmh_show.specs.AuditTexts.{cuts_text, verdict_text}
 use Rattle.cmh_files.specs.Faults.{NamesFault}
 use Rattle.cmh_files.specs.Headline.{Headline}
 use Rattle.cmh_files.specs.TopologyFile.{Says, IsFaultOfFile}

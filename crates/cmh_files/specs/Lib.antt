@@ -1,4 +1,3 @@
-pub mod AuditTexts
 pub mod Audits
 pub mod Faults
 pub mod Status

@@ -12,7 +12,7 @@ use Rattle.cmh_audit.specs.declared.verdict.Verdict.TheVariants.{Accepted, Refus
 use Rattle.cmh_audit.specs.Runs.{IsRunOf, event_at}
 use Rattle.cmh_show.specs.RunLines.{run_line_text}
 use Rattle.cmh_script.specs.Device.{Writing}
-use Rattle.cmh_files.specs.AuditTexts.{cuts_text, verdict_text}
+use Rattle.cmh_show.specs.AuditTexts.{cuts_text, verdict_text}
 use Rattle.cmh_files.specs.Audits.{Audits, IsCause, status_of}
 use Rattle.cmh_files.specs.Faults.{NamesFault}
 

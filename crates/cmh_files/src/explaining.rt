@@ -3,7 +3,7 @@
 ghost use Rattle.std.specs.Prelude.{◌≡◌, ◌++◌, ℕ, List, true, OnOk, IfOk, IfErr, map, string_bytes};
 ghost use Rattle.cmh_audit.specs.Stops.{AreStops};
 ghost use Rattle.cmh_audit.specs.Verdicts.{IfRefused};
-ghost use Rattle.cmh_files.specs.AuditTexts.{cuts_text, verdict_text};
+ghost use Rattle.cmh_show.specs.AuditTexts.{cuts_text, verdict_text};
 ghost use Rattle.cmh_files.specs.Audits.{IsCause};
 ghost use Rattle.cmh_files.specs.Explains.{AreReasons, ExplainEnds, WroteExplained};
 ghost use Rattle.cmh_files.specs.Status.{IsStatus};
@@ -12,8 +12,8 @@ use crate::auditing::{Audited, audit_files, status_of, text_of};
 use crate::faults::Fault;
 use cmh_audit::Verdict;
 use cmh_script::Output;
+use cmh_show::reason_lines;
 use cmh_stored::list_journals;
-use cmh_why::reason_lines;
 use std::alloc::{AllocError, Global};
 use std::io::Write;
 

@@ -1,7 +1,6 @@
 //! The files of a world: the topology file, the audit of its journals' files, and the faults of a command.
 #![tactic(auto)]
 
-mod audit_texts;
 mod auditing;
 mod explaining;
 mod faults;
@@ -12,7 +11,6 @@ mod showing;
 mod telling;
 mod topology_file;
 
-pub use crate::audit_texts::VerdictText;
 pub use crate::auditing::{Audited, audit_files, run_audit};
 pub use crate::explaining::run_audit_why;
 pub use crate::faults::Fault;

@@ -1,9 +1,8 @@
 -- Events that a station is given together.
-use Rattle.std.specs.Prelude.{ℕ, List, [], ◌∷◌, length, Option, Result, Ok, Err}
+use Rattle.std.specs.Prelude.{ℕ, List, [], ◌∷◌, length, Option, Result, Ok, Err, flat_map}
 use Rattle.std.specs.Io.KnownBytes.{Appends}
 use Rattle.cmh_model.specs.declared.event.Event.{Event}
 use Rattle.cmh_model.specs.declared.journal.Outcome.{Outcome}
-use Rattle.cmh_files.specs.AuditTexts.{texts_of}
 use Rattle.cmh_station.specs.declared.refusal.StationRefusal.{StationRefusal}
 use Rattle.cmh_host.specs.SiteReplies.{reply_text}
 use Rattle.cmh_host.specs.Steps.{WasRefused, WasStepped}
@@ -42,4 +41,4 @@ FirstRefused (event ∷ events) refusal = WasRefused event refusal
 pub record WereAnswered (events : List Event) (old new : Option (List ℕ)) : Type 0 where
   pub replies : List SiteReply
   pub are : AreStepped events replies
-  pub wrote : Appends old new (texts_of reply_text replies)
+  pub wrote : Appends old new (flat_map reply_text replies)

@@ -8,10 +8,10 @@ mod system;
 mod together;
 
 pub use crate::site_reply::{ClosedLink, LinkEnds, SiteReply};
-pub use crate::start::{Place, SiteStart, start_site};
+pub use crate::start::{SiteSetup, SiteStart, start_site};
 pub use crate::starting::{
-    FileStation, Opened, Running, Started, closed_in, closed_out, declared, fault_of, link_ends,
-    note_seal, open_station, start_threads, step,
+    FileStation, Opened, Running, RunningSite, SiteHandle, Speakers, closed_in, closed_out,
+    fault_of, link_ends, note_seal, open_station, start_threads, step,
 };
 pub use crate::system::System;
 pub use crate::together::{Answer, answer_events, reply_to};

@@ -1,7 +1,7 @@
 //! What running sites answer, as it is printed.
 
-ghost use Rattle.std.specs.Prelude.{Some};
-ghost use Rattle.cmh_files.specs.AuditTexts.{members_text, texts_of};
+ghost use Rattle.std.specs.Prelude.{Some, flat_map};
+ghost use Rattle.cmh_show.specs.AuditTexts.{members_text};
 ghost use Rattle.cmh_host.specs.SiteReplies.{closed_text, ends_text, reply_text};
 
 use cmh_frames::{ProcId, SiteId};
@@ -95,7 +95,7 @@ struct LinkLines<'a> {
 }
 
 impl<'a> fmt::Display for LinkLines<'a> {
-    ghost output = { λ l. Some (texts_of ends_text l.links.now) };
+    ghost output = { λ l. Some (flat_map ends_text l.links.now) };
 
     fn fmt<W: fmt::Write>(&self, f: &mut fmt::Formatter<W>) -> fmt::Result {
         for ends in self.links {

@@ -2,7 +2,7 @@
 
 ghost use Rattle.std.specs.Prelude.{◌≡◌, ◌⊎◌, IfOk, IfErr};
 
-use crate::starting::{Started, fault_of, open_station, start_threads};
+use crate::starting::{RunningSite, Speakers, fault_of, open_station, start_threads};
 use crate::system::System;
 use cmh_carriers::{TcpDial, TcpListen};
 use cmh_files::Fault;
@@ -30,7 +30,7 @@ pub struct SiteStart<'a> {
 
 /// The same, where the topology file was read.
 #[derive(Clone, Copy)]
-pub struct Place<'a> {
+pub struct SiteSetup<'a> {
     pub topology: &'a Topology,
     pub ports: &'a Ports,
     pub site: SiteId,
@@ -42,38 +42,34 @@ pub struct Place<'a> {
 pub fn start_site<R>(
     rt: R,
     alloc: Global,
-    place: Place<'_>,
+    setup: &SiteSetup<'_>,
     noting: &Noting,
-) -> Result<(Started<R>, Option<Speaker>), Fault>
+) -> Result<RunningSite<R>, Fault>
 where
     R: System + Files<File = File> + Send + 'static,
+    ensures site { IfOk result (λ running. running.handle.site ≡ setup.now.site) }
     ensures fault { IfErr result (λ fault. (fault ≡ Fault.Listen) ⊎ (fault ≡ Fault.JournalDisk)
         ⊎ (fault ≡ Fault.Memory)) }
 {
-    let Place {
-        topology,
-        ports,
-        site,
-        journal,
-        patience,
-    } = place;
-    let pairs = ports.pairs(alloc)?;
-    let speaker = noting.speaker(Origin::Alone)?;
-    let theirs = noting.speaker(Origin::Alone)?;
-    let Some(port) = ports.of(site) else {
+    let pairs = setup.ports.pairs(alloc)?;
+    let speakers = Speakers {
+        handle: noting.speaker(Origin::Alone)?,
+        threads: noting.speaker(Origin::Alone)?,
+    };
+    let Some(port) = setup.ports.of(setup.site) else {
         // Never so: each row has its port.
         return Err(Fault::Listen);
     };
-    let listen = listen_at(&rt, alloc, port, journal)?;
-    let NewJournal { sink, kept } = match make_journal(&rt, alloc, journal) {
+    let listen = listen_at(&rt, alloc, port, setup.journal)?;
+    let NewJournal { sink, kept } = match make_journal(&rt, alloc, setup.journal) {
         Ok(made) => made,
         Err(refused) => return Err(fault_of(refused, Fault::JournalDisk)),
     };
-    let opened = open_station(rt, alloc, topology, site, sink, Fault::JournalDisk)?;
-    note_kept(&rt, speaker.as_ref(), kept);
-    let dial = TcpDial::new(rt, pairs).with_patience(patience);
-    let started = start_threads(rt, alloc, topology, site, opened, listen, dial, theirs)?;
-    Ok((started, speaker))
+    let disk = Fault::JournalDisk;
+    let opened = open_station(rt, alloc, setup.topology, setup.site, sink, disk)?;
+    note_kept(&rt, speakers.handle.as_ref(), kept);
+    let dial = TcpDial::new(rt, pairs).with_patience(setup.patience);
+    start_threads(rt, alloc, setup.topology, opened, listen, dial, speakers)
 }
 
 /// Notes the number under which a journal of before was kept.

@@ -1,4 +1,4 @@
-//! A running site: its station over a file, its threads, and the calls that lines make.
+//! A running site: its station over a file, its threads, and what it is asked.
 
 ghost use Rattle.std.specs.Prelude.{◌≡◌, ◌⊎◌, IfOk, IfErr};
 ghost use Rattle.cmh_host.specs.Opening.{IsNewStation};
@@ -8,15 +8,18 @@ ghost use Rattle.cmh_host.specs.Steps.{AreLinksOf, IsDeclared, IsLinks, IsListOf
 
 use crate::site_reply::{LinkEnds, SiteReply};
 use crate::system::System;
-use cmh_carriers::{TcpDial, TcpListen};
+use cmh_carriers::{Dial, TcpDial, TcpListen};
 use cmh_files::Fault;
 use cmh_frames::{SiteId, Topology};
+use cmh_journal::Sink;
 use cmh_links::{LinkFault, LinkState, SharedLinks, SiteThreads};
 use cmh_model::Event;
 use cmh_notes::{Note, Speaker};
 use cmh_playground::Done;
 use cmh_running::{JournalSink, NoFile};
-use cmh_station::{BoardReader, KeptBoard, LinkTap, SharedStation, Station, StationRefusal};
+use cmh_station::{
+    BoardReader, KeptBoard, LinkTap, Listing, SharedStation, Station, StationRefusal,
+};
 use std::alloc::{AllocError, Global};
 use std::sync::{Arc, Wait};
 
@@ -29,9 +32,18 @@ pub type Running<R> = SiteThreads<R, JournalSink, KeptBoard<R>, TcpDial<R>>;
 /// A station that no thread has yet, the taps of its links, and the reader of its board.
 #[derive(Drop)]
 pub struct Opened<R: Wait + Drop> {
+    site: SiteId,
     station: Station<JournalSink, KeptBoard<R>>,
     taps: Vec<LinkTap>,
     reader: BoardReader,
+}
+
+impl<R: Wait + Drop> Opened<R> {
+    pub fn site(&self) -> SiteId
+        ensures { result ≡ self.now.site }
+    {
+        self.site
+    }
 }
 
 /// The fault of a journal that can't be made; the given one where the disk refused it.
@@ -58,6 +70,7 @@ pub fn open_station<R>(
 where
     R: Wait + Copy + Drop,
     requires { sink.faults ≡ 0 }
+    ensures site { IfOk result (λ opened. opened.site ≡ site) }
     ensures fresh { IfOk result (λ opened. IsNewStation topology.now site opened.station.core) }
     ensures fault { IfErr result (λ fault. (fault ≡ disk) ⊎ (fault ≡ Fault.Memory)) }
 {
@@ -68,6 +81,7 @@ where
     };
     match readers.pop() {
         Some(reader) => Ok(Opened {
+            site,
             station,
             taps,
             reader,
@@ -76,41 +90,125 @@ where
     }
 }
 
-/// A site that runs: its station, the reader of its board, and its threads.
-pub type Started<R> = (Arc<FileStation<R>>, BoardReader, Running<R>);
+/// Who tells what a site notices, where somebody listens.
+#[derive(Drop)]
+pub struct Speakers {
+    /// Where it is asked.
+    pub handle: Option<Speaker>,
+    /// In its threads.
+    pub threads: Option<Speaker>,
+}
+
+/// What a running site is asked by.
+#[derive(Drop)]
+pub struct SiteHandle<R: Wait + Drop> {
+    pub site: SiteId,
+    pub station: Arc<FileStation<R>>,
+    pub reader: BoardReader,
+    pub speaker: Option<Speaker>,
+}
+
+/// A site that runs. It isn't `Drop`: its threads have to be stopped.
+pub struct RunningSite<R>
+where
+    R: System + Send + 'static,
+    JournalSink: Sink,
+    KeptBoard<R>: Listing,
+    TcpDial<R>: Dial,
+{
+    pub handle: SiteHandle<R>,
+    pub threads: Running<R>,
+}
 
 /// Starts the threads of a station, which listen.
 pub fn start_threads<R>(
     rt: R,
     alloc: Global,
     topology: &Topology,
-    site: SiteId,
     opened: Opened<R>,
     listen: TcpListen<R>,
     dial: TcpDial<R>,
-    speaker: Option<Speaker>,
-) -> Result<Started<R>, Fault>
+    speakers: Speakers,
+) -> Result<RunningSite<R>, Fault>
 where
     R: System + Send + 'static,
     requires listens { listen.faults ≡ 0 }
     requires dials { dial.faults ≡ 0 }
+    ensures site { IfOk result (λ running. running.handle.site ≡ opened.site) }
     ensures fault { IfErr result (λ fault. fault ≡ Fault.Memory) }
 {
     let Opened {
+        site,
         station,
         taps,
         reader,
     } = opened;
+    let Speakers {
+        handle: speaker,
+        threads: theirs,
+    } = speakers;
     let Ok((shared, taps)) = SharedStation::new(alloc, station, taps) else {
         return Err(Fault::Memory);
     };
     let station = Arc::new(alloc, shared)?;
-    let theirs = Arc::try_clone(&station)?;
+    let shared = Arc::try_clone(&station)?;
     match SiteThreads::start_noting(
-        rt, alloc, topology, site, theirs, taps, listen, dial, speaker,
+        rt, alloc, topology, site, shared, taps, listen, dial, theirs,
     ) {
-        Ok(threads) => Ok((station, reader, threads)),
+        Ok(threads) => {
+            let handle = SiteHandle {
+                site,
+                station,
+                reader,
+                speaker,
+            };
+            Ok(RunningSite { handle, threads })
+        }
         Err(_) => Err(Fault::Memory),
+    }
+}
+
+impl<R> RunningSite<R>
+where
+    R: System + Send + 'static,
+{
+    /// Ends the threads.
+    pub fn stop(self) {
+        let RunningSite {
+            handle: _handle,
+            threads,
+        } = self;
+        threads.cut_off();
+        let _ = threads.stop();
+    }
+}
+
+impl<R: Wait + Drop> SiteHandle<R> {
+    /// Gives an event to the station, and wakes the threads that write what it sent once the lock is given back. Where the
+    /// journal can't be written, that is noted.
+    pub fn step(&self, rt: &R, event: &Event) -> SiteReply
+        ensures { WasStepped event.now result }
+    {
+        step(rt, &self.station, self.speaker.as_ref(), event)
+    }
+
+    /// The processes that the site declared, in their order in time: the board is told under the lock, and read once that
+    /// is given back. The only error is out of memory.
+    pub fn declared(&mut self, rt: &R) -> Result<SiteReply, AllocError>
+        ensures site { IfOk result (IsDeclared self.old.site) }
+        // It is the board's list, which goes on from each that was read before.
+        ensures list { IfOk result (IsListOf self.new.reader.list) }
+        ensures grows { IsBeginningOf self.old.reader.list self.new.reader.list }
+        ensures same_site { self.new.site ≡ self.old.site }
+    {
+        let told = self.station.lock(rt).tell(rt);
+        if told.is_err() {
+            return Err(AllocError);
+        }
+        match self.reader.read() {
+            Some(processes) => Ok(SiteReply::Declared(self.site, processes)),
+            None => Err(AllocError),
+        }
     }
 }
 
@@ -147,29 +245,6 @@ pub fn note_seal<R: Wait>(rt: &R, speaker: Option<&Speaker>, refusal: StationRef
         if let Some(speaker) = speaker {
             speaker.note(rt, Note::Sealed);
         }
-    }
-}
-
-/// The processes that a site declared, in their order in time: the board is told under the lock, and read once that is
-/// given back. The only error is out of memory.
-pub fn declared<R: Wait + Drop>(
-    rt: &R,
-    site: SiteId,
-    station: &FileStation<R>,
-    reader: &mut BoardReader,
-) -> Result<SiteReply, AllocError>
-    ensures site { IfOk result (IsDeclared site) }
-    // It is the board's list, which goes on from each that was read before.
-    ensures list { IfOk result (IsListOf reader.new.list) }
-    ensures grows { IsBeginningOf reader.old.list reader.new.list }
-{
-    let told = station.lock(rt).tell(rt);
-    if told.is_err() {
-        return Err(AllocError);
-    }
-    match reader.read() {
-        Some(processes) => Ok(SiteReply::Declared(site, processes)),
-        None => Err(AllocError),
     }
 }
 

@@ -1,8 +1,7 @@
 //! Events of lines that are there already go to the station together, so that they share a sync.
 
-ghost use Rattle.std.specs.Prelude.{◌≡◌, ◌≤◌, ◌<◌, length, true, IfOk, IfErr, IfSome, OnOk};
+ghost use Rattle.std.specs.Prelude.{◌≡◌, ◌≤◌, ◌<◌, length, true, IfOk, IfErr, IfSome, OnOk, flat_map};
 ghost use Rattle.std.specs.Io.KnownBytes.{Appends};
-ghost use Rattle.cmh_files.specs.AuditTexts.{texts_of};
 ghost use Rattle.cmh_station.specs.Journaled.{batch_limit};
 ghost use Rattle.cmh_host.specs.Together.{AreTaken, FirstRefused, WereAnswered, answer_text, reply_of};
 
@@ -110,7 +109,7 @@ fn step_all<R: Wait + Drop>(
 
 fn write_all<W: Write>(answers: &[Answer], out: &mut Output<W>) -> Result<(), Fault>
     ensures wrote { OnOk result (Appends out.old.written out.new.written
-        (texts_of answer_text answers.now)) }
+        (flat_map answer_text answers.now)) }
     ensures fault { IfErr result (λ fault. (fault ≡ Fault.Output) × (out.new.has_failed ≡ true)) }
 {
     for answer in answers {

@@ -2,7 +2,7 @@
 use Rattle.std.specs.Prelude.{ℕ, List, [], ◌++◌, codes}
 use Rattle.std.specs.Fmt.{decimal}
 use Rattle.cmh_frames.specs.Rows.{fault_number}
-use Rattle.cmh_files.specs.AuditTexts.{verdict_text}
+use Rattle.cmh_show.specs.AuditTexts.{verdict_text}
 use Rattle.cmh_playground.specs.Texts.{step_text, delivery_text, severance_text}
 use Rattle.cmh_play.specs.declared.reply.Reply.{Reply}
 use Rattle.cmh_play.specs.declared.reply.Reply.TheVariants.{Silent, Ok, BadLine, Late, Topology, Step, Delivery, Severance, Report}

@@ -4,9 +4,9 @@ ghost use Rattle.std.specs.Prelude.{Some};
 ghost use Rattle.cmh_play.specs.Replies.{reply_text};
 
 use cmh_audit::Verdict;
-use cmh_files::VerdictText;
 use cmh_frames::{Edition, TopologyFault};
 use cmh_playground::{Delivery, Severance, Step};
+use cmh_show::VerdictText;
 use std::fmt;
 
 /// What is written for a line of a script. A verdict is boxed, so that the reply to any other line is small.

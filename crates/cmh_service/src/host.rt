@@ -8,16 +8,15 @@ ghost use Rattle.cmh_host.specs.Together.{reply_of};
 use crate::reply::{Reply, Status};
 use crate::said::Said;
 use cmh_controller::Refusal;
-use cmh_frames::{ProcId, SiteId, Topology};
-use cmh_host::{Answer, FileStation, SiteReply, declared, link_ends, note_seal, reply_to, step};
+use cmh_frames::{ProcId, Topology};
+use cmh_host::{Answer, SiteHandle, SiteReply, link_ends, note_seal, reply_to};
 use cmh_journal::ENTRY_LIMIT;
 use cmh_links::{LinkState, LinkView};
 use cmh_model::Event;
-use cmh_notes::Speaker;
 use cmh_running::JournalSink;
-use cmh_station::{BoardReader, Declared, KeptBoard, StationRefusal};
+use cmh_station::{Declared, KeptBoard, StationRefusal};
 use std::alloc::{AllocError, Global};
-use std::sync::{Arc, Wait};
+use std::sync::Wait;
 
 /// A running site.
 #[derive(Drop)]
@@ -25,10 +24,7 @@ pub(crate) struct Host<R: Wait + Drop> {
     pub rt: R,
     pub alloc: Global,
     pub topology: Topology,
-    pub site: SiteId,
-    pub station: Arc<FileStation<R>>,
-    pub speaker: Option<Speaker>,
-    pub reader: BoardReader,
+    pub handle: SiteHandle<R>,
     pub links: LinkView<JournalSink, KeptBoard<R>>,
 }
 
@@ -68,8 +64,7 @@ impl<R: Wait + Drop> Host<R> {
         ensures { AreReplies events.now replies.new.items }
     {
         for event in events {
-            let speaker = self.speaker.as_ref();
-            replies.push_reserved(step(&self.rt, &self.station, speaker, event));
+            replies.push_reserved(self.handle.step(&self.rt, event));
         }
     }
 
@@ -83,16 +78,16 @@ impl<R: Wait + Drop> Host<R> {
         if events.len() < 2 {
             return Together::Alone;
         }
-        let mut lent = self.station.lock(&self.rt);
+        let mut lent = self.handle.station.lock(&self.rt);
         let before = lent.journal().len();
         let answered = lent.step_all(&self.rt, events);
-        let news = self.station.news(&lent, before);
+        let news = self.handle.station.news(&lent, before);
         drop(lent);
-        self.station.wake_for(news);
+        self.handle.station.wake_for(news);
         match answered {
             Ok(answers) => Together::Each(answers),
             Err(StationRefusal::Disk) => {
-                note_seal(&self.rt, self.speaker.as_ref(), StationRefusal::Disk);
+                note_seal(&self.rt, self.handle.speaker.as_ref(), StationRefusal::Disk);
                 Together::Disk
             }
             Err(_) => Together::Alone,
@@ -102,7 +97,7 @@ impl<R: Wait + Drop> Host<R> {
     /// The answer to a line that is no event.
     pub fn answer(&mut self, said: &Said, clients: usize) -> Reply {
         let answer = match said {
-            Said::Declared => self.declared().map(Reply::Site),
+            Said::Declared => self.handle.declared(&self.rt).map(Reply::Site),
             Said::Links => self.links().map(Reply::Site),
             Said::Waits(process) => Ok(self.waits_of(*process)),
             Said::Owed(process) => Ok(self.owed_by(*process)),
@@ -116,17 +111,13 @@ impl<R: Wait + Drop> Host<R> {
         }
     }
 
-    fn declared(&mut self) -> Result<SiteReply, AllocError> {
-        declared(&self.rt, self.site, &self.station, &mut self.reader)
-    }
-
     /// The list of all that it declared. `None` where memory was refused.
     pub fn declarations(&mut self) -> Option<Declared> {
-        let told = self.station.lock(&self.rt).tell(&self.rt);
+        let told = self.handle.station.lock(&self.rt).tell(&self.rt);
         if told.is_err() {
             return None;
         }
-        self.reader.read()
+        self.handle.reader.read()
     }
 
     fn links(&self) -> Result<SiteReply, AllocError> {
@@ -134,14 +125,14 @@ impl<R: Wait + Drop> Host<R> {
     }
 
     fn waits_of(&self, process: ProcId) -> Reply {
-        match self.station.lock(&self.rt).waits_of(process) {
+        match self.handle.station.lock(&self.rt).waits_of(process) {
             Ok(others) => Reply::Waits(process, others),
             Err(refusal) => refused(refusal),
         }
     }
 
     fn owed_by(&self, process: ProcId) -> Reply {
-        match self.station.lock(&self.rt).owed_by(process) {
+        match self.handle.station.lock(&self.rt).owed_by(process) {
             Ok(others) => Reply::Owed(process, others),
             Err(refusal) => refused(refusal),
         }
@@ -149,7 +140,7 @@ impl<R: Wait + Drop> Host<R> {
 
     fn status(&mut self, clients: usize) -> Result<Status, AllocError> {
         let declared = self.declarations().ok_or(AllocError)?.len();
-        let station = self.station.lock(&self.rt);
+        let station = self.handle.station.lock(&self.rt);
         let entries = station.journal().len();
         let is_sealed = station.is_sealed();
         drop(station);

@@ -10,7 +10,7 @@ use crate::rounds::Rounds;
 use crate::server::{MAIL, PAUSE_MILLISECONDS, Server};
 use cmh_files::{Fault, read_topology_file_with_ports};
 use cmh_frames::Topology;
-use cmh_host::{Place, Running, SiteStart, System, start_site};
+use cmh_host::{Running, RunningSite, SiteSetup, SiteStart, System, start_site};
 use cmh_notes::{Noting, Voice};
 use cmh_running::Ports;
 use cmh_script::Output;
@@ -48,7 +48,7 @@ const ENDED: Token = Token(1);
 pub fn run_service<R, W: Write, E: Write, V>(
     rt: R,
     alloc: Global,
-    start: SiteStart<'_>,
+    start: &SiteStart<'_>,
     port: u16,
     out: &mut Output<W>,
     err: &mut Output<E>,
@@ -63,19 +63,6 @@ where
         Ok(noting) => noting,
         Err(AllocError) => return Fault::Memory.name_on(err),
     };
-    let SiteStart {
-        topology,
-        site,
-        journal,
-        patience,
-    } = start;
-    // The borrow checker does not cover a record of references that is passed on as it came.
-    let start = SiteStart {
-        topology,
-        site,
-        journal,
-        patience,
-    };
     let served = serve_into(rt, alloc, start, port, out, &noting);
     noting.end(&rt);
     match served {
@@ -87,7 +74,7 @@ where
 fn serve_into<R, W: Write>(
     rt: R,
     alloc: Global,
-    start: SiteStart<'_>,
+    start: &SiteStart<'_>,
     port: u16,
     out: &mut Output<W>,
     noting: &Noting,
@@ -95,27 +82,21 @@ fn serve_into<R, W: Write>(
 where
     R: System + Files<File = File> + Send + 'static,
 {
-    let SiteStart {
-        topology,
-        site,
-        journal,
-        patience,
-    } = start;
-    let (file, ports) = read_topology_file_with_ports(alloc, topology)?;
+    let (file, ports) = read_topology_file_with_ports(alloc, start.topology)?;
     let world = Topology::new(alloc, file.edition, &file.rows)?;
-    if !world.has_site(site) {
+    if !world.has_site(start.site) {
         return Err(Fault::Site);
     }
     let ports = Ports::new(alloc, &file.rows, &ports)?;
     let doors = Doors::open(&rt, port)?;
-    let place = Place {
+    let setup = SiteSetup {
         topology: &world,
         ports: &ports,
-        site,
-        journal,
-        patience,
+        site: start.site,
+        journal: start.journal,
+        patience: start.patience,
     };
-    let ((station, reader, threads), speaker) = start_site(rt, alloc, place, noting)?;
+    let RunningSite { handle, threads } = start_site(rt, alloc, &setup, noting)?;
     let links = match threads.view() {
         Ok(links) => links,
         Err(AllocError) => return ended(threads, Fault::Memory),
@@ -124,10 +105,7 @@ where
         rt,
         alloc,
         topology: world,
-        site,
-        station,
-        speaker,
-        reader,
+        handle,
         links,
     };
     if let Err(fault) = say_listening(out) {
@@ -208,7 +186,7 @@ where
         polls.push(poll)?;
     }
     let parker = Parker::new(alloc)?;
-    host.station.watch(parker.unparker().clone()?);
+    host.handle.station.watch(parker.unparker().clone()?);
     let mailboxes = Arc::new(alloc, mailboxes)?;
     let rounds = Arc::new(
         alloc,

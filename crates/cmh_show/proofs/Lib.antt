@@ -1,3 +1,6 @@
 pub mod ListLemmas
 pub mod LineLemmas
 pub mod FileLemmas
+pub mod TurnLemmas
+pub mod StopLemmas
+pub mod ReasonLemmas

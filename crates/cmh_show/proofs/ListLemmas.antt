@@ -12,3 +12,7 @@ texts_written text xs i x within is =
 -- four parts of a line
 pub joined : (a b c d : List ℕ) → a ++ (b ++ (c ++ d)) ≡ a ++ b ++ c ++ d
 joined a b c d = sym (append_assoc a b (c ++ d)) ∙ sym (append_assoc (a ++ b) c d)
+
+-- and five
+pub joined_five : (a b c d e : List ℕ) → a ++ (b ++ (c ++ (d ++ e))) ≡ a ++ b ++ c ++ d ++ e
+joined_five a b c d e = joined a b c (d ++ e) ∙ sym (append_assoc (a ++ b ++ c) d e)

@@ -1,7 +1,8 @@
 -- How a cluster ends.
 use Rattle.std.proofs.Common.{◌≡◌, ◌≢◌, ℕ, Bool, List, [], ◌∷◌, ◌++◌, Option, refl, sym, ap, subst, ◌∙◌, inl, inr, true≢false}
-use Rattle.std.specs.Prelude.{IfErr, IfSome, IsErr, IsErrAnd, Result, Ok, Err}
+use Rattle.std.specs.Prelude.{IfErr, IfSome, IsErr, IsErrAnd, Result, Ok, Err, flat_map}
 use Rattle.std.specs.Io.KnownBytes.{Appends}
+use Rattle.std.proofs.lemmas.List.{flat_map_more}
 use Rattle.cmh_frames.specs.Topology.{Topology}
 use Rattle.cmh_script.proofs.LinesSeen.{if_some}
 use Rattle.cmh_script.specs.Device.{Writing}
@@ -9,8 +10,7 @@ use Rattle.cmh_script.specs.Lines.{IsNextLine, IsLineFault}
 use Rattle.cmh_script.specs.declared.lines.LineFault.{LineFault}
 use Rattle.cmh_script.specs.declared.lines.NextLine.{NextLine}
 use Rattle.cmh_script.specs.declared.lines.NextLine.TheVariants.{End}
-use Rattle.cmh_files.proofs.TextLemmas.{appends-more, appends-none, texts_of-append}
-use Rattle.cmh_files.specs.AuditTexts.{texts_of}
+use Rattle.cmh_files.proofs.TextLemmas.{appends-more, appends-none}
 use Rattle.cmh_files.specs.Audits.{AuditEnds}
 use Rattle.cmh_files.specs.Faults.{IsAnswerFault, IsPlayFault, of_line}
 use Rattle.cmh_files.specs.declared.faults.Fault.{Fault}
@@ -99,8 +99,8 @@ none_closed out = record { links = []; wrote = appends-none out }
 pub one_more_closed : (old out new : Option (List ℕ)) (link : ClosedLink) → NamesClosed old out → Appends out new (closed_line link) → NamesClosed old new
 one_more_closed old out new link c wrote = record {
   links = c.links ++ link ∷ [];
-  wrote = subst (λ (text : List ℕ). Appends old new text) (sym (texts_of-append closed_line c.links link))
-      (appends-more old out new (texts_of closed_line c.links) (closed_line link) c.wrote wrote);
+  wrote = subst (λ (text : List ℕ). Appends old new text) (flat_map_more closed_line [] c.links link)
+      (appends-more old out new (flat_map closed_line c.links) (closed_line link) c.wrote wrote);
 }
 
 -- ---- the play of a script
@@ -115,7 +115,7 @@ module _ (t : Topology) (script : List ℕ) (old : Option (List ℕ)) where
         text = replied.text;
         links = closed.links;
         is = replied.is;
-        wrote = appends-more old said new replied.text (texts_of closed_line closed.links) replied.wrote closed.wrote;
+        wrote = appends-more old said new replied.text (flat_map closed_line closed.links) replied.wrote closed.wrote;
       }
 
   -- no line was answered yet

@@ -1,6 +1,6 @@
 -- Lines whose events wait for their answers.
 use Rattle.std.proofs.Common.{◌≡◌, ◌≢◌, ℕ, ◌+◌, ◌-◌, ◌^◌, ◌<◌, ◌≤◌, Bool, true, List, [], ◌∷◌, ◌++◌, Option, None, Some, length, refl, sym, subst, arith, inl, inr, true≢false}
-use Rattle.std.specs.Prelude.{IfErr, IfSome, IsErr, IsErrAnd, Result, Ok, Err}
+use Rattle.std.specs.Prelude.{IfErr, IfSome, IsErr, IsErrAnd, Result, Ok, Err, flat_map}
 use Rattle.std.specs.Io.BufRead.{drop_through}
 use Rattle.std.specs.Io.KnownBytes.{Appends}
 use Rattle.std.proofs.lemmas.List.{append_assoc, append-nil}
@@ -11,7 +11,6 @@ use Rattle.cmh_script.specs.declared.lines.LineFault.{LineFault}
 use Rattle.cmh_script.specs.declared.lines.LineFault.TheVariants.{Input as NoInput, Memory as NoSpace}
 use Rattle.cmh_script.specs.declared.lines.NextLine.{NextLine}
 use Rattle.cmh_script.specs.declared.lines.NextLine.TheVariants.{End}
-use Rattle.cmh_files.specs.AuditTexts.{texts_of}
 use Rattle.cmh_files.specs.Faults.{IsPlayFault, of_line}
 use Rattle.cmh_files.specs.declared.faults.Fault.{Fault}
 use Rattle.cmh_files.proofs.LineLemmas.{at_some, length-drop_through}
@@ -39,13 +38,13 @@ module _ (site : ℕ) (first : Bool) (bytes : List ℕ) where
   -- the events of lines were answered in their order
   all_answered : (rest now text : List ℕ) (last : Bool) (events : List Event) (replies : List SiteReply)
       → Dialogue Bool (IsTurnOfSite site) first bytes rest text last → LinesSay rest events now → AreStepped events replies
-      → Dialogue Bool (IsTurnOfSite site) first bytes now (text ++ texts_of reply_text replies) last
+      → Dialogue Bool (IsTurnOfSite site) first bytes now (text ++ flat_map reply_text replies) last
   all_answered rest _ text last _ [] dialogue (none _) are =
       subst (λ (t : List ℕ). Dialogue Bool (IsTurnOfSite site) first bytes rest t last) (sym (append-nil text)) dialogue
   all_answered rest _ text last _ (reply ∷ replies) dialogue (none _) are = absurd are
   all_answered rest now text last _ [] dialogue (more _ _ process event others some says lines) are = absurd are
   all_answered rest now text last _ (reply ∷ replies) dialogue (more _ _ process event others some says lines) are =
-      subst (λ (t : List ℕ). Dialogue Bool (IsTurnOfSite site) first bytes now t last) (append_assoc text (reply_text reply) (texts_of reply_text replies))
+      subst (λ (t : List ℕ). Dialogue Bool (IsTurnOfSite site) first bytes now t last) (append_assoc text (reply_text reply) (flat_map reply_text replies))
       (all_answered (drop_through 10 rest) now (text ++ reply_text reply) last others replies
       (turn rest text (reply_text reply) last last dialogue some
       (record { said = SiteEvent (ActEvent process event); reply = reply; says = says; answers = (are.0, refl, refl); text_is = refl }))
@@ -103,10 +102,10 @@ module _ (site : ℕ) (first : Bool) (start old now out : Option (List ℕ)) (la
       let s = so_far bytes e in
       record {
         rest = s.left;
-        text = s.text ++ texts_of reply_text told.replies;
+        text = s.text ++ flat_map reply_text told.replies;
         now_is = s.now_is;
         dialogue = all_answered site first bytes s.rest s.left s.text last events told.replies s.dialogue s.says told.are;
-        wrote = appends-more old out wrote s.text (texts_of reply_text told.replies) s.wrote told.wrote;
+        wrote = appends-more old out wrote s.text (flat_map reply_text told.replies) s.wrote told.wrote;
         counted = s.counted;
       }
 

@@ -1,9 +1,8 @@
 -- How a cluster ends: what it wrote, or why it did not get so far.
-use Rattle.std.specs.Prelude.{◌≡◌, ℕ, Bool, true, ◌⊎◌, List, [], ◌∷◌, ◌++◌, length, map, codes, Option, Result, Ok, Err, ⊤}
+use Rattle.std.specs.Prelude.{◌≡◌, ℕ, Bool, true, ◌⊎◌, List, [], ◌∷◌, ◌++◌, length, map, codes, Option, Result, Ok, Err, ⊤, flat_map}
 use Rattle.std.specs.Io.KnownBytes.{Appends}
 use Rattle.cmh_frames.specs.Topology.{Topology, sites_of}
 use Rattle.cmh_script.specs.Device.{Tells, Writing}
-use Rattle.cmh_files.specs.AuditTexts.{texts_of}
 use Rattle.cmh_files.specs.Audits.{AuditEnds, IsOfNoTopology}
 use Rattle.cmh_files.specs.Faults.{NamesFault}
 use Rattle.cmh_files.specs.TopologyFile.{IsFaultOfFileWithPorts}
@@ -57,14 +56,14 @@ closed_line link = closed_text link ++ 10 ∷ []
 -- links were named that had closed
 pub record NamesClosed (old new : Option (List ℕ)) : Type 0 where
   pub links : List ClosedLink
-  pub wrote : Appends old new (texts_of closed_line links)
+  pub wrote : Appends old new (flat_map closed_line links)
 
 -- all lines of the script were answered, and then links were named that had closed
 pub record Answered (t : Topology) (script : List ℕ) (old new : Option (List ℕ)) : Type 0 where
   pub text : List ℕ
   pub links : List ClosedLink
   pub is : IsTextOfScript t script text (Ok Awaits)
-  pub wrote : Appends old new (text ++ texts_of closed_line links)
+  pub wrote : Appends old new (text ++ flat_map closed_line links)
 
 -- the lines of the script were answered up to one behind which frames did not come
 pub record AnsweredUpToOne (t : Topology) (script : List ℕ) (old new : Option (List ℕ)) : Type 0 where

@@ -20,25 +20,25 @@ use cmh_controller::Refusal;
 use cmh_files::{Fault, path_in, read_topology_file_with_ports, run_audit};
 use cmh_frames::{ProcId, SiteId, Topology};
 use cmh_host::{
-    ClosedLink, FileStation, Opened, Running, SiteReply, System, closed_in, closed_out, declared,
-    fault_of, open_station, start_threads, step,
+    ClosedLink, Opened, RunningSite, SiteReply, Speakers, System, closed_in, closed_out, fault_of,
+    open_station, start_threads,
 };
 use cmh_journal::Sink;
 use cmh_links::LinkFault;
 use cmh_model::Event;
-use cmh_notes::{NoVoice, Noting, Origin, Speaker, Voice};
+use cmh_notes::{NoVoice, Noting, Origin, Voice};
 use cmh_running::{
     ClusterLine, Disk, EventLine, Flow, JournalFolder, JournalSink, Ports, ReceiptLook,
     SendingLook, Silence, Tally, can_be_made, parse_for_cluster,
 };
 use cmh_script::{Input, NextLine, Output, read_line};
-use cmh_station::{BoardReader, KeptBoard, Listing, StationRefusal};
+use cmh_station::{KeptBoard, Listing, StationRefusal};
 use std::alloc::{AllocError, Global};
 use std::fs::File;
 use std::io::{BufRead, ErrorKind, Write};
 use std::net::{Net, TcpListener, TcpStream};
 use std::rt::{Clock, Files};
-use std::sync::{Arc, Wait};
+use std::sync::Wait;
 use std::thread::Threads;
 use std::{fs, thread};
 
@@ -233,33 +233,24 @@ fn read_back<R: Files<File = File> + AllocGlobal>(
 
 /// Ends all threads. No frame is under way then on a link that is open, and a peer that is none of the sites is not waited
 /// for.
-fn stop_all<R>(mut running: Vec<Running<R>>)
+fn stop_all<R>(mut members: Vec<RunningSite<R>>)
 where
     R: System + Send + 'static,
 {
-    cut_off_all(&running);
-    while let Some(threads) = running.pop() {
-        let _ = threads.stop();
+    cut_off_all(&members);
+    while let Some(member) = members.pop() {
+        member.stop();
     }
-    running.destroy_empty();
+    members.destroy_empty();
 }
 
-fn cut_off_all<R>(running: &[Running<R>])
+fn cut_off_all<R>(members: &[RunningSite<R>])
 where
     R: System + Send + 'static,
 {
-    for threads in running {
-        threads.cut_off();
+    for member in members {
+        member.threads.cut_off();
     }
-}
-
-/// A site of a cluster: its station, and the reader of its board.
-#[derive(Drop)]
-struct Member<R: Wait + Drop> {
-    site: SiteId,
-    station: Arc<FileStation<R>>,
-    speaker: Option<Speaker>,
-    reader: BoardReader,
 }
 
 /// All sites of a topology, in the order of the topology. It isn't `Drop`: its threads have to be stopped.
@@ -275,8 +266,7 @@ where
     topology: &'a Topology,
     noting: &'a Noting,
     tally: Tally,
-    members: Vec<Member<R>>,
-    running: Vec<Running<R>>,
+    members: Vec<RunningSite<R>>,
 }
 
 impl<'a, R> Cluster<'a, R>
@@ -294,7 +284,6 @@ where
     {
         let tally = Tally::new(alloc, topology.sites())?;
         let members = Vec::with_capacity(alloc, topology.sites().len())?;
-        let running = Vec::with_capacity(alloc, topology.sites().len())?;
         Ok(Cluster {
             rt,
             alloc,
@@ -302,7 +291,6 @@ where
             noting,
             tally,
             members,
-            running,
         })
     }
 
@@ -319,8 +307,8 @@ where
             out.new.written out.new.has_failed) }
     {
         self.start_all(ports, dir)?;
-        for threads in self.running.iter_mut() {
-            let _ = threads.connect();
+        for member in self.members.iter_mut() {
+            let _ = member.threads.connect();
         }
         let mut input = Input::new(script);
         match self.answer_all(&mut input, out) {
@@ -341,10 +329,9 @@ where
             topology: _,
             noting: _,
             tally: _tally,
-            members: _members,
-            running,
+            members,
         } = self;
-        stop_all(running);
+        stop_all(members);
     }
 
     /// Every port is taken first, so that sites which run already keep their journals; then every journal is made, and
@@ -355,9 +342,8 @@ where
     {
         let listens = self.listen_all(ports, dir)?;
         let opened = self.open_all(dir)?;
-        let sites = self.topology.sites();
-        for ((site, opened), listen) in sites.iter().zip(opened).zip(listens) {
-            self.start_one(*site, ports, opened, listen)?;
+        for (opened, listen) in opened.into_iter().zip(listens) {
+            self.start_one(ports, opened, listen)?;
         }
         Ok(())
     }
@@ -365,7 +351,6 @@ where
     /// Starts a site, and keeps its threads, so that they are stopped.
     fn start_one(
         &mut self,
-        site: SiteId,
         ports: &Ports,
         opened: Opened<R>,
         listen: TcpListen<R>,
@@ -377,44 +362,17 @@ where
             // Never so: nothing was asked of it yet.
             return Err(Fault::Listen);
         }
-        self.running.reserve(1)?;
         self.members.reserve(1)?;
-        let (member, threads) = self.start_member(site, ports, opened, listen)?;
-        self.members.push_reserved(member);
-        self.running.push_reserved(threads);
-        Ok(())
-    }
-
-    fn start_member(
-        &self,
-        site: SiteId,
-        ports: &Ports,
-        opened: Opened<R>,
-        listen: TcpListen<R>,
-    ) -> Result<(Member<R>, Running<R>), Fault>
-        requires { listen.faults ≡ 0 }
-        ensures fault { IfErr result (λ fault. fault ≡ Fault.Memory) }
-    {
-        let speaker = self.noting.speaker(Origin::Site(site))?;
-        let theirs = self.noting.speaker(Origin::Site(site))?;
-        let dial = TcpDial::new(self.rt, ports.pairs(self.alloc)?);
-        let (station, reader, threads) = start_threads(
-            self.rt,
-            self.alloc,
-            self.topology,
-            site,
-            opened,
-            listen,
-            dial,
-            theirs,
-        )?;
-        let member = Member {
-            site,
-            station,
-            speaker,
-            reader,
+        let origin = Origin::Site(opened.site());
+        let speakers = Speakers {
+            handle: self.noting.speaker(origin)?,
+            threads: self.noting.speaker(origin)?,
         };
-        Ok((member, threads))
+        let dial = TcpDial::new(self.rt, ports.pairs(self.alloc)?);
+        let (rt, topology) = (self.rt, self.topology);
+        let member = start_threads(rt, self.alloc, topology, opened, listen, dial, speakers)?;
+        self.members.push_reserved(member);
+        Ok(())
     }
 
     /// Listens for all sites. Where a port is taken and a journal can't be made, the journal is named.
@@ -562,9 +520,8 @@ where
         ensures { WasSteppedOrAway event.now result }
     {
         for member in &self.members {
-            if member.site == home {
-                let speaker = member.speaker.as_ref();
-                return step(&self.rt, &member.station, speaker, event);
+            if member.handle.site == home {
+                return member.handle.step(&self.rt, event);
             }
         }
         // Never so: each site has its member.
@@ -576,8 +533,8 @@ where
         ensures topology { self.new.topology ≡ self.old.topology }
     {
         for member in self.members.iter_mut() {
-            if member.site.get() == number {
-                return declared(&self.rt, member.site, &member.station, &mut member.reader);
+            if member.handle.site.get() == number {
+                return member.handle.declared(&self.rt);
             }
         }
         Ok(SiteReply::BadLink)
@@ -641,16 +598,16 @@ where
 
     /// Why the link between two places is closed, at its sender or else at its receiver.
     fn fault_of(&self, from: usize, to: usize) -> Option<LinkFault> {
-        let sender = self.members.get(from)?.site;
-        let receiver = self.members.get(to)?.site;
-        match closed_out(&self.rt, self.running.get(from)?, receiver) {
+        let sender = self.members.get(from)?;
+        let receiver = self.members.get(to)?;
+        match closed_out(&self.rt, &sender.threads, receiver.handle.site) {
             Some(fault) => Some(fault),
-            None => closed_in(&self.rt, self.running.get(to)?, sender),
+            None => closed_in(&self.rt, &receiver.threads, sender.handle.site),
         }
     }
 
     /// A line for each link that is closed, ascending.
-    #[tactic(auto, using(crate::proofs::ClusterEndings::none_closed, crate::proofs::ClusterEndings::one_more_closed))]
+    #[tactic(auto, using(crate::proofs::ClusterEndings::none_closed))]
     fn write_closed<W: Write>(&self, out: &mut Output<W>) -> Result<(), Fault>
         ensures closed { OnOk result (NamesClosed out.old.written out.new.written) }
         ensures fault { IfErr result (λ fault. (fault ≡ Fault.Output) × (out.new.has_failed ≡ true)) }
@@ -671,30 +628,34 @@ where
 }
 
 /// Counts the receipts that are new in the journals of all sites.
-fn look_at_receipts<R: Wait + Drop>(rt: &R, members: &[Member<R>], tally: &mut Tally) -> ReceiptLook
+fn look_at_receipts<R>(rt: &R, members: &[RunningSite<R>], tally: &mut Tally) -> ReceiptLook
+where
+    R: System + Send + 'static,
     ensures { result.places ≡ length members.now }
 {
     let mut look = ReceiptLook::new();
     for member in members {
-        let guard = member.station.lock(rt);
+        let guard = member.handle.station.lock(rt);
         tally.count_receipts(&mut look, guard.journal());
     }
     look
 }
 
 /// Counts the sendings that are new in the journals of all sites, behind a look at their receipts.
-fn look_at_sendings<R: Wait + Drop>(
+fn look_at_sendings<R>(
     rt: &R,
-    members: &[Member<R>],
+    members: &[RunningSite<R>],
     tally: &mut Tally,
     receipts: ReceiptLook,
 ) -> SendingLook
+where
+    R: System + Send + 'static,
     ensures received { result.received ≡ receipts.places }
     ensures sent { result.places ≡ length members.now }
 {
     let mut look = SendingLook::after(receipts);
     for member in members {
-        let guard = member.station.lock(rt);
+        let guard = member.handle.station.lock(rt);
         tally.count_sendings(&mut look, guard.journal());
     }
     look

@@ -15,21 +15,21 @@ use cmh_carriers::{Dial, TcpDial};
 use cmh_files::{Fault, read_topology_file_with_ports};
 use cmh_frames::{SiteId, Topology};
 use cmh_host::{
-    FileStation, Place, Running, SiteReply, SiteStart, System, answer_events, declared, link_ends,
-    start_site, step,
+    Running, RunningSite, SiteHandle, SiteReply, SiteSetup, SiteStart, System, answer_events,
+    link_ends, start_site,
 };
 use cmh_journal::Sink;
 use cmh_model::Event;
-use cmh_notes::{NoVoice, Noting, Speaker, Voice};
+use cmh_notes::{NoVoice, Noting, Voice};
 use cmh_running::{EventLine, Flow, JournalSink, Order, Ports, SiteLine, parse_for_site};
 use cmh_script::{Ahead, Input, NextLine, Output, read_line};
-use cmh_station::{BATCH_LIMIT, BoardReader, KeptBoard, Listing};
+use cmh_station::{BATCH_LIMIT, KeptBoard, Listing};
 use std::alloc::{AllocError, Global};
 use std::fs::File;
 use std::io::{BufRead, Write};
 use std::net::{Net, TcpListener, TcpStream};
 use std::rt::Files;
-use std::sync::{Arc, Wait};
+use std::sync::Wait;
 use std::thread::Threads;
 use std::time::{Clock, Duration};
 
@@ -79,14 +79,14 @@ where
         journal,
         patience: Duration::ZERO,
     };
-    run_site_noting(rt, alloc, start, input, out, err, nobody)
+    run_site_noting(rt, alloc, &start, input, out, err, nobody)
 }
 
 /// The same, where what the site notices is told by a voice, if there is one, in a thread that nobody waits for.
 pub fn run_site_noting<R, I: BufRead + Ahead, W: Write, E: Write, V>(
     rt: R,
     alloc: Global,
-    start: SiteStart<'_>,
+    start: &SiteStart<'_>,
     input: &mut Input<I>,
     out: &mut Output<W>,
     err: &mut Output<E>,
@@ -99,31 +99,18 @@ where
 
     // At status 0 it said that it listens, answered each line in its order, and said that it stopped.
     ensures served { result ≡ 0 → IfSome input.old.left
-        (λ bytes. Served start.entry.site bytes out.old.written out.new.written) }
+        (λ bytes. Served start.now.site bytes out.old.written out.new.written) }
     ensures flushed { result ≡ 0 → out.new.is_flushed ≡ true }
     ensures silent { result ≡ 0 → err.new ≡ err.old }
 
     // Else a fault is named that has a cause.
     ensures fault { result ≢ 0 → NamesFault
-        (IsSiteFault start.entry.topology.now start.entry.site input.old.left input.new.has_failed out.new.has_failed)
+        (IsSiteFault start.now.topology.now start.now.site input.old.left input.new.has_failed out.new.has_failed)
         result err.old err.new }
 {
     let noting = match Noting::start(rt, alloc, voice) {
         Ok(noting) => noting,
         Err(AllocError) => return Fault::Memory.name_on(err),
-    };
-    let SiteStart {
-        topology,
-        site,
-        journal,
-        patience,
-    } = start;
-    // The borrow checker does not cover a record of references that is passed on as it came.
-    let start = SiteStart {
-        topology,
-        site,
-        journal,
-        patience,
     };
     let served = site_into(rt, alloc, start, input, out, &noting);
     noting.end(&rt);
@@ -136,7 +123,7 @@ where
 fn site_into<R, I: BufRead + Ahead, W: Write>(
     rt: R,
     alloc: Global,
-    start: SiteStart<'_>,
+    start: &SiteStart<'_>,
     input: &mut Input<I>,
     out: &mut Output<W>,
     noting: &Noting,
@@ -144,31 +131,25 @@ fn site_into<R, I: BufRead + Ahead, W: Write>(
 where
     R: System + Files<File = File> + Send + 'static,
     ensures served { OnOk result (IfSome input.old.left
-        (λ bytes. Served start.entry.site bytes out.old.written out.new.written)) }
+        (λ bytes. Served start.now.site bytes out.old.written out.new.written)) }
     ensures flushed { OnOk result (out.new.is_flushed ≡ true) }
     ensures fault { IfErr result
-        (IsSiteFault start.entry.topology.now start.entry.site input.old.left input.new.has_failed out.new.has_failed) }
+        (IsSiteFault start.now.topology.now start.now.site input.old.left input.new.has_failed out.new.has_failed) }
 {
-    let SiteStart {
-        topology,
-        site,
-        journal,
-        patience,
-    } = start;
-    let (file, ports) = read_topology_file_with_ports(alloc, topology)?;
+    let (file, ports) = read_topology_file_with_ports(alloc, start.topology)?;
     let world = Topology::new(alloc, file.edition, &file.rows)?;
-    if !world.has_site(site) {
+    if !world.has_site(start.site) {
         return Err(Fault::Site);
     }
     let ports = Ports::new(alloc, &file.rows, &ports)?;
-    let place = Place {
+    let setup = SiteSetup {
         topology: &world,
         ports: &ports,
-        site,
-        journal,
-        patience,
+        site: start.site,
+        journal: start.journal,
+        patience: start.patience,
     };
-    let mut host = SiteHost::start(rt, alloc, place, noting)?;
+    let mut host = SiteHost::start(rt, alloc, &setup, noting)?;
     let answered = host.serve(input, out);
     host.stop();
     answered?;
@@ -188,10 +169,7 @@ where
     rt: R,
     alloc: Global,
     topology: &'a Topology,
-    site: SiteId,
-    station: Arc<FileStation<R>>,
-    speaker: Option<Speaker>,
-    reader: BoardReader,
+    handle: SiteHandle<R>,
     threads: Running<R>,
     has_connected: bool,
 }
@@ -201,36 +179,18 @@ where
     R: System + Files<File = File> + Send + 'static,
 {
     /// Takes the site's port, makes its journal, and starts its threads.
-    fn start(rt: R, alloc: Global, place: Place<'a>, noting: &Noting) -> Result<Self, Fault>
-        ensures site { IfOk result (λ host. host.site ≡ place.entry.site) }
+    fn start(rt: R, alloc: Global, setup: &SiteSetup<'a>, noting: &Noting) -> Result<Self, Fault>
+        ensures site { IfOk result (λ host. host.handle.site ≡ setup.now.site) }
         ensures unconnected { IfOk result (λ host. host.has_connected ≡ false) }
         ensures fault { IfErr result (λ fault. (fault ≡ Fault.Listen) ⊎ (fault ≡ Fault.JournalDisk)
             ⊎ (fault ≡ Fault.Memory)) }
     {
-        let Place {
-            topology,
-            ports,
-            site,
-            journal,
-            patience,
-        } = place;
-        // As above.
-        let place = Place {
-            topology,
-            ports,
-            site,
-            journal,
-            patience,
-        };
-        let ((station, reader, threads), speaker) = start_site(rt, alloc, place, noting)?;
+        let RunningSite { handle, threads } = start_site(rt, alloc, setup, noting)?;
         Ok(SiteHost {
             rt,
             alloc,
-            topology,
-            site,
-            station,
-            speaker,
-            reader,
+            topology: setup.topology,
+            handle,
             threads,
             has_connected: false,
         })
@@ -242,15 +202,11 @@ where
             rt: _,
             alloc: _,
             topology: _,
-            site: _,
-            station: _station,
-            speaker: _speaker,
-            reader: _reader,
+            handle,
             threads,
             has_connected: _,
         } = self;
-        threads.cut_off();
-        let _ = threads.stop();
+        RunningSite { handle, threads }.stop();
     }
 
     /// Says that it listens, and answers line after line.
@@ -260,7 +216,7 @@ where
         out: &mut Output<W>,
     ) -> Result<(), Fault>
         ensures served { IfSome input.old.left (λ bytes.
-            Welcomed self.old.site self.old.has_connected bytes
+            Welcomed self.old.handle.site self.old.has_connected bytes
             out.old.written out.new.written out.new.has_failed result) }
         ensures fault { IfErr result (IsPlayFault input.old.left input.new.has_failed out.new.has_failed) }
     {
@@ -277,7 +233,7 @@ where
         out: &mut Output<W>,
     ) -> Result<(), Fault>
         ensures answers { IfSome input.old.left (λ bytes.
-            Conversed (IsTurnOfSite self.old.site) self.old.has_connected bytes
+            Conversed (IsTurnOfSite self.old.handle.site) self.old.has_connected bytes
             out.old.written out.new.written out.new.has_failed result) }
         ensures fault { IfErr result (IsPlayFault input.old.left input.new.has_failed out.new.has_failed) }
     {
@@ -323,8 +279,8 @@ where
         if events.is_empty() {
             return Ok(());
         }
-        let speaker = self.speaker.as_ref();
-        answer_events(&self.rt, &self.station, speaker, events, out)?;
+        let speaker = self.handle.speaker.as_ref();
+        answer_events(&self.rt, &self.handle.station, speaker, events, out)?;
         out.flush()?;
         events.clear();
         Ok(())
@@ -332,9 +288,9 @@ where
 
     /// Answers a line, and flushes the answer.
     fn answer<W: Write>(&mut self, said: SiteLine, out: &mut Output<W>) -> Result<Flow, Fault>
-        ensures answers { IfOk result (λ flow. SaidTurn self.old.site self.old.has_connected self.new.has_connected
+        ensures answers { IfOk result (λ flow. SaidTurn self.old.handle.site self.old.has_connected self.new.has_connected
             said flow out.old.written out.new.written) }
-        ensures site { self.new.site ≡ self.old.site }
+        ensures site { self.new.handle.site ≡ self.old.handle.site }
         ensures fault { IfErr result (IsAnswerFault out.old.written out.new.written out.new.has_failed) }
     {
         let (reply, flow) = self.reply(said)?;
@@ -344,19 +300,17 @@ where
     }
 
     fn reply(&mut self, said: SiteLine) -> Result<(SiteReply, Flow), AllocError>
-        ensures replies { IfOk result (λ replied. AnswersSite self.old.site self.old.has_connected self.new.has_connected said replied.0 replied.1) }
-        ensures site { self.new.site ≡ self.old.site }
+        ensures replies { IfOk result (λ replied. AnswersSite self.old.handle.site self.old.has_connected self.new.has_connected said replied.0 replied.1) }
+        ensures site { self.new.handle.site ≡ self.old.handle.site }
     {
         match said {
             SiteLine::Event(EventLine::Silent) => Ok((SiteReply::Silent, Flow::Awaits)),
             SiteLine::Event(EventLine::Bad) => Ok((SiteReply::BadLine, Flow::Awaits)),
             SiteLine::Event(EventLine::Act { process: _, event }) => {
-                let speaker = self.speaker.as_ref();
-                Ok((step(&self.rt, &self.station, speaker, &event), Flow::Awaits))
+                Ok((self.handle.step(&self.rt, &event), Flow::Awaits))
             }
             SiteLine::Order(Order::Declared) => {
-                let reply = declared(&self.rt, self.site, &self.station, &mut self.reader)?;
-                Ok((reply, Flow::Awaits))
+                Ok((self.handle.declared(&self.rt)?, Flow::Awaits))
             }
             SiteLine::Order(Order::Connect) => Ok((self.connect(), Flow::Awaits)),
             SiteLine::Order(Order::Links) => {
@@ -374,7 +328,7 @@ where
             (connected_in self.old.threads.places.items) (connected_in self.new.threads.places.items)
             (failed_in self.old.threads.places.items) (failed_in self.new.threads.places.items) result }
         ensures connected { self.new.has_connected ≡ true }
-        ensures site { self.new.site ≡ self.old.site }
+        ensures site { self.new.handle.site ≡ self.old.handle.site }
     {
         if self.has_connected {
             return SiteReply::Late;

@@ -1,5 +1,5 @@
 use Rattle.std.specs.Prelude.{vec_len}
 use Rattle.cmh_site.proofs.cluster.stop_all.Given as goal
 
-abbrev pub decreases-loop-threads : goal.decreases-loop-threads
-decreases-loop-threads g l = vec_len l.running
+abbrev pub decreases-loop-member : goal.decreases-loop-member
+decreases-loop-member g l = vec_len l.members

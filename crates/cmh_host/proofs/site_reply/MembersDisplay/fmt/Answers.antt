@@ -1,7 +1,7 @@
 use Rattle.std.proofs.Common.{rules}
 use Rattle.std.proofs.Output.{has_written_append, has_written_of_eq}
-use Rattle.cmh_files.specs.AuditTexts.{member_text}
-use Rattle.cmh_files.proofs.TextLemmas.{texts_written}
+use Rattle.cmh_show.specs.AuditTexts.{member_text}
+use Rattle.cmh_show.proofs.ListLemmas.{texts_written}
 use Rattle.cmh_host.proofs.site_reply.MembersDisplay.fmt.Goals as goal
 
 pub loop-process-preserved : goal.loop-process-preserved
