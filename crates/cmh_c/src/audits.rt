@@ -16,7 +16,7 @@ use std::fmt;
 
 /// What an audit tells: its lines, and the status with which `cmh audit` ends.
 #[derive(Drop)]
-struct Told {
+struct AuditAnswer {
     text: String,
     status: u8,
 }
@@ -97,18 +97,23 @@ pub extern "C" fn cmh_audit(
     }
 }
 
-fn audited_of(alloc: Global, world: &[u8], files: &[u8], lens: &[usize]) -> Result<Told, AuditFault>
+fn audited_of(
+    alloc: Global,
+    world: &[u8],
+    files: &[u8],
+    lens: &[usize],
+) -> Result<AuditAnswer, AuditFault>
     ensures told { IfOk result (λ told. spec.SaysOf world.now files.now lens.now (string_bytes told.text) told.status) }
     ensures fault { IfErr result (spec.IsAuditFault files.now lens.now) }
 {
     let files = split(alloc, files, lens)?;
     match audit_files(alloc, world, &files) {
-        Ok(audited) => Ok(Told {
+        Ok(audited) => Ok(AuditAnswer {
             text: text_of(alloc, &audited)?,
             status: status_of(&audited.verdict),
         }),
         Err(Fault::Memory) => Err(AuditFault::Memory),
-        Err(fault) => Ok(Told {
+        Err(fault) => Ok(AuditAnswer {
             text: line_of(alloc, fault)?,
             status: 3,
         }),

@@ -1,8 +1,9 @@
 //! Why a command ends before its work is done.
 
-ghost use Rattle.std.specs.Prelude.{◌≡◌, [], ◌∷◌, ◌++◌, Some};
+ghost use Rattle.std.specs.Prelude.{◌≡◌, ◌≢◌, [], ◌∷◌, ◌++◌, Some};
 ghost use Rattle.cmh_script.specs.Device.{Tells};
 ghost use Rattle.cmh_files.specs.Faults as spec;
+ghost use Rattle.cmh_files.specs.Status.{IsStatus};
 
 use crate::topology_file::TopologyFileFault;
 use cmh_audit::{AuditMemory, SetFault};
@@ -49,7 +50,9 @@ pub enum Fault {
 impl Fault {
     /// The status with which the program ends.
     pub const fn status(self) -> u8
-        ensures { result ≡ spec.status_of self }
+        ensures status { result ≡ spec.status_of self }
+        ensures ends { IsStatus result }
+        ensures fails { result ≢ 0 }
     {
         match self {
             Fault::Memory => 1,
@@ -60,6 +63,8 @@ impl Fault {
     /// Names the fault on `err`, a write to which may fail, and answers the status with which the program ends.
     pub fn name_on<E: Write>(self, err: &mut Output<E>) -> u8
         ensures status { result ≡ spec.status_of self }
+        ensures ends { IsStatus result }
+        ensures fails { result ≢ 0 }
         ensures named { Tells err.old.written err.new.written err.new.has_failed
             (spec.fault_text self ++ 10 ∷ []) }
     {

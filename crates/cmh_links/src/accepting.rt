@@ -4,8 +4,8 @@ ghost use Rattle.std.specs.Prelude.{◌≡◌, ◌+◌, ◌≤◌, [], true, vec
 ghost use Rattle.cmh_reader.specs.Reader.{StandsFor, fresh};
 ghost use Rattle.cmh_links.specs.TurnedAway.{is_turned_away};
 
-use crate::hub::{Entrance, Hub};
 use crate::seats::{Seat, Seats};
+use crate::shared::{Shared, StationHandover};
 use crate::turned_away::turns_away;
 use cmh_carriers::{Incoming, Line, Listen};
 use cmh_journal::Sink;
@@ -29,7 +29,7 @@ type Reading<L> = (JoinHandle<()>, Arc<Seat<L>>);
 pub(crate) fn accept_all<R, S, B, L>(
     rt: R,
     alloc: Global,
-    hub: Arc<Hub<S, B>>,
+    shared: Arc<Shared<S, B>>,
     seats: Arc<Seats<L::Line>>,
     mut listen: L,
     parker: Parker,
@@ -46,23 +46,23 @@ where
         let Ok(incoming) = listen.accept() else {
             break;
         };
-        if hub.ending.load(Ordering::SeqCst) {
+        if shared.ending.load(Ordering::SeqCst) {
             break;
         }
         give_up(&rt, &mut readers);
-        admit(rt, alloc, &hub, &seats, &listen, incoming, &mut readers);
+        admit(rt, alloc, &shared, &seats, &listen, incoming, &mut readers);
     }
-    hub.note(&rt, Note::AcceptingEnded);
+    shared.note(&rt, Note::AcceptingEnded);
     listen.shut();
     drop(listen);
     for _ in rt.forever() {
-        if hub.ending.load(Ordering::SeqCst) {
+        if shared.ending.load(Ordering::SeqCst) {
             break;
         }
         parker.park(&rt);
     }
     for (reader, seat) in readers {
-        if hub.cutting.load(Ordering::SeqCst) {
+        if shared.cutting.load(Ordering::SeqCst) {
             seat.shut(&rt);
         }
         reader.join(&rt);
@@ -88,7 +88,7 @@ fn give_up<R: Wait + Threads, L: Line + Drop>(rt: &R, readers: &mut Vec<Reading<
 fn admit<R, S, B, L>(
     rt: R,
     alloc: Global,
-    hub: &Arc<Hub<S, B>>,
+    shared: &Arc<Shared<S, B>>,
     seats: &Seats<L::Line>,
     listen: &L,
     incoming: L::In,
@@ -104,23 +104,23 @@ where
     ensures one { vec_len readers.new ≤ vec_len readers.old + 1 }
 {
     if turns_away(readers.len()) {
-        hub.note(&rt, Note::TurnedAway);
+        shared.note(&rt, Note::TurnedAway);
         return;
     }
     if readers.reserve(1).is_ok() {
-        if let Some(reading) = start_reader(rt, alloc, hub, seats, listen, incoming) {
+        if let Some(reading) = start_reader(rt, alloc, shared, seats, listen, incoming) {
             let _ = readers.push(reading);
             return;
         }
     }
-    hub.note(&rt, Note::NoThread);
+    shared.note(&rt, Note::NoThread);
 }
 
 /// Starts a reading thread. `None` where no memory or no thread can be had; then the connection is closed.
 fn start_reader<R, S, B, L>(
     rt: R,
     alloc: Global,
-    hub: &Arc<Hub<S, B>>,
+    shared: &Arc<Shared<S, B>>,
     seats: &Seats<L::Line>,
     listen: &L,
     incoming: L::In,
@@ -132,7 +132,7 @@ where
     L: Listen,
     requires { L.In.failures incoming ≡ 0 }
 {
-    let theirs = Arc::try_clone(hub).ok()?;
+    let theirs = Arc::try_clone(shared).ok()?;
     let seat = seats.seat(&rt, listen.line(&incoming)?)?;
     let Ok(taken) = Arc::try_clone(&seat) else {
         seat.leave(&rt);
@@ -148,19 +148,22 @@ where
 }
 
 /// A reader of the bytes that come to a site: it expects the other sites.
-fn reader_of<S: Sink, B: Listing>(alloc: Global, hub: &Hub<S, B>) -> Result<FrameReader, AllocError>
-    ensures expects { IfOk result (λ reader. reader ≡ fresh hub.now.edition hub.now.others.items) }
+fn reader_of<S: Sink, B: Listing>(
+    alloc: Global,
+    shared: &Shared<S, B>,
+) -> Result<FrameReader, AllocError>
+    ensures expects { IfOk result (λ reader. reader ≡ fresh shared.now.edition shared.now.others.items) }
     ensures stands { IfOk result (λ reader. StandsFor reader [] []) }
 {
-    let senders = hub.others.to_vec(alloc)?;
-    Ok(FrameReader::new(alloc, hub.edition, senders))
+    let senders = shared.others.to_vec(alloc)?;
+    Ok(FrameReader::new(alloc, shared.edition, senders))
 }
 
 /// Reads a connection to its end, and closes it.
 fn serve<R, S, B, I, L>(
     rt: R,
     alloc: Global,
-    hub: Arc<Hub<S, B>>,
+    shared: Arc<Shared<S, B>>,
     seat: Arc<Seat<L>>,
     mut incoming: I,
 )
@@ -173,13 +176,19 @@ where
     requires { I.failures incoming ≡ 0 }
 {
     if let (Ok(mine), Ok(taken), Ok(mut reader)) = (
-        Arc::try_clone(&hub),
+        Arc::try_clone(&shared),
         Arc::try_clone(&seat),
-        reader_of(alloc, &hub),
+        reader_of(alloc, &shared),
     ) {
-        let mut entrance = Entrance::new(rt, mine, taken);
-        let end = run_reader(&rt, &mut incoming, &mut reader, &hub.links, &mut entrance);
-        note_end(&rt, &hub, &mut reader, end);
+        let mut entrance = StationHandover::new(rt, mine, taken);
+        let end = run_reader(
+            &rt,
+            &mut incoming,
+            &mut reader,
+            &shared.links,
+            &mut entrance,
+        );
+        note_end(&rt, &shared, &mut reader, end);
     }
     // Its seat has another handle of it.
     incoming.shut();
@@ -190,7 +199,7 @@ where
 /// Notes how reading ended: that a hello was refused, or that the link closed.
 fn note_end<R: Wait, S: Sink, B: Listing>(
     rt: &R,
-    hub: &Hub<S, B>,
+    shared: &Shared<S, B>,
     reader: &mut FrameReader,
     end: ReaderEnd,
 ) {
@@ -198,15 +207,15 @@ fn note_end<R: Wait, S: Sink, B: Listing>(
         ReaderEnd::NoLink => {
             // The reader answers its fault again. A connection that ended within its hello has none.
             if let Err(ReadFault::BadHello | ReadFault::WrongSite) = reader.feed(&[]) {
-                hub.note(rt, Note::StrangeHello);
+                shared.note(rt, Note::StrangeHello);
             }
         }
         ReaderEnd::Refused(site) => {
-            let state = hub.links.lock(rt).state_in(site);
+            let state = shared.links.lock(rt).state_in(site);
             if let Some(state) = state {
-                hub.note(rt, Note::RefusedHello(site, state));
+                shared.note(rt, Note::RefusedHello(site, state));
             }
         }
-        ReaderEnd::Closed(site, fault) => hub.note(rt, Note::ClosedIn(site, fault)),
+        ReaderEnd::Closed(site, fault) => shared.note(rt, Note::ClosedIn(site, fault)),
     }
 }

@@ -3,9 +3,9 @@
 
 mod accepting;
 mod dialler;
-mod hub;
 mod opening;
 mod seats;
+mod shared;
 mod threads;
 mod turned_away;
 mod watching;

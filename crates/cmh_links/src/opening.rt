@@ -6,8 +6,8 @@ ghost use Rattle.cmh_loops.specs.Writing.{Wrote};
 ghost use Rattle.cmh_table.specs.declared.table.LinkFault.{LinkFault};
 
 use crate::dialler::Dialler;
-use crate::hub::{Exit, Hub};
 use crate::seats::{Seat, Seats};
+use crate::shared::{Shared, TapSource};
 use cmh_carriers::{Dial, IoFault, Line, Outgoing};
 use cmh_frames::SiteId;
 use cmh_journal::Sink;
@@ -44,7 +44,7 @@ pub(crate) enum Place {
 /// Connects the link of a tap and starts its writing thread, or closes it; unless it was not new.
 pub(crate) fn open<R, S, B, D>(
     rt: R,
-    hub: &Arc<Hub<S, B>>,
+    shared: &Arc<Shared<S, B>>,
     dial: &mut Dialler<D>,
     outs: &Seats<D::Line>,
     tap: ParkingTap,
@@ -67,10 +67,10 @@ where
     }
     match dial.connect(tap.to()) {
         Ok(out) => match seat_of(&rt, dial, outs, &out) {
-            Some(seat) => start_writer(rt, hub, tap, out, seat),
-            None => closed(&rt, hub, tap.into_tap(), LinkFault::Memory),
+            Some(seat) => start_writer(rt, shared, tap, out, seat),
+            None => closed(&rt, shared, tap.into_tap(), LinkFault::Memory),
         },
-        Err(IoFault) => closed(&rt, hub, tap.into_tap(), LinkFault::Connect),
+        Err(IoFault) => closed(&rt, shared, tap.into_tap(), LinkFault::Connect),
     }
 }
 
@@ -87,24 +87,24 @@ fn seat_of<R: Wait + Clock, D: Dial>(
 /// Closes the link of a tap.
 fn closed<R: Wait, S: Sink, B: Listing>(
     rt: &R,
-    hub: &Hub<S, B>,
+    shared: &Shared<S, B>,
     tap: LinkTap,
     fault: LinkFault,
 ) -> Place
     ensures { result ≡ Place.Closed tap fault }
 {
-    hub.links.lock(rt).close_out(tap.to(), fault);
+    shared.links.lock(rt).close_out(tap.to(), fault);
     if fault == LinkFault::Memory {
-        hub.note(rt, Note::NoThreadTo(tap.to()));
+        shared.note(rt, Note::NoThreadTo(tap.to()));
     }
-    hub.note(rt, Note::ClosedOut(tap.to(), fault));
+    shared.note(rt, Note::ClosedOut(tap.to(), fault));
     Place::Closed { tap, fault }
 }
 
 /// Starts the writing thread of a link, or closes the link.
 fn start_writer<R, S, B, O, L>(
     rt: R,
-    hub: &Arc<Hub<S, B>>,
+    shared: &Arc<Shared<S, B>>,
     tap: ParkingTap,
     out: O,
     seat: Arc<Seat<L>>,
@@ -122,16 +122,16 @@ where
     ensures unconnected { closed_with 1 (result ∷ []) ≡ [] }
 {
     let to = tap.to();
-    let (Ok(theirs), Ok(own)) = (Arc::try_clone(hub), Arc::try_clone(hub)) else {
+    let (Ok(theirs), Ok(own)) = (Arc::try_clone(shared), Arc::try_clone(shared)) else {
         seat.leave(&rt);
-        return closed(&rt, hub, tap.into_tap(), LinkFault::Memory);
+        return closed(&rt, shared, tap.into_tap(), LinkFault::Memory);
     };
     let run = move || write_unless_abandoned(rt, theirs, own, tap, out, seat);
     match thread::spawn_with(&rt, GivesBack { to }, run) {
         Ok(writer) => Place::Writing(writer),
         Err(refused) => {
-            let tap = abandon(hub, to, refused.value);
-            closed(&rt, hub, tap, LinkFault::Memory)
+            let tap = abandon(shared, to, refused.value);
+            closed(&rt, shared, tap, LinkFault::Memory)
         }
     }
 }
@@ -139,24 +139,24 @@ where
 /// Has the tap of a link given back by what its thread would have run, where no thread can be had. To be called it must
 /// be told that nobody wants it to write.
 fn abandon<S: Sink, B: Listing, F: FnOnce() -> LinkTap>(
-    hub: &Hub<S, B>,
+    shared: &Shared<S, B>,
     to: SiteId,
     run: F,
 ) -> LinkTap
     requires runs { F.pre run }
     ensures ran { F.post run result }
 {
-    hub.abandoned.store(to.get(), Ordering::SeqCst);
+    shared.abandoned.store(to.get(), Ordering::SeqCst);
     let tap = run();
-    hub.abandoned.store(0, Ordering::SeqCst);
+    shared.abandoned.store(0, Ordering::SeqCst);
     tap
 }
 
 /// What the writing thread of a link runs. The tap comes back.
 fn write_unless_abandoned<R, S, B, O, L>(
     rt: R,
-    hub: Arc<Hub<S, B>>,
-    own: Arc<Hub<S, B>>,
+    shared: Arc<Shared<S, B>>,
+    own: Arc<Shared<S, B>>,
     tap: ParkingTap,
     mut out: O,
     seat: Arc<Seat<L>>,
@@ -170,10 +170,10 @@ where
     requires fresh { O.failures out ≡ 0 }
     ensures { result.to ≡ tap.to }
 {
-    let tap = if hub.abandoned.load(Ordering::SeqCst) == tap.to().get() {
+    let tap = if shared.abandoned.load(Ordering::SeqCst) == tap.to().get() {
         tap.into_tap()
     } else {
-        write_link(rt, &hub, own, tap, &mut out)
+        write_link(rt, &shared, own, tap, &mut out)
     };
     // Its seat has another handle of the connection.
     drop(out);
@@ -184,8 +184,8 @@ where
 /// Writes the frames of a tap until the site ends or a write fails, and closes the link.
 fn write_link<R, S, B, O>(
     rt: R,
-    hub: &Hub<S, B>,
-    own: Arc<Hub<S, B>>,
+    shared: &Shared<S, B>,
+    own: Arc<Shared<S, B>>,
     tap: ParkingTap,
     out: &mut O,
 ) -> LinkTap
@@ -197,14 +197,14 @@ where
     requires fresh { O.failures out.old ≡ 0 }
     ensures to { result.to ≡ tap.to }
     ensures wrote { (over : Bool) × ((fault : Option LinkFault)
-        × Wrote hub.now.edition hub.now.site (Some tap.taken) (Some result.taken) over
+        × Wrote shared.now.edition shared.now.site (Some tap.taken) (Some result.taken) over
         (O.taken out.old) (O.taken out.new) (O.failures out.old) (O.failures out.new) fault) }
 {
     let to = tap.to();
-    let mut exit = Exit::new(rt, own, tap);
-    let fault = run_writer(&rt, out, hub.edition, hub.site, &mut exit);
+    let mut exit = TapSource::new(rt, own, tap);
+    let fault = run_writer(&rt, out, shared.edition, shared.site, &mut exit);
     let why = fault.unwrap_or(LinkFault::Ended);
-    hub.links.lock(&rt).close_out(to, why);
-    hub.note(&rt, Note::ClosedOut(to, why));
+    shared.links.lock(&rt).close_out(to, why);
+    shared.note(&rt, Note::ClosedOut(to, why));
     exit.into_tap().into_tap()
 }

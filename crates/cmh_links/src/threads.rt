@@ -6,9 +6,9 @@ ghost use Rattle.cmh_links.specs.Threads.{closed_with, connected_in, failed_in, 
 
 use crate::accepting::accept_all;
 use crate::dialler::Dialler;
-use crate::hub::Hub;
 use crate::opening::{Place, open};
 use crate::seats::Seats;
+use crate::shared::Shared;
 use crate::watching::{start_watching, stop_watching};
 use cmh_carriers::{Dial, Gate, Line, Listen};
 use cmh_frames::{SiteId, Topology};
@@ -27,7 +27,7 @@ use std::time::Clock;
 /// The running threads of a site. It isn't `Drop`: whoever starts it has to stop it.
 pub struct SiteThreads<R, S: Sink, B: Listing, D: Dial> {
     rt: R,
-    hub: Arc<Hub<S, B>>,
+    shared: Arc<Shared<S, B>>,
     dial: Dialler<D>,
     accepting: JoinHandle<()>,
     accepter: Unparker,
@@ -51,19 +51,19 @@ pub struct SiteThreads<R, S: Sink, B: Listing, D: Dial> {
 /// The states of a site's links, which another thread looks at.
 #[derive(Drop)]
 pub struct LinkView<S: Sink, B: Listing> {
-    hub: Arc<Hub<S, B>>,
+    shared: Arc<Shared<S, B>>,
 }
 
 impl<S: Sink, B: Listing> LinkView<S, B> {
     pub fn links(&self) -> &SharedLinks {
-        &self.hub.links
+        &self.shared.links
     }
 }
 
 /// What `start` needs memory for.
 struct Parts<S: Sink, B: Listing, L: Line + Drop, O: Line + Drop> {
-    hub: Arc<Hub<S, B>>,
-    theirs: Arc<Hub<S, B>>,
+    shared: Arc<Shared<S, B>>,
+    theirs: Arc<Shared<S, B>>,
     seats: Arc<Seats<L>>,
     outs: Arc<Seats<O>>,
     parker: Parker,
@@ -83,12 +83,12 @@ fn make_parts<S: Sink, B: Listing, L: Line + Drop, O: Line + Drop>(
 ) -> Result<Parts<S, B, L, O>, AllocError>
     ensures { IfOk result (λ parts. (count ≤ vec_capacity parts.places) × (count ≤ vec_capacity parts.taps)) }
 {
-    let hub = Hub::open(alloc, topology, site, station, speaker)?;
-    let theirs = Arc::try_clone(&hub)?;
+    let shared = Shared::open(alloc, topology, site, station, speaker)?;
+    let theirs = Arc::try_clone(&shared)?;
     let parker = Parker::new(alloc)?;
     let accepter = parker.unparker().clone()?;
     Ok(Parts {
-        hub,
+        shared,
         theirs,
         seats: Arc::new(alloc, Seats::new(alloc))?,
         outs: Arc::new(alloc, Seats::new(alloc))?,
@@ -160,7 +160,7 @@ where
             return Err(taps);
         };
         let Parts {
-            hub,
+            shared,
             theirs,
             seats,
             outs,
@@ -169,7 +169,7 @@ where
             places,
             taps: room,
         } = parts;
-        let Some(watching) = start_watching(rt, &hub, &seats, &outs) else {
+        let Some(watching) = start_watching(rt, &shared, &seats, &outs) else {
             return Err(taps);
         };
         let spawned = thread::spawn(
@@ -179,14 +179,14 @@ where
             { accept_all(rt, alloc, theirs, seats, listen, parker) },
         );
         let Ok(accepting) = spawned else {
-            stop_watching(&rt, &hub, watching);
+            stop_watching(&rt, &shared, watching);
             return Err(taps);
         };
         let mut waiting = taps;
         waiting.reverse();
         Ok(SiteThreads {
             rt,
-            hub,
+            shared,
             dial: Dialler::new(dial),
             accepting,
             accepter,
@@ -201,13 +201,13 @@ where
 
     /// The states of the site's links.
     pub fn links(&self) -> &SharedLinks {
-        &self.hub.links
+        &self.shared.links
     }
 
     /// The same, for another thread.
     pub fn view(&self) -> Result<LinkView<S, B>, AllocError> {
         Ok(LinkView {
-            hub: Arc::try_clone(&self.hub)?,
+            shared: Arc::try_clone(&self.shared)?,
         })
     }
 
@@ -233,8 +233,15 @@ where
         let mut connected = 0;
         let mut failed = 0;
         while let Some(tap) = self.waiting.pop() {
-            let is_new = self.hub.links.lock(&self.rt).open_out(tap.to());
-            let place = open(self.rt, &self.hub, &mut self.dial, &self.outs, tap, is_new);
+            let is_new = self.shared.links.lock(&self.rt).open_out(tap.to());
+            let place = open(
+                self.rt,
+                &self.shared,
+                &mut self.dial,
+                &self.outs,
+                tap,
+                is_new,
+            );
             match &place {
                 Place::Idle(_) => {}
                 Place::Closed { .. } => failed += 1,
@@ -247,15 +254,15 @@ where
 
     /// Lets the writing threads end once they have nothing left. It waits for nobody.
     pub fn end(&self) {
-        self.hub.ending.store(true, Ordering::SeqCst);
-        self.hub.station.wake();
+        self.shared.ending.store(true, Ordering::SeqCst);
+        self.shared.station.wake();
         self.accepter.unpark();
     }
 
     /// As `end`, and `stop` will not wait for peers that keep their connections open, nor for longer than some seconds for
     /// those that read too slowly. Frames that they sent and nobody read are lost, as are those that were not written then.
     pub fn cut_off(&self) {
-        self.hub.cutting.store(true, Ordering::SeqCst);
+        self.shared.cutting.store(true, Ordering::SeqCst);
         self.end();
     }
 
@@ -270,7 +277,7 @@ where
         self.end();
         let SiteThreads {
             rt,
-            hub,
+            shared,
             dial: _,
             accepting,
             accepter: _,
@@ -296,7 +303,7 @@ where
         }
         gate.shut();
         accepting.join(&rt);
-        stop_watching(&rt, &hub, watching);
+        stop_watching(&rt, &shared, watching);
         taps
     }
 }

@@ -1,7 +1,7 @@
 //! The watching thread of a site, which does what needs a clock.
 
-use crate::hub::Hub;
 use crate::seats::Seats;
+use crate::shared::Shared;
 use cmh_carriers::Line;
 use cmh_journal::Sink;
 use cmh_notes::Note;
@@ -28,7 +28,7 @@ const MOST_QUIT_SECONDS: u64 = 4;
 /// thread was refused.
 pub(crate) fn start_watching<R, S, B, L, O>(
     rt: R,
-    hub: &Arc<Hub<S, B>>,
+    shared: &Arc<Shared<S, B>>,
     seats: &Arc<Seats<L>>,
     outs: &Arc<Seats<O>>,
 ) -> Option<JoinHandle<()>>
@@ -39,26 +39,26 @@ where
     L: Line + Send + Drop + 'static,
     O: Line + Send + Drop + 'static,
 {
-    let hub = Arc::try_clone(hub).ok()?;
+    let shared = Arc::try_clone(shared).ok()?;
     let seats = Arc::try_clone(seats).ok()?;
     let outs = Arc::try_clone(outs).ok()?;
-    thread::spawn(&rt, move || watch(rt, hub, seats, outs)).ok()
+    thread::spawn(&rt, move || watch(rt, shared, seats, outs)).ok()
 }
 
 /// Ends the watching thread.
 pub(crate) fn stop_watching<R: Wait + Threads, S: Sink, B: Listing>(
     rt: &R,
-    hub: &Hub<S, B>,
+    shared: &Shared<S, B>,
     watching: JoinHandle<()>,
 ) {
-    hub.is_done.store(true, Ordering::SeqCst);
-    hub.watcher.unpark();
+    shared.is_done.store(true, Ordering::SeqCst);
+    shared.watcher.unpark();
     watching.join(rt);
 }
 
 /// Ends connections that wait for too long, and has the writing threads look at theirs, until the other threads are done.
 /// It takes no lock of the station and no memory.
-fn watch<R, S, B, L, O>(rt: R, hub: Arc<Hub<S, B>>, seats: Arc<Seats<L>>, outs: Arc<Seats<O>>)
+fn watch<R, S, B, L, O>(rt: R, shared: Arc<Shared<S, B>>, seats: Arc<Seats<L>>, outs: Arc<Seats<O>>)
 where
     R: Wait + Clock + Drop,
     S: Sink,
@@ -71,22 +71,23 @@ where
     let mut turn = 0;
     let mut cut_at: Option<Duration> = None;
     for _ in rt.forever() {
-        if hub.is_done.load(Ordering::SeqCst) {
+        if shared.is_done.load(Ordering::SeqCst) {
             break;
         }
-        hub.watcher
+        shared
+            .watcher
             .park_timeout(&rt, Duration::from_millis(TURN_MILLISECONDS));
         turn = turn % LOOK_TURNS + 1;
         if turn == LOOK_TURNS {
-            hub.look();
+            shared.look();
         }
         let Ok(now) = rt.monotonic() else {
             continue;
         };
         for _ in 0..seats.shut_silent(&rt, now, most_hello) {
-            hub.note(&rt, Note::NoHello);
+            shared.note(&rt, Note::NoHello);
         }
-        if hub.cutting.load(Ordering::SeqCst) {
+        if shared.cutting.load(Ordering::SeqCst) {
             let since = cut_at.unwrap_or(now);
             cut_at = Some(since);
             if now.saturating_sub(since) >= most_quit {

@@ -1,6 +1,6 @@
-use Rattle.std.proofs.Common.{ℕ, List, rules, sym, subst, ◌∙◌}
+use Rattle.std.proofs.Common.{ℕ, List, rules, sym, subst}
 use Rattle.std.specs.Prelude.{IfSome}
-use Rattle.cmh_play.proofs.Plays.{answered_none, fault_not_0}
+use Rattle.cmh_play.proofs.Plays.{answered_none}
 use Rattle.cmh_play.specs.Play.{Answered}
 use Rattle.cmh.proofs.play_into.Goals as goal
 
@@ -10,7 +10,7 @@ returns-in-Err-clause-plays g c = record {
       c.args.out.now.written c.args.out.now.written c.args.out.now.has_failed status))
       (sym c.name_on.ensures.status)
       (answered_none c.args.input.now.left c.args.out.now.written c.alloc-alloc.result c.args.out.now.has_failed c.in-Err.fault);
-  flushed = λ done. absurd (fault_not_0 c.in-Err.fault (sym c.name_on.ensures.status ∙ done));
-  silent = λ done. absurd (fault_not_0 c.in-Err.fault (sym c.name_on.ensures.status ∙ done));
+  flushed = λ done. absurd (c.name_on.ensures.fails done);
+  silent = λ done. absurd (c.name_on.ensures.fails done);
   fault = λ _. search rules;
 }

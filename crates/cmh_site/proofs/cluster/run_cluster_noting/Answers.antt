@@ -10,3 +10,15 @@ returns-in-Ok-Read-clause-ends g c =
 pub returns-in-Err-clause-ends : goal.returns-in-Err-clause-ends
 returns-in-Err-clause-ends g c =
     inr (inr (record { fault = Memory; cause = inl refl; status_is = c.name_on.ensures.status; named = c.name_on.ensures.named }))
+
+pub returns-in-Err-clause-status : goal.returns-in-Err-clause-status
+returns-in-Err-clause-status g c = c.name_on.ensures.ends
+
+pub returns-in-Err-clause-audit : goal.returns-in-Err-clause-audit
+returns-in-Err-clause-audit g c = λ none. absurd (c.name_on.ensures.fails none)
+
+pub returns-clause-status : goal.returns-clause-status
+returns-clause-status g c = c.name_on-in-Err-played.ensures.ends
+
+pub returns-clause-audit : goal.returns-clause-audit
+returns-clause-audit g c = λ none. absurd (c.name_on-in-Err-played.ensures.fails none)

@@ -20,7 +20,7 @@ use std::thread::Parker;
 
 /// What the threads of a site share.
 #[derive(Drop)]
-pub(crate) struct Hub<S: Sink, B: Listing> {
+pub(crate) struct Shared<S: Sink, B: Listing> {
     pub station: Arc<SharedStation<S, B>>,
     pub links: SharedLinks,
     pub edition: Edition,
@@ -43,7 +43,7 @@ pub(crate) struct Hub<S: Sink, B: Listing> {
     pub speaker: Option<Speaker>,
 }
 
-impl<S: Sink, B: Listing> Hub<S, B> {
+impl<S: Sink, B: Listing> Shared<S, B> {
     /// All links are new, and nothing ends.
     pub fn open(
         alloc: Global,
@@ -51,16 +51,16 @@ impl<S: Sink, B: Listing> Hub<S, B> {
         site: SiteId,
         station: Arc<SharedStation<S, B>>,
         speaker: Option<Speaker>,
-    ) -> Result<Arc<Hub<S, B>>, AllocError>
-        ensures edition { IfOk result (λ hub. (arc_value hub).edition ≡ topology.now.edition) }
-        ensures site { IfOk result (λ hub. (arc_value hub).site ≡ site) }
-        ensures others { IfOk result (λ hub. (arc_value hub).others.items ≡ others topology.now site) }
+    ) -> Result<Arc<Shared<S, B>>, AllocError>
+        ensures edition { IfOk result (λ shared. (arc_value shared).edition ≡ topology.now.edition) }
+        ensures site { IfOk result (λ shared. (arc_value shared).site ≡ site) }
+        ensures others { IfOk result (λ shared. (arc_value shared).others.items ≡ others topology.now site) }
     {
         let others = others_of(alloc, topology, site)?;
         let table = LinkTable::new(alloc, topology, site)?;
-        let hub = Arc::new(
+        let shared = Arc::new(
             alloc,
-            Hub {
+            Shared {
                 station,
                 links: SharedLinks::new(table),
                 edition: topology.edition(),
@@ -75,7 +75,7 @@ impl<S: Sink, B: Listing> Hub<S, B> {
                 speaker,
             },
         )?;
-        Ok(hub)
+        Ok(shared)
     }
 
     /// Notes something, where notes are wanted, unless the site is ending.
@@ -116,28 +116,28 @@ fn push_other(sites: &mut Vec<SiteId>, other: SiteId, site: SiteId) -> Result<()
 
 /// Where a reading thread hands its frames to the station that all share.
 #[derive(Drop)]
-pub(crate) struct Entrance<R: Wait + Drop, S: Sink, B: Listing, L: Line + Drop> {
+pub(crate) struct StationHandover<R: Wait + Drop, S: Sink, B: Listing, L: Line + Drop> {
     rt: R,
-    hub: Arc<Hub<S, B>>,
+    shared: Arc<Shared<S, B>>,
     seat: Arc<Seat<L>>,
     refused: Option<StationRefusal>,
 }
 
-impl<R: Wait + Drop, S: Sink, B: Listing, L: Line + Drop> Entrance<R, S, B, L> {
+impl<R: Wait + Drop, S: Sink, B: Listing, L: Line + Drop> StationHandover<R, S, B, L> {
     /// It has refused nothing.
-    pub fn new(rt: R, hub: Arc<Hub<S, B>>, seat: Arc<Seat<L>>) -> Self
+    pub fn new(rt: R, shared: Arc<Shared<S, B>>, seat: Arc<Seat<L>>) -> Self
         ensures { result.refused ≡ None }
     {
-        Entrance {
+        StationHandover {
             rt,
-            hub,
+            shared,
             seat,
             refused: None,
         }
     }
 }
 
-impl<R: Wait + Drop, S: Sink, B: Listing, L: Line + Drop> Handover for Entrance<R, S, B, L> {
+impl<R: Wait + Drop, S: Sink, B: Listing, L: Line + Drop> Handover for StationHandover<R, S, B, L> {
     ghost accepted = { λ _. None };
 
     ghost refused = { λ s. s.refused };
@@ -151,17 +151,17 @@ impl<R: Wait + Drop, S: Sink, B: Listing, L: Line + Drop> Handover for Entrance<
     #[tactic(auto, using(cmh_loops::proofs::Batches::handed_untold, cmh_loops::proofs::Batches::some_left))]
     fn hand_all(&mut self, from: SiteId, frames: &[Frame]) -> Result<(), StationRefusal> {
         self.seat.tell();
-        let mut station = self.hub.station.lock(&self.rt);
+        let mut station = self.shared.station.lock(&self.rt);
         let before = station.journal().len();
         let answer = station.take_frames(&self.rt, from, frames);
-        let news = self.hub.station.news(&station, before);
+        let news = self.shared.station.news(&station, before);
         drop(station);
-        self.hub.station.wake_for(news);
+        self.shared.station.wake_for(news);
         match answer {
             Ok(()) => Ok(()),
             Err(refusal) => {
                 if refusal == StationRefusal::Disk {
-                    self.hub.note(&self.rt, Note::Sealed);
+                    self.shared.note(&self.rt, Note::Sealed);
                 }
                 self.refused = Some(refusal);
                 Err(refusal)
@@ -172,22 +172,22 @@ impl<R: Wait + Drop, S: Sink, B: Listing, L: Line + Drop> Handover for Entrance<
 
 /// Where a writing thread takes its frames from the tap of its link.
 #[derive(Drop)]
-pub(crate) struct Exit<R: Wait + Drop, S: Sink, B: Listing> {
+pub(crate) struct TapSource<R: Wait + Drop, S: Sink, B: Listing> {
     rt: R,
-    hub: Arc<Hub<S, B>>,
+    shared: Arc<Shared<S, B>>,
     tap: ParkingTap,
     /// How many looks it told.
     looks: u64,
     over: bool,
 }
 
-impl<R: Wait + Drop, S: Sink, B: Listing> Exit<R, S, B> {
-    pub fn new(rt: R, hub: Arc<Hub<S, B>>, tap: ParkingTap) -> Self
+impl<R: Wait + Drop, S: Sink, B: Listing> TapSource<R, S, B> {
+    pub fn new(rt: R, shared: Arc<Shared<S, B>>, tap: ParkingTap) -> Self
         ensures { result.tap ≡ tap }
     {
-        Exit {
+        TapSource {
             rt,
-            hub,
+            shared,
             tap,
             looks: 0,
             over: false,
@@ -198,9 +198,9 @@ impl<R: Wait + Drop, S: Sink, B: Listing> Exit<R, S, B> {
     pub fn into_tap(self) -> ParkingTap
         ensures { result ≡ self.tap }
     {
-        let Exit {
+        let TapSource {
             rt: _,
-            hub: _,
+            shared: _,
             tap,
             looks: _,
             over: _,
@@ -213,7 +213,7 @@ impl<R: Wait + Drop, S: Sink, B: Listing> Exit<R, S, B> {
 /// look at the ring, after one more release of the backlog, showed nothing.
 fn next_of<R: Wait, S: Sink, B: Listing>(
     rt: &R,
-    hub: &Hub<S, B>,
+    shared: &Shared<S, B>,
     tap: &mut ParkingTap,
     looks: &mut u64,
 ) -> Next
@@ -227,15 +227,15 @@ fn next_of<R: Wait, S: Sink, B: Listing>(
             return Next::Frame(frame);
         }
         // Read before the last look, so that no frame that was there at the end is left.
-        let ending = hub.ending.load(Ordering::SeqCst);
-        hub.station.lock(rt).release();
+        let ending = shared.ending.load(Ordering::SeqCst);
+        shared.station.lock(rt).release();
         if let Some(frame) = tap.take() {
             return Next::Frame(frame);
         }
         if ending {
             return Next::End;
         }
-        let wanted = hub.looks.load(Ordering::SeqCst);
+        let wanted = shared.looks.load(Ordering::SeqCst);
         if wanted != *looks {
             *looks = wanted;
             return Next::Look;
@@ -245,7 +245,7 @@ fn next_of<R: Wait, S: Sink, B: Listing>(
     unreachable!()
 }
 
-impl<R: Wait + Drop, S: Sink, B: Listing> FrameSource for Exit<R, S, B> {
+impl<R: Wait + Drop, S: Sink, B: Listing> FrameSource for TapSource<R, S, B> {
     ghost given = { λ s. Some s.tap.taken };
 
     ghost is_over = { λ s. s.over };
@@ -253,7 +253,7 @@ impl<R: Wait + Drop, S: Sink, B: Listing> FrameSource for Exit<R, S, B> {
     ghost link_to = { λ s. s.tap.to };
 
     fn next(&mut self) -> Next {
-        let next = next_of(&self.rt, &self.hub, &mut self.tap, &mut self.looks);
+        let next = next_of(&self.rt, &self.shared, &mut self.tap, &mut self.looks);
         if next == Next::End {
             self.over = true;
         }
