@@ -6,15 +6,15 @@ use Rattle.clap.specs.Matches.{first_value, found_of, one_text, subcommand_name_
 use Rattle.clap.specs.Simple.{subcommand_rows_of}
 use Rattle.clap.specs.Walk.{rows_of}
 use Rattle.cmh_frames.specs.Number.{IsNumber}
-use Rattle.cmh_script.specs.Device.{Writing}
+use Rattle.cmh_console.specs.Device.{Writing}
 use Rattle.cmh_files.specs.Audits.{AuditEnds}
 use Rattle.cmh_files.specs.Explains.{ExplainEnds}
-use Rattle.cmh_files.specs.Faults.{NamesFault}
+use Rattle.cmh_console.specs.Faults.{NamesFault}
 use Rattle.cmh_files.specs.RunAudits.{RunEnds}
 use Rattle.cmh_files.specs.Shows.{ShowEnds}
-use Rattle.cmh_files.specs.Status.{IsStatus}
-use Rattle.cmh_files.specs.declared.faults.Fault.{Fault}
-use Rattle.cmh_files.specs.declared.faults.Fault.TheVariants.{TopologyFile, ScriptFile, JournalFile, Memory}
+use Rattle.cmh_console.specs.Status.{IsStatus}
+use Rattle.cmh_console.specs.declared.faults.Fault.{Fault}
+use Rattle.cmh_console.specs.declared.faults.Fault.TheVariants.{TopologyFile, ScriptFile, JournalFile, Memory}
 
 -- the command that is named is the audit
 abbrev pub NamesAudit : ArgMatches → Type 0

@@ -1,8 +1,8 @@
 -- Pictures of files.
 use Rattle.std.specs.Prelude.{◌≡◌, ℕ, ◌⊎◌, List}
 use Rattle.cmh_draw.specs.declared.picture.Kind.{Kind}
-use Rattle.cmh_script.specs.Device.{Writing}
-use Rattle.cmh_files.specs.Faults.{NamesFault}
+use Rattle.cmh_console.specs.Device.{Writing}
+use Rattle.cmh_console.specs.Faults.{NamesFault}
 use Rattle.cmh_picture.specs.Draws.{DrawEnds}
 use Rattle.cmh_picture.specs.declared.format.Format.{Format}
 use Rattle.cmh.specs.CommandLine.{IsUnread}

@@ -1,8 +1,8 @@
 -- How a script that the program plays ends.
 use Rattle.std.specs.Prelude.{◌≡◌, ◌≢◌, ℕ, true, IfSome}
-use Rattle.cmh_script.specs.Device.{Reading, Writing}
-use Rattle.cmh_files.specs.Faults.{IsPlayFault, NamesFault}
-use Rattle.cmh_files.specs.declared.faults.Fault.{Fault}
+use Rattle.cmh_console.specs.Device.{Reading, Writing}
+use Rattle.cmh_console.specs.Faults.{IsPlayFault, NamesFault}
+use Rattle.cmh_console.specs.declared.faults.Fault.{Fault}
 use Rattle.cmh_play.specs.Keeping.{IsKeptPlayFault, IsUnkept}
 use Rattle.cmh_play.specs.Play.{Answered}
 

@@ -1,9 +1,9 @@
 -- How a site that the program serves ends, and a cluster.
 use Rattle.std.specs.Prelude.{◌≡◌, ◌≢◌, ℕ, ◌⊎◌, true, List, IfSome}
-use Rattle.cmh_script.specs.Device.{Reading, Writing}
-use Rattle.cmh_files.specs.Faults.{NamesFault}
-use Rattle.cmh_files.specs.declared.faults.Fault.{Fault}
-use Rattle.cmh_files.specs.declared.faults.Fault.TheVariants.{Site}
+use Rattle.cmh_console.specs.Device.{Reading, Writing}
+use Rattle.cmh_console.specs.Faults.{NamesFault}
+use Rattle.cmh_console.specs.declared.faults.Fault.{Fault}
+use Rattle.cmh_console.specs.declared.faults.Fault.TheVariants.{Site}
 use Rattle.cmh_site.specs.ClusterEndings.{ClusterEnds}
 use Rattle.cmh_site.specs.Endings.{IsSiteFault, Served}
 use Rattle.cmh.specs.CommandLine.{IsUnread}

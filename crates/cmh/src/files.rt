@@ -3,10 +3,10 @@
 ghost use Rattle.std.specs.Prelude.{◌≡◌, ◌⊎◌, IfErr};
 ghost use Rattle.cmh.specs.CommandLine.{IsUnread};
 
-use crate::commands::{JOURNALS, SCRIPT, TOPOLOGY};
 use clap::ArgMatches;
-use cmh_live::stop_of;
+use cmh_options::{JOURNALS, SCRIPT, TOPOLOGY};
 use cmh_site::Fault;
+use cmh_stored::stop_of;
 use std::fs;
 use std::io::ErrorKind;
 use std::rt::Files;

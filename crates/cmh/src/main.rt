@@ -12,23 +12,20 @@ ghost use Rattle.cmh_draw.specs.Kinds.{kind_word};
 ghost use Rattle.cmh_draw.specs.declared.picture.Kind as kinds;
 ghost use Rattle.cmh_picture.specs.Formats.{format_word};
 ghost use Rattle.cmh_picture.specs.declared.format.Format as formats;
-ghost use Rattle.cmh_files.specs.Status.{IsStatus};
+ghost use Rattle.cmh_console.specs.Status.{IsStatus};
 
-mod commands;
 mod drawing;
 mod files;
-mod help;
 
-use crate::commands::{
-    AUDIT, CLUSTER, DRAW, JOURNAL, JOURNALS, NOTES, OUT, PATIENCE, PLAY, PORT, QUIET, RUN, SERVE,
-    SHOW, SITE, TOPOLOGY, WHY, command,
-};
 use crate::drawing::draw;
 use crate::files::{cluster_files_of, files_of, journals_of, read_file};
-use crate::help::Help;
 use clap::{ArgMatches, Error, error};
 use cmh_files::{run_audit_run, run_audit_why};
 use cmh_frames::SiteId;
+use cmh_options::{
+    AUDIT, CLUSTER, DRAW, Help, JOURNAL, JOURNALS, NOTES, OUT, PATIENCE, PLAY, PORT, QUIET, RUN,
+    SERVE, SHOW, SITE, TOPOLOGY, WHY, command,
+};
 use cmh_service::run_service;
 use cmh_site::{
     Ahead, Fault, Folder, Input, Noted, Output, SiteStart, System, Voice, run_audit,

@@ -20,7 +20,7 @@ use Rattle.cmh_audit.specs.Journals.{journal_of, entry_count, NoneAt, OneEach}
 use Rattle.cmh_audit.specs.Sums.{in_entries, in_journals}
 use Rattle.cmh_audit.specs.Totals.{AreWithinLimit}
 use Rattle.cmh_audit.specs.Transit.{sum_over, sent_count}
-use Rattle.cmh_audit.proofs.Members.{contains_rest}
+use Rattle.cmh_cycles.proofs.Members.{contains_rest}
 
 -- ---- entries
 

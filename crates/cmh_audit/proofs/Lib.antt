@@ -4,8 +4,6 @@ pub mod PairLemmas
 pub mod MoveLemmas
 pub mod SendLemmas
 pub mod WalkLemmas
-pub mod BitLemmas
-pub mod RowLemmas
 pub mod CountLemmas
 pub mod PlaceLemmas
 pub mod MergeLemmas
@@ -15,10 +13,6 @@ pub mod Sums
 pub mod TurnLemmas
 pub mod OpenLemmas
 pub mod DeclarationLemmas
-pub mod Members
-pub mod GraphLemmas
-pub mod LevelLemmas
-pub mod CycleLemmas
 pub mod CountingLemmas
 pub mod ReportLemmas
 pub mod AuditLemmas

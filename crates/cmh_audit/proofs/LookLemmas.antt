@@ -12,7 +12,7 @@ use Rattle.cmh_audit.specs.Inner.Merging.{AreLawfulLengths, AreLeftAt, IsNextFra
 use Rattle.cmh_audit.specs.Inner.Orders.{IsOrder}
 use Rattle.cmh_audit.specs.Inner.Ready.{Wakes, with_turn}
 use Rattle.cmh_audit.proofs.CountLemmas.{limit_here, total-le}
-use Rattle.cmh_audit.proofs.Members.{contains_last}
+use Rattle.cmh_cycles.proofs.Members.{contains_last}
 use Rattle.cmh_audit.proofs.MoveLemmas.{moves_both, received_next}
 use Rattle.cmh_audit.proofs.OrderLemmas.{order_more}
 use Rattle.cmh_audit.proofs.ReadyLemmas.{Listed, listed_done, listed_parked, listed_took, work, work_took}

@@ -17,7 +17,7 @@ use Rattle.cmh_world.specs.Links.{Links, waiting}
 use Rattle.cmh_audit.specs.Inner.Merging.{AreLawfulLengths, IsStuck, IsNextFrame, MovesFrames, total, AreTried}
 use Rattle.cmh_audit.specs.Inner.Ready.{Wakes, ArePlaces, parked_count}
 use Rattle.cmh_audit.proofs.CountLemmas.{total-set, total-none, total-le, limit_here}
-use Rattle.cmh_audit.proofs.Members.{contains_left, contains_last, contains_push}
+use Rattle.cmh_cycles.proofs.Members.{contains_left, contains_last, contains_push}
 use Rattle.cmh_audit.proofs.SendLemmas.{apart_sites}
 use Rattle.cmh_audit.proofs.TryLemmas.{tried_start, tried_failed, tried_took}
 use Rattle.cmh_audit.proofs.MergeLemmas.{Merging, merging_start, merging_more, stuck_at_limit, stuck_at_frame, all_stuck}

@@ -21,14 +21,14 @@ use Rattle.cmh_world.specs.Links.{Links, waiting}
 use Rattle.cmh_audit.specs.Sums.{in_journals}
 use Rattle.cmh_audit.specs.Transit.{sum_over, in_transit}
 use Rattle.cmh_audit.specs.Turns.{turned, turns}
-use Rattle.cmh_audit.specs.Inner.FoundCycles.{WaitsIn, IsCycleIn}
+use Rattle.cmh_cycles.specs.FoundCycles.{WaitsIn, IsCycleIn}
 use Rattle.cmh_audit.specs.Reports.{beside, IsFirstCycle}
 use Rattle.cmh_audit.specs.Inner.FoundCycles.{AreFirstCycles, AreFoundCycles, AreOnCycles, IsFoundCycle}
-use Rattle.cmh_audit.proofs.Members.{contains_rest}
+use Rattle.cmh_cycles.proofs.Members.{contains_rest}
 use Rattle.cmh_audit.proofs.CountingLemmas.{sum_same}
 use Rattle.cmh_audit.proofs.DeclarationLemmas.{declared_at_end}
 use Rattle.cmh_audit.proofs.TurnLemmas.{waits_at_end}
-use Rattle.cmh_audit.specs.Cycles.{IsFirstCycleOf}
+use Rattle.cmh_cycles.specs.Cycles.{IsFirstCycleOf}
 
 later : (i d : ℕ) (is : List ℕ) → Contains is i → Contains (d ∷ is) i
 later i d is c = (suc c.0, let l = c.1 in omega (arith, l), c.2)

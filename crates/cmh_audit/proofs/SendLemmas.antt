@@ -13,7 +13,7 @@ use Rattle.cmh_world.specs.Links.{Links, waiting, only_at}
 use Rattle.cmh_audit.specs.Inner.Merging.{SendsFrames}
 use Rattle.cmh_audit.specs.Inner.Ready.{Wakes, parked_count}
 use Rattle.cmh_audit.proofs.CountLemmas.{none_at}
-use Rattle.cmh_audit.proofs.Members.{contains_left, contains_last, contains_push}
+use Rattle.cmh_cycles.proofs.Members.{contains_left, contains_last, contains_push}
 
 pub other_number : (o : Option ℕ) (n : ℕ) → option_eq nat_eq o (Some n) ≡ false → o ≡ Some n → ⊥
 other_number o n h e = true≢false (sym (eq-eqb n n refl) ∙ ap (λ p. option_eq nat_eq p (Some n)) (sym e) ∙ h)

@@ -2,7 +2,7 @@
 use Rattle.std.proofs.Common.{◌≡◌, ◌↔◌, ℕ, ◌==◌, ◌||◌, not, Bool, true, false, true≢false, List, [], ◌∷◌, map, sym, ap, refl, ◌∙◌}
 use Rattle.std.specs.Prelude.{Contains, All}
 use Rattle.std.specs.List.{list_any, AllByRecursion}
-use Rattle.std.proofs.lemmas.Bool.{eq-eqb, ne_eqb, eqb-true}
+use Rattle.std.proofs.lemmas.Bool.{eq-eqb, ne_eqb, eqb-true, or_parts, or_from}
 use Rattle.std.proofs.lemmas.List.Elements.{All-from_recursion, recursion_from_All}
 use Rattle.cmh_frames.specs.declared.edition.Edition.{Edition}
 use Rattle.cmh_frames.specs.Edition.{number_of}
@@ -15,24 +15,17 @@ use Rattle.cmh_journal.proofs.Readings.{same_edition}
 
 -- ---- tests of lists
 
-or_none : (a b : Bool) → (a || b) ≡ false → (a ≡ false) × (b ≡ false)
-or_none true b h = absurd (true≢false h)
-or_none false b h = (refl, h)
-
-none_or : (a b : Bool) → a ≡ false → b ≡ false → (a || b) ≡ false
-none_or a b p q = ap (λ x. x || b) p ∙ q
-
 not_false : (a : Bool) → not a ≡ false → a ≡ true
 not_false true h = refl
 not_false false h = absurd (true≢false h)
 
 none_any : {X : Type 0} (p : X → Bool) (P : X → Type 0) (xs : List X) → ((x : X) → p x ≡ false → P x) → list_any p xs ≡ false → AllByRecursion P xs
 none_any p P [] f h = tt
-none_any p P (x ∷ xs) f h = let both = or_none (p x) (list_any p xs) h in (f x both.0, none_any p P xs f both.1)
+none_any p P (x ∷ xs) f h = let both = or_parts (p x) (list_any p xs) h in (f x both.0, none_any p P xs f both.1)
 
 any_none : {X : Type 0} (p : X → Bool) (P : X → Type 0) (xs : List X) → ((x : X) → P x → p x ≡ false) → AllByRecursion P xs → list_any p xs ≡ false
 any_none p P [] f h = refl
-any_none p P (x ∷ xs) f h = none_or (p x) (list_any p xs) (f x h.0) (any_none p P xs f h.1)
+any_none p P (x ∷ xs) f h = or_from (p x) (list_any p xs) (f x h.0) (any_none p P xs f h.1)
 
 -- ---- the four tests
 
@@ -51,18 +44,18 @@ edition_iff e js = (
 
 none_at : (s : ℕ) (js : List Journal) → has_journal js s ≡ false → NoneAt s js
 none_at s [] h = tt
-none_at s (j ∷ js) h = let both = or_none (j.site == s) (has_journal js s) h in ((λ e. true≢false (sym (eq-eqb j.site s e) ∙ both.0)), none_at s js both.1)
+none_at s (j ∷ js) h = let both = or_parts (j.site == s) (has_journal js s) h in ((λ e. true≢false (sym (eq-eqb j.site s e) ∙ both.0)), none_at s js both.1)
 
 at_none : (s : ℕ) (js : List Journal) → NoneAt s js → has_journal js s ≡ false
 at_none s [] h = refl
-at_none s (j ∷ js) h = none_or (j.site == s) (has_journal js s) (ne_eqb j.site s h.0) (at_none s js h.1)
+at_none s (j ∷ js) h = or_from (j.site == s) (has_journal js s) (ne_eqb j.site s h.0) (at_none s js h.1)
 
 pub once_iff : (js : List Journal) → (repeats_site js ≡ false) ↔ OneEach js
 once_iff [] = (λ h. tt, λ h. refl)
 once_iff (j ∷ js) =
     let more = once_iff js in (
-      λ h. let both = or_none (has_journal js j.site) (repeats_site js) h in (none_at j.site js both.0, more.0 both.1),
-      λ one. none_or (has_journal js j.site) (repeats_site js) (at_none j.site js one.0) (more.1 one.1),
+      λ h. let both = or_parts (has_journal js j.site) (repeats_site js) h in (none_at j.site js both.0, more.0 both.1),
+      λ one. or_from (has_journal js j.site) (repeats_site js) (at_none j.site js one.0) (more.1 one.1),
     )
 
 has_in : (s : ℕ) (js : List Journal) → has_journal js s ≡ list_any (λ q. q == s) (map (λ (j : Journal). j.site) js)

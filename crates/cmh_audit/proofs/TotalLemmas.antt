@@ -38,7 +38,7 @@ use Rattle.cmh_audit.specs.Turns.{turned, turns}
 use Rattle.cmh_audit.proofs.AuditLemmas.{set_few}
 use Rattle.cmh_audit.proofs.CountLemmas.{journal_here}
 use Rattle.cmh_audit.proofs.CountingLemmas.{Apart, ascending_apart, entries_sent, frames_sum, journals_sum, sendings_sum, sum_le, sum_over-plus, sum_same, sum_zero}
-use Rattle.cmh_audit.proofs.Members.{contains_rest}
+use Rattle.cmh_cycles.proofs.Members.{contains_rest}
 use Rattle.cmh_audit.proofs.ReportLemmas.{waits_same, declared_same, on_cycles, firsts_found, beside_is, cycles_to}
 use Rattle.cmh_audit.proofs.Sums.{journal_none}
 use Rattle.cmh_audit.proofs.TransitLemmas.{drained_iff, none_sent, site_or_not}

@@ -20,7 +20,7 @@ use Rattle.cmh_audit.specs.Inner.FoundStops.{stops_at}
 use Rattle.cmh_audit.specs.Verdicts.{entries_before, sent_before}
 use Rattle.cmh_audit.proofs.CountLemmas.{total-set, total-none, taken_here, journal_here, found}
 use Rattle.cmh_audit.proofs.CountingLemmas.{Fresh, Apart, without, without_length, without_keeps, few_journals}
-use Rattle.cmh_audit.proofs.Members.{contains_left, contains_last, contains_push}
+use Rattle.cmh_cycles.proofs.Members.{contains_left, contains_last, contains_push}
 use Rattle.cmh_audit.proofs.StopLemmas.{before_is}
 
 -- an entry more of the journal at i

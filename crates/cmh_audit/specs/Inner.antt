@@ -5,9 +5,6 @@ pub mod Ready
 pub mod Places
 pub mod Turns
 pub mod Declarations
-pub mod Graphs
-pub mod Levels
-pub mod Rows
 pub mod FoundCycles
 pub mod FoundStops
 pub mod Reporting

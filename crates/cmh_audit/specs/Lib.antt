@@ -4,7 +4,6 @@ pub mod Stops
 pub mod Sums
 pub mod Turns
 pub mod Declarations
-pub mod Cycles
 pub mod Transit
 pub mod Reports
 pub mod Verdicts

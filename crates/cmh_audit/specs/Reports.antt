@@ -6,7 +6,7 @@ use Rattle.cmh_model.specs.declared.journal.WorldEvent.{WorldEvent}
 use Rattle.cmh_model.specs.Relation.{pair_cmp}
 use Rattle.cmh_model.specs.Runs.{IsDrained}
 use Rattle.cmh_model.specs.Waits.{Waits, IsDeclared}
-use Rattle.cmh_audit.specs.Cycles.{IsFirstCycleOf}
+use Rattle.cmh_cycles.specs.Cycles.{IsFirstCycleOf}
 use Rattle.cmh_audit.specs.Transit.{in_transit}
 
 pub record Report : Type 0 where

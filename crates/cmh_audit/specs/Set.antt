@@ -6,8 +6,8 @@ use Rattle.cmh_frames.specs.Edition as edition
 use Rattle.cmh_frames.specs.Topology.{Topology, sites_of, is_site}
 use Rattle.cmh_journal.specs.Journal.{Journal}
 use Rattle.cmh_audit.specs.Journals.{OneEach}
-use Rattle.cmh_audit.specs.declared.set.SetFault.{SetFault}
-use Rattle.cmh_audit.specs.declared.set.SetFault.TheVariants.{UnknownSite, OtherEdition, RepeatedSite, MissingSite}
+use Rattle.cmh_journal.specs.declared.set_fault.SetFault.{SetFault}
+use Rattle.cmh_journal.specs.declared.set_fault.SetFault.TheVariants.{UnknownSite, OtherEdition, RepeatedSite, MissingSite}
 
 -- each journal is of a site of the topology and of its edition, and each site has just one
 pub record IsSet (t : Topology) (journals : List Journal) : Type 0 where
@@ -45,10 +45,3 @@ fault_of t journals =
     else (if list_any (is_of_other_edition t.edition) journals then Some OtherEdition
     else (if repeats_site journals then Some RepeatedSite
     else (if lacks_site (sites_of t) journals then Some MissingSite else None)))
-
--- the number that users see
-abbrev pub number_of : SetFault → ℕ
-number_of UnknownSite = 1
-number_of OtherEdition = 2
-number_of RepeatedSite = 3
-number_of MissingSite = 4

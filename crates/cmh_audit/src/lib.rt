@@ -2,14 +2,12 @@
 #![tactic(auto)]
 
 mod count;
-mod cycle;
 mod declared;
-mod graph;
+mod entries;
 mod merge;
 mod open_waits;
 mod places;
 mod report;
-mod row;
 mod runs;
 mod set;
 mod step;
@@ -20,10 +18,12 @@ mod verdict;
 mod waits;
 mod walk;
 
+pub use crate::entries::entries_at;
 pub use crate::report::Report;
 pub use crate::runs::run_of;
-pub use crate::set::{SetFault, check_set, place_of};
+pub use crate::set::{check_set, place_of};
 pub use crate::step::Step;
 pub use crate::stops::Stops;
 pub use crate::totals::Totals;
 pub use crate::verdict::{AuditMemory, Verdict, audit};
+pub use cmh_journal::SetFault;

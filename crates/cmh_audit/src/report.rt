@@ -2,15 +2,14 @@
 
 ghost use Rattle.std.specs.Prelude.{◌≡◌, ℕ, ◌<◌, ◌^◌, List, length, IfOk, IfSome, IfNone, Some, None, Contains};
 ghost use Rattle.std.specs.List.Sorted.{IsStrictlyIncreasing, IsStrictlySortedBy};
-ghost use Rattle.cmh_audit.specs.Inner.Graphs.{IsGraph};
+ghost use Rattle.cmh_cycles.specs.Graphs.{IsGraph};
 ghost use Rattle.cmh_audit.specs.Reports.{beside, cycle_of};
 ghost use Rattle.cmh_audit.specs.Inner.FoundCycles.{AreFoundCycles, IsFoundCycle};
 ghost use Rattle.cmh_audit.specs.Inner.Reporting.{IsReportWith};
 
-use crate::cycle::shortest_cycle;
 use crate::declared::processes_of;
-use crate::graph::{Graph, place_of};
 use crate::open_waits::OpenWaits;
+use cmh_cycles::{Graph, place_of, shortest_cycle};
 use cmh_frames::ProcId;
 use std::alloc::{AllocError, Global};
 use std::collections::BTreeSet;

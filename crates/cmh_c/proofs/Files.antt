@@ -1,27 +1,25 @@
 -- Files that stand one after the other.
 use Rattle.std.proofs.Common.{◌≡◌, ◌≢◌, ℕ, zero, suc, ◌+◌, ◌<◌, ◌≤◌, List, [], ◌∷◌, ◌++◌, length, drop, get_or, map, ◌==◌, false, true≢false, refl, sym, ap, ◌∙◌, arith, append_assoc, append-nil, length-append}
-use Rattle.cmh_c.specs.Auditing.{AreFiles, joined, total}
+use Rattle.std.specs.List.{concat, sum}
+use Rattle.std.proofs.lemmas.List.Sums.{sum_by-append, sum_by-cons}
+use Rattle.cmh_c.specs.Auditing.{AreFiles}
 
 -- the parts so far, and what is left of the bytes and of the lengths
 pub record SplitSoFar (parts : List (List ℕ)) (rest files lens : List ℕ) (i : ℕ) : Type 0 where
-  pub bytes_are : joined parts ++ rest ≡ files
+  pub bytes_are : concat parts ++ rest ≡ files
   pub lens_are : map length parts ++ drop i lens ≡ lens
 
 map_more : {X Y : Type 0} → (f : X → Y) (xs : List X) (x : X) → map f (xs ++ x ∷ []) ≡ map f xs ++ f x ∷ []
 map_more f [] x = refl
 map_more f (y ∷ ys) x = ap (λ l. f y ∷ l) (map_more f ys x)
 
-joined_more : (parts : List (List ℕ)) (file : List ℕ) → joined (parts ++ file ∷ []) ≡ joined parts ++ file
-joined_more [] file = append-nil file
-joined_more (part ∷ parts) file = ap (λ l. part ++ l) (joined_more parts file) ∙ sym (append_assoc part (joined parts) file)
+concat_more : (parts : List (List ℕ)) (file : List ℕ) → concat (parts ++ file ∷ []) ≡ concat parts ++ file
+concat_more [] file = append-nil file
+concat_more (part ∷ parts) file = ap (λ l. part ++ l) (concat_more parts file) ∙ sym (append_assoc part (concat parts) file)
 
-length_joined : (parts : List (List ℕ)) → length (joined parts) ≡ total (map length parts)
-length_joined [] = refl
-length_joined (part ∷ parts) = length-append part (joined parts) ∙ ap (λ n. length part + n) (length_joined parts)
-
-total_append : (xs ys : List ℕ) → total (xs ++ ys) ≡ total xs + total ys
-total_append [] ys = omega arith
-total_append (x ∷ xs) ys = let later = total_append xs ys in omega arith
+length_concat : (parts : List (List ℕ)) → length (concat parts) ≡ sum (map length parts)
+length_concat [] = refl
+length_concat (part ∷ parts) = length-append part (concat parts) ∙ ap (λ n. length part + n) (length_concat parts) ∙ sym (sum_by-cons (λ n. n) (length part) (map length parts))
 
 front_of : (xs : List ℕ) (i d : ℕ) → i < length xs → drop i xs ≡ get_or xs i d ∷ drop (i + 1) xs
 front_of [] i d h = absurd (omega (arith, h))
@@ -43,10 +41,10 @@ pub split_more : {V : Type 0} → (items : V → List ℕ) (parts : List V) (fil
     → SplitSoFar (map items (parts ++ file ∷ [])) after files lens (i + 1)
 split_more items parts file rest after files lens i d so_far within is long = record {
   bytes_are =
-      ap (λ ps. joined ps ++ after) (map_more items parts file)
-      ∙ ap (λ l. l ++ after) (joined_more (map items parts) (items file))
-      ∙ append_assoc (joined (map items parts)) (items file) after
-      ∙ ap (λ l. joined (map items parts) ++ l) (sym is) ∙ so_far.bytes_are;
+      ap (λ ps. concat ps ++ after) (map_more items parts file)
+      ∙ ap (λ l. l ++ after) (concat_more (map items parts) (items file))
+      ∙ append_assoc (concat (map items parts)) (items file) after
+      ∙ ap (λ l. concat (map items parts) ++ l) (sym is) ∙ so_far.bytes_are;
   lens_are =
       ap (λ ps. map length ps ++ drop (i + 1) lens) (map_more items parts file)
       ∙ ap (λ l. l ++ drop (i + 1) lens) (map_more length (map items parts) (items file))
@@ -58,30 +56,30 @@ split_more items parts file rest after files lens i d so_far within is long = re
 -- all files
 pub split_whole : (parts : List (List ℕ)) (rest files lens : List ℕ) (i : ℕ) → SplitSoFar parts rest files lens i → length lens ≤ i → rest ≡ [] → AreFiles files lens parts
 split_whole parts rest files lens i so_far past none = record {
-  bytes_are = sym so_far.bytes_are ∙ ap (λ l. joined parts ++ l) none ∙ append-nil (joined parts);
+  bytes_are = sym so_far.bytes_are ∙ ap (λ l. concat parts ++ l) none ∙ append-nil (concat parts);
   lens_are = sym so_far.lens_are ∙ ap (λ l. map length parts ++ l) (none_after lens i past) ∙ append-nil (map length parts);
 }
 
 -- how many bytes there are, and how many the lengths say
-bytes_in : (parts : List (List ℕ)) (rest files lens : List ℕ) (i : ℕ) → SplitSoFar parts rest files lens i → length files + total (drop i lens) ≡ total lens + length rest
+bytes_in : (parts : List (List ℕ)) (rest files lens : List ℕ) (i : ℕ) → SplitSoFar parts rest files lens i → length files + sum (drop i lens) ≡ sum lens + length rest
 bytes_in parts rest files lens i so_far =
-    let all : length files ≡ length (joined parts) + length rest = ap length (sym so_far.bytes_are) ∙ length-append (joined parts) rest in
-    let said : total lens ≡ total (map length parts) + total (drop i lens) = ap total (sym so_far.lens_are) ∙ total_append (map length parts) (drop i lens) in
-    let same = length_joined parts in
+    let all : length files ≡ length (concat parts) + length rest = ap length (sym so_far.bytes_are) ∙ length-append (concat parts) rest in
+    let said : sum lens ≡ sum (map length parts) + sum (drop i lens) = ap sum (sym so_far.lens_are) ∙ sum_by-append (λ n. n) (map length parts) (drop i lens) in
+    let same = length_concat parts in
     omega arith
 
 -- the next file is not all there
-pub files_short : (parts : List (List ℕ)) (rest files lens : List ℕ) (i d : ℕ) → SplitSoFar parts rest files lens i → i < length lens → length rest < get_or lens i d → total lens ≢ length files
+pub files_short : (parts : List (List ℕ)) (rest files lens : List ℕ) (i d : ℕ) → SplitSoFar parts rest files lens i → i < length lens → length rest < get_or lens i d → sum lens ≢ length files
 files_short parts rest files lens i d so_far within short e =
     let all = bytes_in parts rest files lens i so_far in
-    let next : total (drop i lens) ≡ get_or lens i d + total (drop (i + 1) lens) = ap total (front_of lens i d within) in
+    let next : sum (drop i lens) ≡ get_or lens i d + sum (drop (i + 1) lens) = ap sum (front_of lens i d within) ∙ sum_by-cons (λ n. n) (get_or lens i d) (drop (i + 1) lens) in
     omega arith
 
 -- bytes are left after the last
-pub files_long : (parts : List (List ℕ)) (rest files lens : List ℕ) (i : ℕ) → SplitSoFar parts rest files lens i → length lens ≤ i → 0 < length rest → total lens ≢ length files
+pub files_long : (parts : List (List ℕ)) (rest files lens : List ℕ) (i : ℕ) → SplitSoFar parts rest files lens i → length lens ≤ i → 0 < length rest → sum lens ≢ length files
 files_long parts rest files lens i so_far past left e =
     let all = bytes_in parts rest files lens i so_far in
-    let none : total (drop i lens) ≡ 0 = ap total (none_after lens i past) in
+    let none : sum (drop i lens) ≡ 0 = ap sum (none_after lens i past) in
     omega arith
 
 pub some_left : (bytes : List ℕ) → (length bytes == 0) ≡ false → 0 < length bytes

@@ -1,10 +1,11 @@
 -- The numbers that functions for C answer, and what else they tell.
-use Rattle.std.specs.Prelude.{◌≡◌, ◌↔◌, ℕ, ◌+◌, Bool, true, List, ◌++◌, Contains, length, take, drop}
+use Rattle.std.specs.Prelude.{◌≡◌, ◌≢◌, ◌↔◌, ℕ, ◌+◌, Bool, true, List, ◌++◌, Contains, length, take, drop, Option, unwrap_or}
 use Rattle.std.specs.List.Sorted.{IsStrictlyIncreasing}
+use Rattle.cmh_frames.specs.Edition.{number_of as edition_number}
+use Rattle.cmh_frames.specs.declared.edition.Edition.{Edition}
 use Rattle.cmh_controller.specs.Refusals.{number_of}
 use Rattle.cmh_reader.specs.Fault.{number_of as reading_number}
 use Rattle.cmh_reader.specs.declared.fault.ReadFault.TheVariants.{Memory}
-use Rattle.cmh_seat.specs.Seat.{IsNotTold, IsNotToldOf, NotTook, Seat}
 use Rattle.cmh_seat.specs.declared.fault.SeatFault.{SeatFault}
 use Rattle.cmh_seat.specs.declared.fault.SeatFault.TheVariants.{Rule, Full, NoEvent, Short, Starved, Prepared, NotPrepared}
 use Rattle.cmh_seat.specs.declared.inlet.InletFault.{InletFault}
@@ -26,23 +27,23 @@ code_of_reading TooShort = 21
 code_of_reading (Read Memory) = 11
 code_of_reading (Read fault) = 40 + reading_number fault
 
--- the code is that of why the event with these bytes was not taken
-pub record Answers (seat : Seat) (event : List ℕ) (room : ℕ) (code : ℕ) : Type 0 where
-  pub fault : SeatFault
-  pub holds : NotTook seat event room fault
+-- the code is that of a fault that holds
+pub record Answers {F : Type 0} (Holds : F → Type 0) (code_of : F → ℕ) (code : ℕ) : Type 0 where
+  pub fault : F
+  pub holds : Holds fault
   pub code_is : code ≡ code_of fault
 
--- of why it is not told what is declared
-pub record AnswersWhat (seat : Seat) (code : ℕ) : Type 0 where
-  pub fault : SeatFault
-  pub holds : IsNotTold seat fault
-  pub code_is : code ≡ code_of fault
+-- it holds of the edition with this number
+abbrev pub OfEdition : ℕ → (Edition → Type 0) → Type 0
+OfEdition number Holds = (edition : Edition) × (number ≡ edition_number edition) × Holds edition
 
--- of why it is not told of this process
-pub record AnswersOf (seat : Seat) (process : ℕ) (code : ℕ) : Type 0 where
-  pub fault : SeatFault
-  pub holds : IsNotToldOf seat process fault
-  pub code_is : code ≡ code_of fault
+-- no edition has this number
+abbrev pub IsOfNoEdition : ℕ → Type 0
+IsOfNoEdition number = (edition : Edition) → number ≢ edition_number edition
+
+-- 0 stands for none
+abbrev pub number_or_0 : Option ℕ → ℕ
+number_or_0 number = unwrap_or number 0
 
 -- The processes that pass the test, ascending, stand in what was lent as far as there is room, and the count is of all.
 pub record Shows (is_one : ℕ → Bool) (before after : List ℕ) (count : ℕ) : Type 0 where

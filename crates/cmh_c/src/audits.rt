@@ -1,16 +1,14 @@
 //! Audits.
 
 ghost use Rattle.std.specs.Prelude.{◌≡◌, ◌≢◌, ◌<◌, [], ◌∷◌, ◌++◌, IfErr, IfOk, Some, length, map, string_bytes};
-ghost use Rattle.cmh_show.specs.AuditTexts.{cuts_text, verdict_text};
-ghost use Rattle.cmh_files.specs.Audits as files_spec;
-ghost use Rattle.cmh_files.specs.Faults.{fault_text};
+ghost use Rattle.cmh_console.specs.Faults.{fault_text};
 ghost use Rattle.cmh_c.specs.Auditing as spec;
-ghost use Rattle.cmh_c.specs.Auditing.{AnswersAudit, AreFiles, IsTooLong, Says, Tells};
+ghost use Rattle.cmh_c.specs.Auditing.{AreFiles, IsTooLong, Says, Tells};
+ghost use Rattle.cmh_c.specs.Codes.{Answers};
 
 use crate::codes::{DONE, SHORT};
-use cmh_audit::Verdict;
-use cmh_files::{Audited, Fault, audit_files};
-use cmh_show::{Cuts, VerdictText};
+use cmh_console::Fault;
+use cmh_files::audit_files;
 use std::alloc::{AllocError, AllocFailed, Global};
 use std::fmt;
 
@@ -80,7 +78,7 @@ pub extern "C" fn cmh_audit(
     ensures status { 0 < result → status.new ≡ status.old }
     ensures short { result ≡ 21 → IsTooLong world.now files.now lens.now (length out.old) count.new }
     ensures count { 0 < result → result ≢ 21 → count.new ≡ count.old }
-    ensures code { 0 < result → result ≢ 21 → AnswersAudit files.now lens.now result }
+    ensures code { 0 < result → result ≢ 21 → Answers (spec.IsAuditFault files.now lens.now) spec.code_of_audit result }
 {
     match audited_of(alloc, world, files, lens) {
         Ok(told) => {
@@ -109,8 +107,8 @@ fn audited_of(
     let files = split(alloc, files, lens)?;
     match audit_files(alloc, world, &files) {
         Ok(audited) => Ok(AuditAnswer {
-            text: text_of(alloc, &audited)?,
-            status: status_of(&audited.verdict),
+            text: audited.text(alloc)?,
+            status: audited.status(),
         }),
         Err(Fault::Memory) => Err(AuditFault::Memory),
         Err(fault) => Ok(AuditAnswer {
@@ -140,31 +138,6 @@ fn split(alloc: Global, files: &[u8], lens: &[usize]) -> Result<Vec<Vec<u8>>, Au
     } else {
         Err(AuditFault::Files)
     }
-}
-
-fn status_of(verdict: &Verdict) -> u8
-    ensures { result ≡ files_spec.status_of verdict.now }
-{
-    match verdict {
-        Verdict::Accepted(_) => 0,
-        Verdict::Refused(_) => 1,
-    }
-}
-
-fn text_of(alloc: Global, audited: &Audited<'_>) -> Result<String, AllocError>
-    ensures { IfOk result (λ text. string_bytes text ≡ cuts_text audited.now.cuts.items
-        ++ verdict_text audited.now.edition audited.now.verdict) }
-{
-    let cuts = Cuts {
-        cuts: &audited.cuts,
-    };
-    let verdict = VerdictText {
-        edition: audited.edition,
-        verdict: &audited.verdict,
-    };
-    let mut text = String::new(alloc);
-    write!(text, "{cuts}{verdict}")?;
-    Ok(text)
 }
 
 /// The line of a fault.

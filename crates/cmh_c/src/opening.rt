@@ -2,11 +2,12 @@
 
 ghost use Rattle.std.specs.Prelude.{◌≡◌, ◌<◌, IfErr, IfOk};
 ghost use Rattle.cmh_c.specs.Opening as spec;
-ghost use Rattle.cmh_c.specs.Opening.{IsNoSite, IsNotOfJson, IsNotOfWords, IsOfJson, IsOfWords, IsSiteOf};
+ghost use Rattle.cmh_console.specs.TopologyFile.{Says};
+ghost use Rattle.cmh_c.specs.Opening.{IsNoSite, IsNotOfJson, IsNotOfWords, IsOpened, IsSiteOf, SaysWords};
 
 use crate::rows::rows_of;
+use cmh_console::{TopologyFileFault, read_topology_file};
 use cmh_controller::Refusal;
-use cmh_files::{TopologyFileFault, read_topology_file};
 use cmh_frames::{Edition, SiteId, SiteRow, Topology, TopologyFault};
 use cmh_seat::Seat;
 use std::alloc::Global;
@@ -51,7 +52,7 @@ pub fn seat_of_words(
     words: &[u16],
     number: u16,
 ) -> Result<Box<Seat, Global>, OpeningFault>
-    ensures made { IfOk result (λ seat. IsOfWords edition words.now number seat.value) }
+    ensures made { IfOk result (λ seat. IsOpened (SaysWords edition words.now) number seat.value) }
     ensures fault { IfErr result (IsNotOfWords edition words.now number) }
 {
     let Some(edition) = Edition::of_number(edition) else {
@@ -70,7 +71,7 @@ pub fn seat_of_json(
     json: &[u8],
     number: u16,
 ) -> Result<Box<Seat, Global>, OpeningFault>
-    ensures made { IfOk result (λ seat. IsOfJson json.now number seat.value) }
+    ensures made { IfOk result (λ seat. IsOpened (Says json.now) number seat.value) }
     ensures fault { IfErr result (IsNotOfJson json.now number) }
 {
     match read_topology_file(alloc, json) {

@@ -1,11 +1,13 @@
 //! Readers.
 
-ghost use Rattle.std.specs.Prelude.{◌≡◌, ◌<◌, ◌≤◌, true, false, IfErr, IfNone, IfOk, IfSome, OnOk, length};
+ghost use Rattle.std.specs.Prelude.{◌≡◌, ◌<◌, ◌≤◌, ◌++◌, true, false, IfErr, IfNone, IfOk, IfSome, MatchOption, OnOk, drop, length};
 ghost use Rattle.cmh_frames.specs.Edition.{number_of};
+ghost use Rattle.cmh_frames.specs.Wire.{hello};
 ghost use Rattle.cmh_reader.specs.Stream.{sender_of};
-ghost use Rattle.cmh_seat.specs.Inlet.{Gave};
-ghost use Rattle.cmh_c.specs.Reading as spec;
-ghost use Rattle.cmh_c.specs.Reading.{AnswersHello, AnswersPiece, AnswersReader, HasNoSite, IsFresh, IsHello, IsNoHello, IsNoReader, number_or_0};
+ghost use Rattle.cmh_seat.specs.Inlet.{Gave, GaveNothing};
+ghost use Rattle.cmh_c.specs.Codes as codes;
+ghost use Rattle.cmh_c.specs.Codes.{Answers, OfEdition, number_or_0};
+ghost use Rattle.cmh_c.specs.Reading.{HasNoSite, IsFresh, IsNoHello, IsNoReader, code_of_link};
 
 use crate::codes::{CLOSED, DONE, NO_MEMORY, OPEN, SHORT, code_of_reading};
 use cmh_frames::{Edition, HELLO_LEN, SiteId, encode_hello};
@@ -29,7 +31,7 @@ pub enum LinkFault {
 impl LinkFault {
     /// The number that C is answered.
     fn code(self) -> u32
-        ensures value { result ≡ spec.code_of_link self }
+        ensures value { result ≡ code_of_link self }
         ensures positive { 0 < result }
     {
         match self {
@@ -68,11 +70,35 @@ impl CmhReader {
             held: HeldInlet::nothing(alloc),
         }
     }
+
+    /// What an open handle holds, until it is given back. The handle is closed then.
+    fn take(&mut self, alloc: Global) -> Option<Box<Inlet, Global>>
+        ensures taken { MatchOption result (self.old.is_open ≡ false)
+            (λ inlet. (self.old.is_open ≡ true) × (inlet.value ≡ self.old.held.inlet)) }
+        ensures closed { self.new.is_open ≡ false }
+    {
+        let CmhReader { is_open, held } = replace(&mut *self, CmhReader::closed(alloc));
+        if is_open {
+            Some(held.into_box())
+        } else {
+            drop(held);
+            None
+        }
+    }
+
+    fn give(&mut self, inlet: Box<Inlet, Global>)
+        requires { self.old.is_open ≡ false }
+        ensures open { self.new.is_open ≡ true }
+        ensures inlet { self.new.held.inlet ≡ inlet.value }
+    {
+        let CmhReader { is_open: _, held } = replace(&mut *self, CmhReader::put(inlet));
+        drop(held);
+    }
 }
 
 /// A reader of a link from one of these sites.
 fn inlet_of(alloc: Global, edition: u8, senders: &[u16]) -> Result<Box<Inlet, Global>, LinkFault>
-    ensures made { IfOk result (λ inlet. IsFresh edition senders.now inlet.value) }
+    ensures made { IfOk result (λ inlet. OfEdition edition (IsFresh senders.now inlet.value)) }
     ensures fault { IfErr result (IsNoReader edition senders.now) }
 {
     let Some(edition) = Edition::of_number(edition) else {
@@ -131,19 +157,18 @@ pub extern "C" fn cmh_reader_new(
     edition: u8,
     senders: &[u16],
 ) -> u32
-    ensures made { result ≡ 0 → (reader.new.is_open ≡ true) × IsFresh edition senders.now reader.new.held.inlet }
+    ensures made { result ≡ 0 → (reader.new.is_open ≡ true) × OfEdition edition (IsFresh senders.now reader.new.held.inlet) }
     ensures stays { 0 < result → reader.new.is_open ≡ reader.old.is_open }
     ensures same { 0 < result → reader.old.is_open ≡ true → reader.new.held.inlet ≡ reader.old.held.inlet }
     ensures open { reader.old.is_open ≡ true → result ≡ 23 }
-    ensures code { 0 < result → reader.old.is_open ≡ false → AnswersReader edition senders.now result }
+    ensures code { 0 < result → reader.old.is_open ≡ false → Answers (IsNoReader edition senders.now) code_of_link result }
 {
     if reader.is_open {
         return OPEN;
     }
     match inlet_of(alloc, edition, senders) {
         Ok(inlet) => {
-            let CmhReader { is_open: _, held } = replace(&mut *reader, CmhReader::put(inlet));
-            drop(held);
+            reader.give(inlet);
             DONE
         }
         Err(fault) => fault.code(),
@@ -166,14 +191,12 @@ pub extern "C" fn cmh_reader_feed(
     ensures count { 0 < result → count.new ≡ count.old }
     ensures closed { reader.old.is_open ≡ false → result ≡ 22 }
     ensures code { 0 < result → reader.old.is_open ≡ true
-        → AnswersPiece reader.old.held.inlet piece.now (length out.old) result reader.new.held.inlet }
+        → Answers (λ fault. GaveNothing reader.old.held.inlet piece.now (length out.old) fault reader.new.held.inlet)
+        codes.code_of_reading result }
 {
-    let CmhReader { is_open, held } = replace(&mut *reader, CmhReader::closed(alloc));
-    if !is_open {
-        drop(held);
+    let Some(mut inlet) = reader.take(alloc) else {
         return CLOSED;
-    }
-    let mut inlet = held.into_box();
+    };
     let code = match inlet.feed(piece, out) {
         Ok(written) => {
             *count = written;
@@ -181,8 +204,7 @@ pub extern "C" fn cmh_reader_feed(
         }
         Err(fault) => code_of_reading(fault),
     };
-    let CmhReader { is_open: _, held } = replace(&mut *reader, CmhReader::put(inlet));
-    drop(held);
+    reader.give(inlet);
     code
 }
 
@@ -195,18 +217,14 @@ pub extern "C" fn cmh_reader_sender(alloc: Global, reader: &mut CmhReader) -> u1
         → result ≡ number_or_0 (sender_of reader.old.held.inlet.standing) }
     ensures closed { reader.old.is_open ≡ false → result ≡ 0 }
 {
-    let CmhReader { is_open, held } = replace(&mut *reader, CmhReader::closed(alloc));
-    if !is_open {
-        drop(held);
+    let Some(inlet) = reader.take(alloc) else {
         return 0;
-    }
-    let inlet = held.into_box();
+    };
     let sender = match inlet.sender() {
         Some(site) => site.get(),
         None => 0,
     };
-    let CmhReader { is_open: _, held } = replace(&mut *reader, CmhReader::put(inlet));
-    drop(held);
+    reader.give(inlet);
     sender
 }
 
@@ -215,20 +233,15 @@ pub extern "C" fn cmh_reader_sender(alloc: Global, reader: &mut CmhReader) -> u1
 pub extern "C" fn cmh_reader_free(alloc: Global, reader: &mut CmhReader)
     ensures { reader.new.is_open ≡ false }
 {
-    let CmhReader { is_open, held } = replace(&mut *reader, CmhReader::closed(alloc));
-    if is_open {
-        drop(held.into_box());
-    } else {
-        drop(held);
-    }
+    drop(reader.take(alloc));
 }
 
 /// Writes the six bytes with which a link from the site begins.
 #[unsafe(no_mangle)]
 pub extern "C" fn cmh_hello(edition: u8, site: u16, out: &mut [u8]) -> u32
-    ensures hello { result ≡ 0 → IsHello edition site out.old out.new }
+    ensures hello { result ≡ 0 → OfEdition edition (λ e. out.new ≡ hello e site ++ drop 6 out.old) }
     ensures out { 0 < result → out.new ≡ out.old }
-    ensures code { 0 < result → AnswersHello edition site (length out.old) result }
+    ensures code { 0 < result → Answers (IsNoHello edition site (length out.old)) code_of_link result }
 {
     match parts_of_hello(edition, site, out.len()) {
         Ok((edition, site)) => {

@@ -1,12 +1,14 @@
 //! Sites.
 
-ghost use Rattle.std.specs.Prelude.{◌≡◌, ◌<◌, ◌++◌, true, false, None, IsSome, length, drop};
+ghost use Rattle.std.specs.Prelude.{◌≡◌, ◌<◌, ◌++◌, true, false, None, IsSome, MatchOption, length, drop};
 ghost use Rattle.std.specs.FinSet as set;
 ghost use Rattle.cmh_model.specs.Relation.{has};
 ghost use Rattle.cmh_journal.specs.File.{header};
-ghost use Rattle.cmh_seat.specs.Seat.{Kept, Readied, Took};
-ghost use Rattle.cmh_c.specs.Codes.{Answers, AnswersOf, AnswersWhat, Shows};
-ghost use Rattle.cmh_c.specs.Opening.{AnswersOpening, IsNotOfJson, IsNotOfWords, IsOfJson, IsOfWords};
+ghost use Rattle.cmh_seat.specs.Seat.{IsNotTold, IsNotToldOf, Kept, NotTook, Readied, Took};
+ghost use Rattle.cmh_console.specs.TopologyFile.{Says};
+ghost use Rattle.cmh_c.specs.Codes as codes;
+ghost use Rattle.cmh_c.specs.Codes.{Answers, Shows};
+ghost use Rattle.cmh_c.specs.Opening.{IsNotOfJson, IsNotOfWords, IsOpened, SaysWords, code_of_opening};
 
 use crate::codes::{CLOSED, DONE, OPEN, SHORT, code_of};
 use crate::numbers::put_processes;
@@ -45,6 +47,30 @@ impl CmhSite {
             held: Held::nothing(alloc),
         }
     }
+
+    /// What an open handle holds, until it is given back. The handle is closed then.
+    fn take(&mut self, alloc: Global) -> Option<Box<Seat, Global>>
+        ensures taken { MatchOption result (self.old.is_open ≡ false)
+            (λ seat. (self.old.is_open ≡ true) × (seat.value ≡ self.old.held.seat)) }
+        ensures closed { self.new.is_open ≡ false }
+    {
+        let CmhSite { is_open, held } = replace(&mut *self, CmhSite::closed(alloc));
+        if is_open {
+            Some(held.into_box())
+        } else {
+            drop(held);
+            None
+        }
+    }
+
+    fn give(&mut self, seat: Box<Seat, Global>)
+        requires { self.old.is_open ≡ false }
+        ensures open { self.new.is_open ≡ true }
+        ensures seat { self.new.held.seat ≡ seat.value }
+    {
+        let CmhSite { is_open: _, held } = replace(&mut *self, CmhSite::put(seat));
+        drop(held);
+    }
 }
 
 /// The version of the library.
@@ -64,19 +90,18 @@ pub extern "C" fn cmh_site_new(
     rows: &[u16],
     number: u16,
 ) -> u32
-    ensures made { result ≡ 0 → (site.new.is_open ≡ true) × IsOfWords edition rows.now number site.new.held.seat }
+    ensures made { result ≡ 0 → (site.new.is_open ≡ true) × IsOpened (SaysWords edition rows.now) number site.new.held.seat }
     ensures stays { 0 < result → site.new.is_open ≡ site.old.is_open }
     ensures same { 0 < result → site.old.is_open ≡ true → site.new.held.seat ≡ site.old.held.seat }
     ensures open { site.old.is_open ≡ true → result ≡ 23 }
-    ensures code { 0 < result → site.old.is_open ≡ false → AnswersOpening (IsNotOfWords edition rows.now number) result }
+    ensures code { 0 < result → site.old.is_open ≡ false → Answers (IsNotOfWords edition rows.now number) code_of_opening result }
 {
     if site.is_open {
         return OPEN;
     }
     match seat_of_words(alloc, edition, rows, number) {
         Ok(seat) => {
-            let CmhSite { is_open: _, held } = replace(&mut *site, CmhSite::put(seat));
-            drop(held);
+            site.give(seat);
             DONE
         }
         Err(fault) => fault.code(),
@@ -91,19 +116,18 @@ pub extern "C" fn cmh_site_new_json(
     json: &[u8],
     number: u16,
 ) -> u32
-    ensures made { result ≡ 0 → (site.new.is_open ≡ true) × IsOfJson json.now number site.new.held.seat }
+    ensures made { result ≡ 0 → (site.new.is_open ≡ true) × IsOpened (Says json.now) number site.new.held.seat }
     ensures stays { 0 < result → site.new.is_open ≡ site.old.is_open }
     ensures same { 0 < result → site.old.is_open ≡ true → site.new.held.seat ≡ site.old.held.seat }
     ensures open { site.old.is_open ≡ true → result ≡ 23 }
-    ensures code { 0 < result → site.old.is_open ≡ false → AnswersOpening (IsNotOfJson json.now number) result }
+    ensures code { 0 < result → site.old.is_open ≡ false → Answers (IsNotOfJson json.now number) code_of_opening result }
 {
     if site.is_open {
         return OPEN;
     }
     match seat_of_json(alloc, json, number) {
         Ok(seat) => {
-            let CmhSite { is_open: _, held } = replace(&mut *site, CmhSite::put(seat));
-            drop(held);
+            site.give(seat);
             DONE
         }
         Err(fault) => fault.code(),
@@ -121,19 +145,23 @@ pub extern "C" fn cmh_site_header(alloc: Global, site: &mut CmhSite, out: &mut [
     ensures closed { site.old.is_open ≡ false → result ≡ 22 }
     ensures short { 0 < result → site.old.is_open ≡ true → (result ≡ 21) × (length out.old < 7) }
 {
-    let CmhSite { is_open, held } = replace(&mut *site, CmhSite::closed(alloc));
-    if !is_open {
-        drop(held);
+    let Some(seat) = site.take(alloc) else {
         return CLOSED;
-    }
-    let seat = held.into_box();
+    };
     let bytes = seat.header();
-    let CmhSite { is_open: _, held } = replace(&mut *site, CmhSite::put(seat));
-    drop(held);
+    site.give(seat);
+    put_header(&bytes, out)
+}
+
+fn put_header(bytes: &[u8; 7], out: &mut [u8]) -> u32
+    ensures header { result ≡ 0 → out.new ≡ bytes.now ++ drop 7 out.old }
+    ensures out { 0 < result → out.new ≡ out.old }
+    ensures short { 0 < result → (result ≡ 21) × (length out.old < 7) }
+{
     if out.len() < bytes.len() {
         return SHORT;
     }
-    out[..7].copy_from_slice(&bytes);
+    out[..7].copy_from_slice(bytes);
     DONE
 }
 
@@ -154,14 +182,11 @@ pub extern "C" fn cmh_site_step(
     ensures count { 0 < result → count.new ≡ count.old }
     ensures closed { site.old.is_open ≡ false → result ≡ 22 }
     ensures code { 0 < result → site.old.is_open ≡ true
-        → Answers site.old.held.seat event.now (length out.old) result }
+        → Answers (NotTook site.old.held.seat event.now (length out.old)) codes.code_of result }
 {
-    let CmhSite { is_open, held } = replace(&mut *site, CmhSite::closed(alloc));
-    if !is_open {
-        drop(held);
+    let Some(mut seat) = site.take(alloc) else {
         return CLOSED;
-    }
-    let mut seat = held.into_box();
+    };
     let code = match seat.step(event, out) {
         Ok(taken) => {
             *count = taken;
@@ -169,8 +194,7 @@ pub extern "C" fn cmh_site_step(
         }
         Err(fault) => code_of(fault),
     };
-    let CmhSite { is_open: _, held } = replace(&mut *site, CmhSite::put(seat));
-    drop(held);
+    site.give(seat);
     code
 }
 
@@ -191,14 +215,11 @@ pub extern "C" fn cmh_site_prepare(
     ensures count { 0 < result → count.new ≡ count.old }
     ensures closed { site.old.is_open ≡ false → result ≡ 22 }
     ensures code { 0 < result → site.old.is_open ≡ true
-        → Answers site.old.held.seat event.now (length out.old) result }
+        → Answers (NotTook site.old.held.seat event.now (length out.old)) codes.code_of result }
 {
-    let CmhSite { is_open, held } = replace(&mut *site, CmhSite::closed(alloc));
-    if !is_open {
-        drop(held);
+    let Some(mut seat) = site.take(alloc) else {
         return CLOSED;
-    }
-    let mut seat = held.into_box();
+    };
     let code = match seat.prepare(event, out) {
         Ok(written) => {
             *count = written;
@@ -206,8 +227,7 @@ pub extern "C" fn cmh_site_prepare(
         }
         Err(fault) => code_of(fault),
     };
-    let CmhSite { is_open: _, held } = replace(&mut *site, CmhSite::put(seat));
-    drop(held);
+    site.give(seat);
     code
 }
 
@@ -220,18 +240,14 @@ pub extern "C" fn cmh_site_keep(alloc: Global, site: &mut CmhSite) -> u32
     ensures closed { site.old.is_open ≡ false → result ≡ 22 }
     ensures code { 0 < result → site.old.is_open ≡ true → (result ≡ 27) × (site.old.held.seat.pending ≡ None) }
 {
-    let CmhSite { is_open, held } = replace(&mut *site, CmhSite::closed(alloc));
-    if !is_open {
-        drop(held);
+    let Some(mut seat) = site.take(alloc) else {
         return CLOSED;
-    }
-    let mut seat = held.into_box();
+    };
     let code = match seat.keep() {
         Ok(()) => DONE,
         Err(fault) => code_of(fault),
     };
-    let CmhSite { is_open: _, held } = replace(&mut *site, CmhSite::put(seat));
-    drop(held);
+    site.give(seat);
     code
 }
 
@@ -245,18 +261,14 @@ pub extern "C" fn cmh_site_drop(alloc: Global, site: &mut CmhSite) -> u32
     ensures closed { site.old.is_open ≡ false → result ≡ 22 }
     ensures code { 0 < result → site.old.is_open ≡ true → (result ≡ 27) × (site.old.held.seat.pending ≡ None) }
 {
-    let CmhSite { is_open, held } = replace(&mut *site, CmhSite::closed(alloc));
-    if !is_open {
-        drop(held);
+    let Some(mut seat) = site.take(alloc) else {
         return CLOSED;
-    }
-    let mut seat = held.into_box();
+    };
     let code = match seat.drop_prepared() {
         Ok(()) => DONE,
         Err(fault) => code_of(fault),
     };
-    let CmhSite { is_open: _, held } = replace(&mut *site, CmhSite::put(seat));
-    drop(held);
+    site.give(seat);
     code
 }
 
@@ -276,17 +288,13 @@ pub extern "C" fn cmh_site_declared(
     ensures out { 0 < result → out.new ≡ out.old }
     ensures count { 0 < result → count.new ≡ count.old }
     ensures closed { site.old.is_open ≡ false → result ≡ 22 }
-    ensures code { 0 < result → site.old.is_open ≡ true → AnswersWhat site.old.held.seat result }
+    ensures code { 0 < result → site.old.is_open ≡ true → Answers (IsNotTold site.old.held.seat) codes.code_of result }
 {
-    let CmhSite { is_open, held } = replace(&mut *site, CmhSite::closed(alloc));
-    if !is_open {
-        drop(held);
+    let Some(seat) = site.take(alloc) else {
         return CLOSED;
-    }
-    let seat = held.into_box();
+    };
     let told = seat.declared();
-    let CmhSite { is_open: _, held } = replace(&mut *site, CmhSite::put(seat));
-    drop(held);
+    site.give(seat);
     match told {
         Ok(processes) => {
             put_processes(&processes, out);
@@ -313,17 +321,13 @@ pub extern "C" fn cmh_site_waits(
     ensures out { 0 < result → out.new ≡ out.old }
     ensures count { 0 < result → count.new ≡ count.old }
     ensures closed { site.old.is_open ≡ false → result ≡ 22 }
-    ensures code { 0 < result → site.old.is_open ≡ true → AnswersOf site.old.held.seat process result }
+    ensures code { 0 < result → site.old.is_open ≡ true → Answers (IsNotToldOf site.old.held.seat process) codes.code_of result }
 {
-    let CmhSite { is_open, held } = replace(&mut *site, CmhSite::closed(alloc));
-    if !is_open {
-        drop(held);
+    let Some(seat) = site.take(alloc) else {
         return CLOSED;
-    }
-    let seat = held.into_box();
+    };
     let told = seat.waits(process);
-    let CmhSite { is_open: _, held } = replace(&mut *site, CmhSite::put(seat));
-    drop(held);
+    site.give(seat);
     match told {
         Ok(processes) => {
             put_processes(&processes, out);
@@ -350,17 +354,13 @@ pub extern "C" fn cmh_site_owed(
     ensures out { 0 < result → out.new ≡ out.old }
     ensures count { 0 < result → count.new ≡ count.old }
     ensures closed { site.old.is_open ≡ false → result ≡ 22 }
-    ensures code { 0 < result → site.old.is_open ≡ true → AnswersOf site.old.held.seat process result }
+    ensures code { 0 < result → site.old.is_open ≡ true → Answers (IsNotToldOf site.old.held.seat process) codes.code_of result }
 {
-    let CmhSite { is_open, held } = replace(&mut *site, CmhSite::closed(alloc));
-    if !is_open {
-        drop(held);
+    let Some(seat) = site.take(alloc) else {
         return CLOSED;
-    }
-    let seat = held.into_box();
+    };
     let told = seat.owed(process);
-    let CmhSite { is_open: _, held } = replace(&mut *site, CmhSite::put(seat));
-    drop(held);
+    site.give(seat);
     match told {
         Ok(processes) => {
             put_processes(&processes, out);
@@ -376,10 +376,5 @@ pub extern "C" fn cmh_site_owed(
 pub extern "C" fn cmh_site_free(alloc: Global, site: &mut CmhSite)
     ensures { site.new.is_open ≡ false }
 {
-    let CmhSite { is_open, held } = replace(&mut *site, CmhSite::closed(alloc));
-    if is_open {
-        drop(held.into_box());
-    } else {
-        drop(held);
-    }
+    drop(site.take(alloc));
 }

@@ -1,6 +1,6 @@
 -- For whom those that were found wait, and a cycle through the member at which the search began.
 use Rattle.std.proofs.Common.{inl, inr, ◌≡◌, ◌≢◌, ◌↔◌, ℕ, ◌<◌, Bool, true, false, not, ◌&&◌, ◌||◌, ◌==◌, length, get_or, nat_lt, refl, sym, ap, ◌∙◌, subst, true≢false}
-use Rattle.std.proofs.lemmas.Bool.{eq-eqb, ne_eqb, and_parts, and_from, or_cases, or_left, or_right, or_parts, cases_eq, lt-ltb, ltb-true}
+use Rattle.std.proofs.lemmas.Bool.{eq-eqb, ne_eqb, and_parts, and_from, or_cases, or_left, or_right, or_parts, cases_eq, lt-ltb, ltb-true, or_from}
 use Rattle.cmh_model.specs.Paths.{DependsOnItselfAmong}
 use Rattle.cmh_model.specs.Relation.{has}
 use Rattle.cmh_waits.specs.Held.{Held, IsMember}
@@ -34,15 +34,12 @@ module _ (v : Held) (reached work awaited place row fresh less : ℕ)
   and_false true = refl
   and_false false = refl
 
-  or_false : (a b : Bool) → a ≡ false → b ≡ false → (a || b) ≡ false
-  or_false a b e f = ap (λ t. t || b) e ∙ f
-
   not_fresh : (a : ℕ) → is_set reached a ≡ true → is_set fresh a ≡ false
   not_fresh a h = fresh_is a ∙ ap (λ t. is_set row a && not t) h ∙ and_false (is_set row a)
 
   -- what is reached and not left is looked at afterwards
   done : (a : ℕ) → is_set reached a ≡ true → is_set less a ≡ false → IsLookedAt reached' work' a
-  done a h gone = (reached_is a ∙ or_left (is_set reached a) (is_set fresh a) h, work_is a ∙ or_false (is_set less a) (is_set fresh a) gone (not_fresh a h))
+  done a h gone = (reached_is a ∙ or_left (is_set reached a) (is_set fresh a) h, work_is a ∙ or_from (is_set less a) (is_set fresh a) gone (not_fresh a h))
 
   -- the member at the place is looked at too
   pub look_on : AreLookedAt v reached' work' awaited'

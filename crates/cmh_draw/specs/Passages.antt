@@ -3,7 +3,7 @@ use Rattle.std.specs.Prelude.{ℕ, Bool, not, ◌==◌, if◌then◌else◌, Lis
 use Rattle.cmh_frames.specs.declared.frame.Frame.{Frame}
 use Rattle.cmh_frames.specs.Topology.{Topology, is_site, sites_of}
 use Rattle.cmh_model.specs.declared.event.Event.{Event}
-use Rattle.cmh_model.specs.declared.event.Event.TheVariants.{Ask, Reply, Start, Got}
+use Rattle.cmh_model.specs.declared.event.Event.TheVariants.{Got}
 use Rattle.cmh_model.specs.declared.journal.Entry.{Entry}
 use Rattle.cmh_journal.specs.Journal.{Journal}
 use Rattle.cmh_audit.specs.Journals.{journal_of}
@@ -39,9 +39,7 @@ sent_on t way entries = each_from (λ number (e : Entry). sent_by t way number e
 -- the number, where the event got a frame from the site
 abbrev pub got_by : ℕ → ℕ → Event → List ℕ
 got_by site number (Got from frame) = if from == site then number ∷ [] else []
-got_by site number (Ask asker targets) = []
-got_by site number (Reply holder asker) = []
-got_by site number (Start i) = []
+got_by site number event = []
 
 -- the numbers of the entries that got a frame from the site
 abbrev pub got_from : ℕ → List Entry → List ℕ

@@ -5,7 +5,8 @@ ghost use Rattle.cmh_model.specs.Rules.{IsAscending};
 ghost use Rattle.cmh_draw.specs.Columns as spec;
 ghost use Rattle.cmh_draw.specs.Columns.{AreColumns, lengths_of};
 
-use crate::passages::{EntryAt, Passage, entries_of};
+use crate::passages::{EntryAt, Passage};
+use cmh_audit::entries_at;
 use cmh_frames::{SiteId, Topology};
 use cmh_journal::Journal;
 use std::alloc::{AllocError, Global};
@@ -29,7 +30,7 @@ pub fn columns_of(
     let found = search(alloc, topology.sites(), journals, passages)?;
     let mut all = Vec::new(alloc);
     for (row, site) in topology.sites().iter().enumerate() {
-        let count = entries_of(journals, *site).len();
+        let count = entries_at(journals, *site).len();
         let columns = checked(alloc, count, &found, row)?;
         all.push(columns)?;
     }
@@ -148,7 +149,7 @@ fn sources_of(
     let mut all = Vec::new(alloc);
     for site in sites {
         let mut sources = Vec::new(alloc);
-        sources.resize(entries_of(journals, *site).len(), None)?;
+        sources.resize(entries_at(journals, *site).len(), None)?;
         all.push(Sources { sources })?;
     }
     for passage in passages {

@@ -1,10 +1,10 @@
 //! The ways of frames: from the entry that sent a frame to the entry that got it.
 
 ghost use Rattle.std.specs.Prelude.{◌≡◌, ◌≤◌, ◌++◌, IfOk, OnOk, length, slice_get};
-ghost use Rattle.cmh_audit.specs.Journals.{journal_of};
 ghost use Rattle.cmh_draw.specs.Passages as spec;
 ghost use Rattle.cmh_draw.specs.Each.{each_from};
 
+use cmh_audit::entries_at;
 use cmh_frames::{Frame, SiteId, Topology};
 use cmh_journal::Journal;
 use cmh_model::{Entry, Event};
@@ -42,19 +42,6 @@ pub enum Way {
     To(SiteId),
     /// To sites that are not in the topology.
     Astray,
-}
-
-/// The entries of a site's journal; none where it has none.
-pub fn entries_of(journals: &[Journal], site: SiteId) -> &[Entry]
-    ensures value { result.now ≡ journal_of journals.now site }
-    ensures few { length result.now ≤ 1000000 }
-{
-    for journal in journals {
-        if journal.site() == site {
-            return journal.entries();
-        }
-    }
-    &[]
 }
 
 /// The ways of all frames that the journals record as sent, link by link.
@@ -112,8 +99,8 @@ fn add_to_site(
     ensures { OnOk result (all.new.items
         ≡ all.old.items ++ spec.to_site topology.now journals.now row site to_row to) }
 {
-    let sent = sent_on(alloc, topology, &Way::To(to), entries_of(journals, site))?;
-    let got = got_from(alloc, site, entries_of(journals, to))?;
+    let sent = sent_on(alloc, topology, &Way::To(to), entries_at(journals, site))?;
+    let got = got_from(alloc, site, entries_at(journals, to))?;
     pair_up(row, site, &sent, to_row, to, &got, all)
 }
 
@@ -128,7 +115,7 @@ fn add_astray(
 ) -> Result<(), AllocError>
     ensures { OnOk result (all.new.items ≡ all.old.items ++ spec.astray topology.now journals.now row site) }
 {
-    let sent = sent_on(alloc, topology, &Way::Astray, entries_of(journals, site))?;
+    let sent = sent_on(alloc, topology, &Way::Astray, entries_at(journals, site))?;
     pair_up(row, site, &sent, row, site, &[], all)
 }
 

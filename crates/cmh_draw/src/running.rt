@@ -1,17 +1,16 @@
 //! The run as a space-time diagram: a line a site, a mark an entry, an arrow a frame.
 
 ghost use Rattle.std.specs.Prelude.{◌≡◌, ◌≤◌, ◌++◌, IfOk, OnOk, length, map, option_map, Option};
-ghost use Rattle.cmh_audit.specs.Journals.{journal_of};
 ghost use Rattle.cmh_draw.specs.Each.{each_from, number_from};
 ghost use Rattle.cmh_draw.specs.Marks as spec;
 ghost use Rattle.cmh_draw.specs.Marks.{IsRunPicture};
 
 use crate::columns::{Columns, column_of, columns_of};
 use crate::mark::{Arrow, EntryMark, EntrySpot, Mark, Site, Spot, Stop};
-use crate::passages::{EntryAt, Passage, entries_of, passages_of};
+use crate::passages::{EntryAt, Passage, passages_of};
 use crate::picture::{Kind, Picture};
 use crate::size::width_of;
-use cmh_audit::Verdict;
+use cmh_audit::{Verdict, entries_at};
 use cmh_frames::{SiteId, Topology};
 use cmh_journal::Journal;
 use cmh_model::Entry;
@@ -112,7 +111,7 @@ fn add_all_entries(
         ≡ marks.old.items ++ spec.all_entry_marks topology.now journals.now columns.now) }
 {
     for (row, site) in topology.sites().iter().enumerate() {
-        let entries = entries_of(journals, *site);
+        let entries = entries_at(journals, *site);
         add_entries(alloc, columns, *site, row as u32, entries, marks)?;
     }
     Ok(())

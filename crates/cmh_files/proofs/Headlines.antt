@@ -1,7 +1,7 @@
 -- The headline from what the crates below promise.
 use Rattle.std.proofs.Common.{◌≡◌, ◌<◌, ◌≤◌, ◌⊎◌, ℕ, zero, suc, Bool, true, false, List, [], ◌∷◌, ◌++◌, length, take, map, get_or, ◌==◌, if◌then◌else◌, refl, sym, ap, subst, ◌∙◌, inl, inr, arith}
 use Rattle.std.specs.Prelude.{Contains}
-use Rattle.std.specs.List.{AllByRecursion}
+use Rattle.std.specs.List.{AllByRecursion, AllZip}
 use Rattle.std.proofs.lemmas.Bool.{cases_eq, cases_Bool, eq-eqb, ne_eqb}
 use Rattle.std.proofs.lemmas.List.Elements.{recursion_from_All}
 use Rattle.std.proofs.lemmas.Map.Made.{Contains-tail}
@@ -25,7 +25,7 @@ use Rattle.cmh_audit.specs.Verdicts.{IfAccepted, IsVerdictOn}
 use Rattle.cmh_audit.specs.declared.verdict.Verdict.{Verdict}
 use Rattle.cmh_audit.specs.declared.verdict.Verdict.TheVariants.{Accepted, Refused}
 use Rattle.cmh_files.specs.Audits.{AreFilesOf}
-use Rattle.cmh_files.specs.Headline.{AreBeside, IsFileWith, IsCutFileOf, FilesHold, AreFilesOfRun, AreFilesOfStop, AreCutFilesOf, Headline}
+use Rattle.cmh_files.specs.Headline.{IsFileWith, IsCutFileOf, FilesHold, AreFilesOfRun, AreFilesOfStop, AreCutFilesOf, Headline}
 
 -- ---- journals that are read, by their sites
 
@@ -118,7 +118,7 @@ OneJournal = (edition : Edition) (site : ℕ) (entries : List Entry) (left bytes
 -- the files that were read hold what the journals have
 held : (e : Edition) (journals : ℕ → List Entry) (js : List Journal) (ts : List Tail) (files : List (List ℕ)) → AreFilesOf js ts files
     → AllByRecursion (λ (j : Journal). j.edition ≡ e) js → AllByRecursion (λ (j : Journal). journals j.site ≡ j.entries) js
-    → AreBeside (λ s bytes. IsFileWith e s (journals s) bytes) (map (λ (j : Journal). j.site) js) files
+    → AllZip (λ s bytes. IsFileWith e s (journals s) bytes) (map (λ (j : Journal). j.site) js) files
 held e journals [] [] [] are editions each = tt
 held e journals (j ∷ js) (t ∷ ts) (f ∷ fs) are editions each = (
   (are.0.left, subst (λ es. Writes e j.site es are.0.left f) (sym each.0) (subst (λ d. Writes d j.site j.entries are.0.left f) editions.0 are.0.writes)),
@@ -131,7 +131,7 @@ held e journals (j ∷ js) (t ∷ ts) [] are editions each = absurd are
 
 -- the journals that were read are those that the files hold
 read_back : OneJournal → (e : Edition) (journals : ℕ → List Entry) (js : List Journal) (ts : List Tail) (sites : List ℕ) (files : List (List ℕ)) → AreFilesOf js ts files
-    → AreBeside (λ s bytes. IsFileWith e s (journals s) bytes) sites files → AllByRecursion (λ (j : Journal). j.entries ≡ journals j.site) js
+    → AllZip (λ s bytes. IsFileWith e s (journals s) bytes) sites files → AllByRecursion (λ (j : Journal). j.entries ≡ journals j.site) js
 read_back one e journals [] ts sites files are hold = tt
 read_back one e journals (j ∷ js) (t ∷ ts) (s ∷ sites) (f ∷ fs) are hold =
     let same = one e s (journals s) hold.0.0 f j t hold.0.1 are.0 in
@@ -166,7 +166,7 @@ take_front (x ∷ xs) ys = ap (λ z. x ∷ z) (take_front xs ys)
 
 module _ (begins : Beginnings) (edition : Edition) (events : List WorldEvent) where
   -- how far each site's file got
-  marks : (sites : List ℕ) (files : List (List ℕ)) → AreBeside (λ s bytes. IsCutFileOf edition s (entries_of s events) bytes) sites files → List (ℕ × ℕ)
+  marks : (sites : List ℕ) (files : List (List ℕ)) → AllZip (λ s bytes. IsCutFileOf edition s (entries_of s events) bytes) sites files → List (ℕ × ℕ)
   marks [] [] cut = []
   marks [] (f ∷ fs) cut = []
   marks (s ∷ sites) [] cut = []
@@ -176,8 +176,8 @@ module _ (begins : Beginnings) (edition : Edition) (events : List WorldEvent) wh
 
   -- a mark of another site changes nothing
   with_mark : (x n : ℕ) (pairs : List (ℕ × ℕ)) (sites : List ℕ) (files : List (List ℕ)) → count_of (λ q. q == x) sites ≡ 0
-      → AreBeside (λ s bytes. IsFileWith edition s (stopped (stop_at pairs) events s) bytes) sites files
-      → AreBeside (λ s bytes. IsFileWith edition s (stopped (stop_at ((x, n) ∷ pairs)) events s) bytes) sites files
+      → AllZip (λ s bytes. IsFileWith edition s (stopped (stop_at pairs) events s) bytes) sites files
+      → AllZip (λ s bytes. IsFileWith edition s (stopped (stop_at ((x, n) ∷ pairs)) events s) bytes) sites files
   with_mark x n pairs [] [] none are = tt
   with_mark x n pairs [] (f ∷ fs) none are = absurd are
   with_mark x n pairs (s ∷ sites) [] none are = absurd are
@@ -191,8 +191,8 @@ module _ (begins : Beginnings) (edition : Edition) (events : List WorldEvent) wh
   ]
 
   -- of sites that stand once, what is left is the file of the stop at these marks
-  marked : (sites : List ℕ) (files : List (List ℕ)) (cut : AreBeside (λ s bytes. IsCutFileOf edition s (entries_of s events) bytes) sites files) → ((s : ℕ) → count_of (λ q. q == s) sites ≤ 1)
-      → AreBeside (λ s bytes. IsFileWith edition s (stopped (stop_at (marks sites files cut)) events s) bytes) sites files
+  marked : (sites : List ℕ) (files : List (List ℕ)) (cut : AllZip (λ s bytes. IsCutFileOf edition s (entries_of s events) bytes) sites files) → ((s : ℕ) → count_of (λ q. q == s) sites ≤ 1)
+      → AllZip (λ s bytes. IsFileWith edition s (stopped (stop_at (marks sites files cut)) events s) bytes) sites files
   unfolding marks
   marked [] [] cut once = tt
   marked [] (f ∷ fs) cut once = absurd cut

@@ -7,7 +7,7 @@ use Rattle.cmh_journal.specs.Journal.{Journal}
 use Rattle.cmh_audit.specs.declared.step.Step.{Step}
 use Rattle.cmh_audit.specs.Runs.{event_at}
 use Rattle.cmh_show.specs.RunLines.{run_line_text}
-use Rattle.cmh_show.proofs.ListLemmas.{texts_written}
+use Rattle.cmh_frames.proofs.ListLemmas.{texts_written}
 use Rattle.cmh_files.specs.RunAudits.{event_line, run_text, step_text}
 
 module _ (journals : List Journal) (steps : List Step) (i : ℕ) (d : Step) (within : i < length steps) where

@@ -14,18 +14,18 @@ use Rattle.cmh_journal.specs.File.{IsFileOf, IsFault}
 use Rattle.cmh_journal.specs.Journal.{Journal}
 use Rattle.cmh_audit.specs.Set as set
 use Rattle.cmh_audit.specs.Set.{IsSet}
-use Rattle.cmh_audit.specs.declared.set.SetFault.{SetFault}
+use Rattle.cmh_journal.specs.declared.set_fault.SetFault.{SetFault}
 use Rattle.cmh_audit.specs.Verdicts.{IsVerdictOn}
 use Rattle.cmh_audit.specs.declared.verdict.Verdict.{Verdict}
 use Rattle.cmh_audit.specs.declared.verdict.Verdict.TheVariants.{Accepted, Refused}
-use Rattle.cmh_script.specs.Device.{Writing}
+use Rattle.cmh_console.specs.Device.{Writing}
 use Rattle.cmh_show.specs.AuditTexts.{cuts_text, verdict_text}
-use Rattle.cmh_files.specs.Faults.{NamesFault}
+use Rattle.cmh_console.specs.Faults.{NamesFault}
 use Rattle.cmh_files.specs.Headline.{Headline}
-use Rattle.cmh_files.specs.TopologyFile.{Says, IsFaultOfFile}
-use Rattle.cmh_files.specs.declared.faults.Fault as faults
-use Rattle.cmh_files.specs.declared.faults.Fault.TheVariants.{Json, Topology as NoTopology, Journal as NoJournal, Set as NoSet, Output, Memory}
-use Rattle.cmh_files.specs.declared.topology_file.TopologyFileFault.TheVariants.{Json as NoJson}
+use Rattle.cmh_console.specs.TopologyFile.{Says, IsFaultOfFile}
+use Rattle.cmh_console.specs.declared.faults.Fault as faults
+use Rattle.cmh_console.specs.declared.faults.Fault.TheVariants.{Json, Topology as NoTopology, Journal as NoJournal, Set as NoSet, Output, Memory}
+use Rattle.cmh_console.specs.declared.topology_file.TopologyFileFault.TheVariants.{Json as NoJson}
 
 -- ---- the files
 
@@ -80,15 +80,18 @@ abbrev pub status_of : Verdict → ℕ
 status_of (Accepted report) = 0
 status_of (Refused stops) = 1
 
--- the status is that of an audit whose lines were written
-pub record WroteAudit (topology : List ℕ) (files : List (List ℕ)) (old new : Option (List ℕ))
-    (status : ℕ) : Type 0 where
+-- the lines and the status are those of the files' audit
+pub record TellsAudit (topology : List ℕ) (files : List (List ℕ)) (text : List ℕ) (status : ℕ) : Type 0 where
   pub edition : Edition
   pub cuts : List (ℕ × ℕ)
   pub verdict : Verdict
   pub audits : Audits topology files edition cuts verdict
+  pub text_is : text ≡ cuts_text cuts ++ verdict_text edition verdict
   pub status_is : status ≡ status_of verdict
-  pub wrote : Appends old new (cuts_text cuts ++ verdict_text edition verdict)
+
+-- these lines were written
+abbrev pub WroteAudit : List ℕ → List (List ℕ) → Option (List ℕ) → Option (List ℕ) → ℕ → Type 0
+WroteAudit topology files old new status = (text : List ℕ) × TellsAudit topology files text status × Appends old new text
 
 -- ---- faults; nothing is said of running out of memory
 

@@ -1,5 +1,6 @@
 -- The headline: what a verdict on files says of the world whose sites wrote them.
-use Rattle.std.specs.Prelude.{◌≡◌, ℕ, ◌≤◌, true, ◌↔◌, List, [], ◌∷◌, length, ◌==◌}
+use Rattle.std.specs.Prelude.{◌≡◌, ℕ, ◌≤◌, true, ◌↔◌, List, [], length, ◌==◌}
+use Rattle.std.specs.List.{AllZip}
 use Rattle.cmh_frames.specs.declared.edition.Edition.{Edition}
 use Rattle.cmh_frames.specs.Edition.{starts_at_ask}
 use Rattle.cmh_frames.specs.Topology.{Topology, is_site}
@@ -17,18 +18,11 @@ use Rattle.cmh_audit.specs.declared.verdict.Verdict.{Verdict}
 
 -- ---- whose files they are
 
--- each thing is of the site at its place
-abbrev pub AreBeside : {X : Type 0} → (ℕ → X → Type 0) → List ℕ → List X → Type 0
-AreBeside IsOf [] [] = Unit {0}
-AreBeside IsOf [] (x ∷ xs) = ⊥
-AreBeside IsOf (s ∷ sites) [] = ⊥
-AreBeside IsOf (s ∷ sites) (x ∷ xs) = IsOf s x × AreBeside IsOf sites xs
-
 -- In whatever order they stand, each is of a site of the topology, and each site has just one.
 pub record AreOneForEachSite {X : Type 0} (t : Topology) (IsOf : ℕ → X → Type 0) (things : List X) : Type 0 where
   pub sites : List ℕ
   pub once : (s : ℕ) → count_of (λ q. q == s) sites ≡ bit (is_site t s)
-  pub each : AreBeside IsOf sites things
+  pub each : AllZip IsOf sites things
 
 -- The bytes are the file of a journal of the site with these entries, and a tail after them or none.
 abbrev pub IsFileWith : Edition → ℕ → List Entry → List ℕ → Type 0

@@ -1,9 +1,5 @@
 pub mod Audits
-pub mod Faults
-pub mod Status
-pub mod TopologyFile
 pub mod Headline
 pub mod Shows
-pub mod Keeping
 pub mod Explains
 pub mod RunAudits

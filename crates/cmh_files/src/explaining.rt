@@ -6,12 +6,11 @@ ghost use Rattle.cmh_audit.specs.Verdicts.{IfRefused};
 ghost use Rattle.cmh_show.specs.AuditTexts.{cuts_text, verdict_text};
 ghost use Rattle.cmh_files.specs.Audits.{IsCause};
 ghost use Rattle.cmh_files.specs.Explains.{AreReasons, ExplainEnds, WroteExplained};
-ghost use Rattle.cmh_files.specs.Status.{IsStatus};
+ghost use Rattle.cmh_console.specs.Status.{IsStatus};
 
-use crate::auditing::{Audited, audit_files, status_of, text_of};
-use crate::faults::Fault;
+use crate::auditing::{Audited, audit_files};
 use cmh_audit::Verdict;
-use cmh_script::Output;
+use cmh_console::{Fault, Output};
 use cmh_show::reason_lines;
 use cmh_stored::list_journals;
 use std::alloc::{AllocError, Global};
@@ -54,7 +53,7 @@ fn explain_into<W: Write>(
 {
     let audited = audit_files(alloc, topology, journals)?;
     let text = explained_text(alloc, &audited)?;
-    let status = status_of(&audited.verdict);
+    let status = audited.status();
     out.write_text(text.as_str())?;
     out.flush()?;
     Ok(status)
@@ -70,7 +69,7 @@ fn explained_text(alloc: Global, audited: &Audited<'_>) -> Result<String, AllocE
         ++ reasons)) }
 {
     let reasons = reasons_of(alloc, audited)?;
-    let mut text = text_of(alloc, audited)?;
+    let mut text = audited.text(alloc)?;
     text.push_str(reasons.as_str())?;
     Ok(text)
 }

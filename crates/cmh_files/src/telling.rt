@@ -7,13 +7,12 @@ ghost use Rattle.cmh_audit.specs.Verdicts.{IsAccepted};
 ghost use Rattle.cmh_model.specs.Runs.{ComeFromRun};
 ghost use Rattle.cmh_files.specs.Audits.{IsCause};
 ghost use Rattle.cmh_files.specs.RunAudits.{AreStepsToTell, RunEnds, WroteRun};
-ghost use Rattle.cmh_files.specs.Status.{IsStatus};
+ghost use Rattle.cmh_console.specs.Status.{IsStatus};
 
-use crate::auditing::{Audited, audit_files, status_of, text_of};
-use crate::faults::Fault;
+use crate::auditing::{Audited, audit_files};
 use crate::run_lines::RunLines;
 use cmh_audit::{AuditMemory, Step, Verdict, run_of};
-use cmh_script::Output;
+use cmh_console::{Fault, Output};
 use cmh_stored::list_journals;
 use std::alloc::Global;
 use std::io::Write;
@@ -54,9 +53,11 @@ fn tell_into<W: Write>(
         out.old.written out.new.written out.new.has_failed) }
 {
     let audited = audit_files(alloc, topology, journals)?;
-    let steps = steps_of(alloc, &audited)?;
-    let text = text_of(alloc, &audited)?;
-    let status = status_of(&audited.verdict);
+    let Ok(steps) = steps_of(alloc, &audited) else {
+        return Err(Fault::Memory);
+    };
+    let text = audited.text(alloc)?;
+    let status = audited.status();
     let listed = list_journals(alloc, &audited.journals)?;
     let lines = RunLines {
         journals: &listed,

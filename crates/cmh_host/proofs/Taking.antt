@@ -1,8 +1,8 @@
 -- Events that a station was given together, each as a step of its own.
-use Rattle.std.proofs.Common.{◌≡◌, ℕ, ◌+◌, ◌<◌, true, false, List, [], ◌∷◌, ◌++◌, length, take, get_or, map, Option, None, Some, refl, sym, ap, subst, ◌∙◌, arith, Result, Ok, Err}
+use Rattle.std.proofs.Common.{◌≡◌, ℕ, ◌+◌, ◌<◌, true, false, List, [], ◌∷◌, ◌++◌, length, take, get_or, map, Option, None, Some, refl, sym, ap, subst, arith, Result, Ok, Err}
 use Rattle.std.specs.Prelude.{IfSome, flat_map}
 use Rattle.std.specs.Io.KnownBytes.{Appends, Keeps}
-use Rattle.std.proofs.lemmas.List.{append_assoc, append-nil}
+use Rattle.std.proofs.lemmas.List.{append-nil}
 use Rattle.std.proofs.lemmas.Grind.{flat_map-append}
 use Rattle.cmh_frames.specs.Topology.{Topology}
 use Rattle.cmh_model.specs.declared.event.Event.{Event}
@@ -14,8 +14,8 @@ use Rattle.cmh_controller.specs.Refusals.{Refuses}
 use Rattle.cmh_controller.specs.declared.refusal.Refusal.{Refusal}
 use Rattle.cmh_controller.specs.declared.refusal.Refusal.TheVariants.{UnknownProcess, NotHere, BadTargets, Blocked, NotBlocked, NotOwed, AlreadyDeclared, Unlawful, Memory}
 use Rattle.cmh_journal.specs.Journal.{entry_limit}
-use Rattle.cmh_files.proofs.TextLemmas.{appends-kept, appends-more, appends-none}
-use Rattle.cmh_show.proofs.ListLemmas.{texts_written}
+use Rattle.std.proofs.KnownBytes.{Appends-kept, Appends-nil, Appends-trans}
+use Rattle.cmh_frames.proofs.ListLemmas.{texts_written}
 use Rattle.cmh_station.specs.Batches.{AreAnswers, IsAnswer, SealedAll, SteppedAll, entry_for, made}
 use Rattle.cmh_station.specs.Journaled.{Journaled}
 use Rattle.cmh_station.specs.Questions.{CanStep}
@@ -144,11 +144,11 @@ answered_on before after old mid new first then = record {
   replies = first.replies ++ then.replies;
   are = stepped_on before after first.replies then.replies first.are then.are;
   wrote = subst (λ (text : List ℕ). Appends old new text) (sym (flat_map-append reply_text first.replies then.replies))
-      (appends-more old mid new (flat_map reply_text first.replies) (flat_map reply_text then.replies) first.wrote then.wrote);
+      (Appends-trans old mid new (flat_map reply_text first.replies) (flat_map reply_text then.replies) first.wrote then.wrote);
 }
 
 pub none_answered : (out : Option (List ℕ)) → WereAnswered [] out out
-none_answered out = record { replies = []; are = tt; wrote = appends-none out }
+none_answered out = record { replies = []; are = tt; wrote = Appends-nil out }
 
 texts_answered : (answers : List (Result Outcome StationRefusal)) → flat_map answer_text answers ≡ flat_map reply_text (map reply_of answers)
 texts_answered [] = refl
@@ -168,7 +168,7 @@ pub wrote_more : (answers : List (Result Outcome StationRefusal)) (i : ℕ) (ans
     → Appends out new (reply_text reply) → Appends old new (flat_map answer_text (take (i + 1) answers))
 wrote_more answers i answer reply old out new before within is told more =
     subst (λ (text : List ℕ). Appends old new text) (texts_written answer_text answers i answer within is)
-    (appends-more old out new (flat_map answer_text (take i answers)) (answer_text answer) before
+    (Appends-trans old out new (flat_map answer_text (take i answers)) (answer_text answer) before
     (subst (λ (r : SiteReply). Appends out new (reply_text r)) told more))
 
 pub one_answered : (event : Event) (reply : SiteReply) (old new : Option (List ℕ)) → WasStepped event reply → Appends old new (reply_text reply) → WereAnswered (event ∷ []) old new
@@ -204,7 +204,7 @@ pub answered_kept : (events : List Event) (old new after : Option (List ℕ)) �
 answered_kept events old new after told kept = record {
   replies = told.replies;
   are = told.are;
-  wrote = appends-kept old new after (flat_map reply_text told.replies) told.wrote kept;
+  wrote = Appends-kept old new after (flat_map reply_text told.replies) told.wrote kept;
 }
 
 pub no_events : (events : List Event) (out : Option (List ℕ)) → events ≡ [] → WereAnswered events out out

@@ -1,9 +1,9 @@
 -- What is written for a line that running sites are given.
 use Rattle.std.specs.Prelude.{ℕ, List, [], ◌++◌, codes, flat_map}
 use Rattle.std.specs.Fmt.{decimal}
-use Rattle.cmh_show.specs.AuditTexts.{members_text}
+use Rattle.cmh_frames.specs.Texts.{processes_text}
 use Rattle.cmh_table.specs.Table.{number_of, state_text}
-use Rattle.cmh_playground.specs.Texts.{done_text}
+use Rattle.cmh_model.specs.Texts.{done_text}
 use Rattle.cmh_station.specs.Journaled as station
 use Rattle.cmh_host.specs.declared.site_reply.ClosedLink.{ClosedLink}
 use Rattle.cmh_host.specs.declared.site_reply.LinkEnds.{LinkEnds}
@@ -24,6 +24,6 @@ reply_text BadLink = codes "bad link\n"
 reply_text Late = codes "late\n"
 reply_text (Taken done) = codes "ok " ++ done_text done ++ codes "\n"
 reply_text (Refused refusal) = codes "refused " ++ decimal (station.number_of refusal) ++ codes "\n"
-reply_text (Declared site processes) = codes "site " ++ decimal site ++ codes " declared" ++ members_text processes ++ codes "\n"
+reply_text (Declared site processes) = codes "site " ++ decimal site ++ codes " declared" ++ processes_text processes ++ codes "\n"
 reply_text (Connected connected failed) = codes "connected " ++ decimal connected ++ codes " failed " ++ decimal failed ++ codes "\n"
 reply_text (Links links) = flat_map ends_text links.items

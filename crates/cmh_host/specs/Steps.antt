@@ -2,7 +2,7 @@
 use Rattle.std.specs.Prelude.{◌≡◌, ℕ, All, Contains, List, length, ⊤}
 use Rattle.cmh_frames.specs.declared.frame.Frame.{Frame}
 use Rattle.cmh_model.specs.declared.event.Event.{Event}
-use Rattle.cmh_playground.specs.declared.site.Done.{Done}
+use Rattle.cmh_model.specs.declared.done.Done.{Done}
 use Rattle.cmh_station.specs.Journaled.{Journaled}
 use Rattle.cmh_station.specs.Steps.{NotStepped, Stepped}
 use Rattle.cmh_station.specs.declared.refusal.StationRefusal.{StationRefusal}

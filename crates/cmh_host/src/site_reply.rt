@@ -1,12 +1,11 @@
 //! What running sites answer, as it is printed.
 
 ghost use Rattle.std.specs.Prelude.{Some, flat_map};
-ghost use Rattle.cmh_show.specs.AuditTexts.{members_text};
 ghost use Rattle.cmh_host.specs.SiteReplies.{closed_text, ends_text, reply_text};
 
-use cmh_frames::{ProcId, SiteId};
+use cmh_frames::{ProcessesText, SiteId};
 use cmh_links::{LinkFault, LinkState};
-use cmh_playground::Done;
+use cmh_model::Done;
 use cmh_station::{Declared, StationRefusal};
 use std::fmt;
 
@@ -71,23 +70,6 @@ impl fmt::Display for ClosedLink {
     }
 }
 
-/// Processes, each after a space.
-#[derive(Drop)]
-struct Members<'a> {
-    processes: &'a [ProcId],
-}
-
-impl<'a> fmt::Display for Members<'a> {
-    ghost output = { λ m. Some (members_text m.processes.now) };
-
-    fn fmt<W: fmt::Write>(&self, f: &mut fmt::Formatter<W>) -> fmt::Result {
-        for process in self.processes {
-            write!(f, " {process}")?;
-        }
-        Ok(())
-    }
-}
-
 /// The links to and from other sites, each on a line.
 #[derive(Drop)]
 struct LinkLines<'a> {
@@ -120,7 +102,7 @@ impl fmt::Display for SiteReply {
                 write!(f, "refused {number}\n")
             }
             SiteReply::Declared(site, processes) => {
-                let members = Members {
+                let members = ProcessesText {
                     processes: processes.as_slice(),
                 };
                 write!(f, "site {site} declared{members}\n")

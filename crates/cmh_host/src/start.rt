@@ -5,7 +5,7 @@ ghost use Rattle.std.specs.Prelude.{◌≡◌, ◌⊎◌, IfOk, IfErr};
 use crate::starting::{RunningSite, Speakers, fault_of, open_station, start_threads};
 use crate::system::System;
 use cmh_carriers::{TcpDial, TcpListen};
-use cmh_files::Fault;
+use cmh_console::Fault;
 use cmh_frames::{SiteId, Topology};
 use cmh_notes::{Note, Noting, Origin, Speaker};
 use cmh_running::{Disk, NewJournal, Ports, can_be_made, make_journal};

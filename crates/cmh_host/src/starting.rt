@@ -9,13 +9,12 @@ ghost use Rattle.cmh_host.specs.Steps.{AreLinksOf, IsDeclared, IsLinks, IsListOf
 use crate::site_reply::{LinkEnds, SiteReply};
 use crate::system::System;
 use cmh_carriers::{Dial, TcpDial, TcpListen};
-use cmh_files::Fault;
+use cmh_console::Fault;
 use cmh_frames::{SiteId, Topology};
 use cmh_journal::Sink;
 use cmh_links::{LinkFault, LinkState, SharedLinks, SiteThreads};
-use cmh_model::Event;
+use cmh_model::{Done, Event};
 use cmh_notes::{Note, Speaker};
-use cmh_playground::Done;
 use cmh_running::{JournalSink, NoFile};
 use cmh_station::{
     BoardReader, KeptBoard, LinkTap, Listing, SharedStation, Station, StationRefusal,

@@ -7,12 +7,10 @@ ghost use Rattle.cmh_host.specs.Together.{AreTaken, FirstRefused, WereAnswered, 
 
 use crate::site_reply::SiteReply;
 use crate::starting::{FileStation, note_seal, step};
-use cmh_files::Fault;
-use cmh_model::{Event, Outcome};
+use cmh_console::{Fault, Output};
+use cmh_model::{Done, Event, Outcome};
 use cmh_notes::Speaker;
-use cmh_playground::Done;
 use cmh_running::JournalSink;
-use cmh_script::Output;
 use cmh_station::{KeptBoard, Station, StationRefusal};
 use std::io::Write;
 use std::sync::Wait;

@@ -5,11 +5,11 @@ use crate::object::{
     Called, Object, Objects, bytes, journal, process, put_processes, refused, topology, word,
 };
 use cmh_audit::{Report, Stops, Totals, Verdict, audit, check_set, run_of};
+use cmh_console::Words;
 use cmh_frames::Topology;
 use cmh_journal::Journal;
 use cmh_lab_lines::{Answer, Unanswered};
 use cmh_model::Outcome;
-use cmh_script::Words;
 use cmh_stored::read_stored;
 use std::alloc::Global;
 

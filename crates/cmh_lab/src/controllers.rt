@@ -4,10 +4,10 @@ use crate::object::{
     Called, Driven, Object, Objects, journal, keep, process, put_list, put_or_none, put_outcome,
     put_processes, refused, site, topology, word,
 };
+use cmh_console::Words;
 use cmh_controller::{Controller, Refusal, Replayed, replay};
 use cmh_lab_lines::{Answer, Unanswered, event};
 use cmh_model::{Event, Outcome};
-use cmh_script::Words;
 use std::alloc::Global;
 use std::mem::replace;
 

@@ -1,6 +1,6 @@
 //! Readers and writers that move few bytes at a time and fail at one call.
 
-use cmh_script::Ahead;
+use cmh_console::Ahead;
 use std::alloc::{AllocError, Global};
 use std::io;
 use std::io::{BufRead, ErrorKind, Read, Write};

@@ -3,12 +3,12 @@
 use crate::object::{
     Called, Object, Objects, bytes, keep, process, put_or_none, put_processes, refused, site, word,
 };
+use cmh_console::Words;
 use cmh_frames::{
     Frame, Front, HELLO_LEN, ProcId, SiteId, Topology, decode_front, decode_hello, encode_hello,
 };
 use cmh_journal::encode_header;
 use cmh_lab_lines::{Answer, Unanswered, bytes_of, edition, frame, number, rows, size};
-use cmh_script::Words;
 use std::alloc::Global;
 
 /// `limits EDITION`: how many sites, processes, members and targets, and whether an ask starts a computation.

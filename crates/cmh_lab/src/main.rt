@@ -17,8 +17,8 @@ mod waits;
 
 use crate::object::{Called, Object, Objects, word};
 use crate::plays::Command;
+use cmh_console::{Input, Output, Words};
 use cmh_lab_lines::{Answer, Lab, Slots, Unanswered, run_lab};
-use cmh_script::{Input, Output, Words};
 use std::io::{BufReader, BufWriter};
 use std::process::ExitCode;
 use std::rt::Env;

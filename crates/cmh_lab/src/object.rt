@@ -1,6 +1,7 @@
 //! The objects of this laboratory, and what calls read and write of them.
 
 use cmh_audit::Verdict;
+use cmh_console::Words;
 use cmh_controller::Controller;
 use cmh_dependents::DependentSets;
 use cmh_frames::{Frame, ProcId, SiteId, Topology};
@@ -8,7 +9,6 @@ use cmh_journal::{FuseSink, Journal, MemSink};
 use cmh_lab_lines::{Answer, Slots, Unanswered};
 use cmh_model::Event;
 use cmh_reader::FrameReader;
-use cmh_script::Words;
 use cmh_waits::LocalWaits;
 use cmh_world::Links;
 use std::alloc::Global;

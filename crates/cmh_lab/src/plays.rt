@@ -2,13 +2,13 @@
 
 use crate::devices::{Device, Reader, Trouble, Writer};
 use crate::object::{Called, Objects, bytes, put_lines, word};
-use cmh_files::{
-    TopologyFile, TopologyFileFault, read_topology_file, read_topology_file_with_ports, run_audit,
-    run_audit_run, run_audit_why, run_show,
+use cmh_console::{
+    Input, Output, TopologyFile, TopologyFileFault, Words, read_topology_file,
+    read_topology_file_with_ports,
 };
+use cmh_files::{run_audit, run_audit_run, run_audit_why, run_show};
 use cmh_lab_lines::{Answer, Unanswered, number, size};
 use cmh_play::run_play;
-use cmh_script::{Input, Output, Words};
 use std::alloc::{AllocError, Global};
 
 /// The devices of a command. Without one of its own, it reads a script that is all at hand.

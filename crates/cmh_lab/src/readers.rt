@@ -1,9 +1,9 @@
 //! Readers of streams, and links between sites.
 
 use crate::object::{Called, Object, Objects, bytes, keep, put_or_none, refused, site, word};
+use cmh_console::Words;
 use cmh_lab_lines::{Answer, Unanswered, bytes_of, edition, frame, senders};
 use cmh_reader::{FrameReader, ReadFault};
-use cmh_script::Words;
 use cmh_world::Links;
 use std::alloc::Global;
 

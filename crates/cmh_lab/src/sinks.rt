@@ -1,9 +1,9 @@
 //! Sinks in memory.
 
 use crate::object::{Called, Object, Objects, bytes, keep, word};
+use cmh_console::Words;
 use cmh_journal::{FuseSink, MemSink, Sink, SinkFault, append};
 use cmh_lab_lines::{Answer, Unanswered, bytes_of, number, size};
-use cmh_script::Words;
 use std::alloc::Global;
 
 /// `sink NAME`, `sink NAME room COUNT`.

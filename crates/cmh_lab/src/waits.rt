@@ -4,12 +4,12 @@ use crate::object::{
     Called, Object, Objects, keep, process, put_list, put_or_none, put_processes, site, topology,
     word,
 };
+use cmh_console::Words;
 use cmh_dependents::{DependentSets, local_reach, on_local_cycle};
 use cmh_frames::{Frame, ProcId, Reply, Request};
 use cmh_lab_lines::{Answer, Unanswered, frame, processes, size};
 use cmh_model::is_ascending;
 use cmh_rules::{ProbeVerdict, StartVerdict, on_probe, start};
-use cmh_script::Words;
 use cmh_waits::LocalWaits;
 use std::alloc::Global;
 

@@ -1,7 +1,7 @@
 //! The loop of a laboratory: a line, its call, its answer.
 
 use crate::answer::{Answer, Unanswered};
-use cmh_script::{Input, NextLine, Output, Words, read_line};
+use cmh_console::{Input, NextLine, Output, Words, read_line};
 use std::alloc::Global;
 use std::io;
 use std::io::{BufRead, ErrorKind, Write};

@@ -3,9 +3,9 @@
 ghost use Rattle.std.specs.Prelude.{◌≢◌, ◌≤◌, IfOk};
 
 use crate::answer::Unanswered;
+use cmh_console::Words;
 use cmh_frames::{Edition, Frame, Probe, ProcId, Reply, Request, SiteId, SiteRow};
 use cmh_model::{Event, Targets};
-use cmh_script::Words;
 use std::alloc::Global;
 
 /// The value of a digit.

@@ -8,7 +8,8 @@ use Rattle.cmh_model.specs.declared.event.Event.{Event}
 use Rattle.cmh_model.specs.declared.journal.Entry.{Entry}
 use Rattle.cmh_model.specs.declared.journal.Outcome.{Outcome}
 use Rattle.cmh_board.specs.Fronts.{Front}
-use Rattle.cmh_ring.specs.Links.{ArePaired, IsTapOf, Link, Released, Tap, queued}
+use Rattle.std.specs.List.{AllZip}
+use Rattle.cmh_ring.specs.Links.{IsTapOf, Link, Released, Tap, queued}
 use Rattle.cmh_station.specs.Batches.{GrewByAny, NotSteppedAll, SteppedAll, made}
 use Rattle.cmh_station.specs.Journaled.{Journaled}
 use Rattle.cmh_station.specs.Stations.{Station}
@@ -20,9 +21,9 @@ use Rattle.cmh_lab_stations.specs.Pairs.{BelongTo, IsSameTap}
 
 -- the taps of the links before are those of the links after
 abbrev pub KeepsTaps : List Link → List Link → Type 0
-KeepsTaps links links' = (taps : List Tap) → ArePaired IsTapOf links taps → ArePaired IsTapOf links' taps
+KeepsTaps links links' = (taps : List Tap) → AllZip IsTapOf links taps → AllZip IsTapOf links' taps
 
-pub released : (ls ls' : List Link) → ArePaired Released ls ls' → KeepsTaps ls ls'
+pub released : (ls ls' : List Link) → AllZip Released ls ls' → KeepsTaps ls ls'
 released [] [] r ts p = p
 released [] (l' ∷ ls') r ts p = absurd r
 released (l ∷ ls) [] r ts p = absurd r
@@ -37,13 +38,13 @@ queue_keeps sent (l ∷ ls) [] p = absurd p
 queue_keeps sent (l ∷ ls) (t ∷ ts) p = (record { to = p.0.to; ring = p.0.ring }, queue_keeps sent ls ts p.1)
 
 pub same : (a b : Journaled) → b ≡ a → KeepsTaps a.links b.links
-same a b e ts p = subst (λ (j : Journaled). ArePaired IsTapOf j.links ts) (sym e) p
+same a b e ts p = subst (λ (j : Journaled). AllZip IsTapOf j.links ts) (sym e) p
 
 grew : (a : Journaled) (more : List Entry) (b : Journaled) → Grew a more b → KeepsTaps a.links b.links
 grew a more b g ts p = released (map (queued (sent_of more)) a.links) b.links g.links ts (queue_keeps (sent_of more) a.links ts p)
 
 was_sealed : (a : Journaled) (more : List Entry) (b : Journaled) → WasSealed a more b → KeepsTaps a.links b.links
-was_sealed a more b w ts p = subst (λ (ls : List Link). ArePaired IsTapOf ls ts) (sym w.links) p
+was_sealed a more b w ts p = subst (λ (ls : List Link). AllZip IsTapOf ls ts) (sym w.links) p
 
 not_stepped : (a : Journaled) (event : Event) (refusal : StationRefusal) (b : Journaled) → NotStepped a event refusal b → KeepsTaps a.links b.links
 not_stepped a event Sealed b n = same a b n.1
@@ -109,7 +110,7 @@ same_reader of None (Some n) board e h = absurd (none-some (of n) (sym e))
 same_reader of (Some o) (Some n) board e h = same_Some (of n) (of o) e ∙ h
 
 -- taps of the same rings
-pub same_taps : (ls : List Link) (ts ts' : List Tap) → ArePaired IsSameTap ts ts' → ArePaired IsTapOf ls ts → ArePaired IsTapOf ls ts'
+pub same_taps : (ls : List Link) (ts ts' : List Tap) → AllZip IsSameTap ts ts' → AllZip IsTapOf ls ts → AllZip IsTapOf ls ts'
 same_taps [] [] [] s p = tt
 same_taps ls [] (t' ∷ ts') s p = absurd s
 same_taps ls (t ∷ ts) [] s p = absurd s
@@ -118,12 +119,12 @@ same_taps (l ∷ ls) [] ts' s p = absurd p
 same_taps (l ∷ ls) (t ∷ ts) (t' ∷ ts') s p =
     (record { to = s.0.to ∙ p.0.to; ring = s.0.ring ∙ p.0.ring }, same_taps ls ts ts' s.1 p.1)
 
-pub all_same : (ts : List Tap) → ArePaired IsSameTap ts ts
+pub all_same : (ts : List Tap) → AllZip IsSameTap ts ts
 all_same [] = tt
 all_same (t ∷ ts) = (record { to = refl; ring = refl }, all_same ts)
 
 -- one of them in place of another of the same ring
-pub same_at : (ts : List Tap) (i : ℕ) (t d : Tap) → i < length ts → IsSameTap (get_or ts i d) t → ArePaired IsSameTap ts (set ts i t)
+pub same_at : (ts : List Tap) (i : ℕ) (t d : Tap) → i < length ts → IsSameTap (get_or ts i d) t → AllZip IsSameTap ts (set ts i t)
 same_at [] i t d lt s = absurd (omega (arith, lt))
 same_at (x ∷ xs) zero t d lt s = (s, all_same xs)
 same_at (x ∷ xs) (suc i) t d lt s = (record { to = refl; ring = refl }, same_at xs i t d (omega (arith, lt)) s)

@@ -3,8 +3,8 @@
 use crate::making::word;
 use crate::object::{Object, Objects};
 use cmh_carriers::{Incoming, MemIncoming, MemOutgoing, Outgoing};
+use cmh_console::Words;
 use cmh_lab_lines::{Answer, Unanswered, bytes_of, number, size};
-use cmh_script::Words;
 use std::alloc::Global;
 use std::sync::Wait;
 

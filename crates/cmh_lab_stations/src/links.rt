@@ -8,11 +8,11 @@ use crate::hands::Frames;
 use crate::making::word;
 use crate::object::{Object, Objects, topology};
 use cmh_carriers::{Incoming, MemIncoming, Outgoing};
+use cmh_console::Words;
 use cmh_frames::{Edition, SiteId};
 use cmh_lab_lines::{Answer, Unanswered, edition, number, senders};
 use cmh_links::{LinkFault, LinkState, LinkTable, ReaderEnd, SharedLinks, run_writer};
 use cmh_reader::FrameReader;
-use cmh_script::Words;
 use std::alloc::Global;
 use std::sync::Wait;
 

@@ -23,8 +23,8 @@ mod telling;
 
 use crate::making::word;
 use crate::object::{Object, Objects};
+use cmh_console::{Input, Output, Words};
 use cmh_lab_lines::{Answer, Lab, Unanswered, bytes_of, number, run_lab};
-use cmh_script::{Input, Output, Words};
 use std::alloc::Global;
 use std::io::{BufReader, BufWriter};
 use std::process::ExitCode;

@@ -3,9 +3,9 @@
 use crate::disk::Disk;
 use crate::making::word;
 use crate::telling::{put_processes, put_refusal};
+use cmh_console::Words;
 use cmh_frames::ProcId;
 use cmh_lab_lines::{Answer, Unanswered, event};
-use cmh_script::Words;
 use cmh_station::{Listing, Station, StationRefusal};
 use std::alloc::Global;
 

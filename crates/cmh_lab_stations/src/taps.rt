@@ -1,6 +1,6 @@
 //! Taps of links by their sites.
 
-ghost use Rattle.cmh_ring.specs.Links.{ArePaired};
+ghost use Rattle.std.specs.List.{AllZip};
 ghost use Rattle.cmh_lab_stations.specs.Pairs.{IsSameTap};
 
 use cmh_frames::{Frame, SiteId};
@@ -8,7 +8,7 @@ use cmh_station::{LinkTap, ParkingTap};
 
 /// The next frame of the link to a site; `None` where there is no such link.
 pub fn take_from(taps: &mut Vec<LinkTap>, site: SiteId) -> Option<Option<Frame>>
-    ensures { ArePaired IsSameTap taps.old.items taps.new.items }
+    ensures { AllZip IsSameTap taps.old.items taps.new.items }
 {
     let at = taps.iter().position(|tap| tap.to() == site)?;
     if at < taps.len() {

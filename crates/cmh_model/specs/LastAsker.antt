@@ -2,16 +2,14 @@
 use Rattle.std.specs.Prelude.{◌≡◌, ℕ, Bool, true, false, List, ◌∷◌, ◌++◌, ◌==◌}
 use Rattle.std.specs.List.{list_any, AllByRecursion}
 use Rattle.cmh_model.specs.declared.event.Event.{Event}
-use Rattle.cmh_model.specs.declared.event.Event.TheVariants.{Ask, Reply, Start, Got}
+use Rattle.cmh_model.specs.declared.event.Event.TheVariants.{Ask}
 use Rattle.cmh_model.specs.declared.journal.WorldEvent.{WorldEvent}
 use Rattle.cmh_model.specs.Waits.{IsCycle, IsDeclared}
 
 -- the event is an ask of p
 abbrev pub is_ask_of : ℕ → Event → Bool
 is_ask_of p (Ask asker targets) = asker == p
-is_ask_of p (Reply holder asker) = false
-is_ask_of p (Start i) = false
-is_ask_of p (Got from frame) = false
+is_ask_of p event = false
 
 -- Of these members d is the last that asked: it is one of them, some entry is an ask
 -- of it, and no later one is an ask of a member.

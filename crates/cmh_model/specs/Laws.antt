@@ -22,13 +22,11 @@ bit b = if b then 1 else 0
 -- how many frames of a list are the request of j to k, and its reply
 abbrev pub is_request : ℕ → ℕ → Frame → Bool
 is_request j k (Request (asker, holder)) = (asker == j) && (holder == k)
-is_request j k (Reply_frame (holder, asker)) = false
-is_request j k (Probe (origin, from, to)) = false
+is_request j k frame = false
 
 abbrev pub is_reply : ℕ → ℕ → Frame → Bool
-is_reply k j (Request (asker, holder)) = false
 is_reply k j (Reply_frame (holder, asker)) = (holder == k) && (asker == j)
-is_reply k j (Probe (origin, from, to)) = false
+is_reply k j frame = false
 
 abbrev pub count_of : {X : Type 0} → (X → Bool) → List X → ℕ
 count_of p [] = 0

@@ -11,3 +11,4 @@ pub mod Declarations
 pub mod LastAsker
 pub mod Settling
 pub mod Scripts
+pub mod Texts

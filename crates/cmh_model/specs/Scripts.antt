@@ -1,6 +1,7 @@
 -- Worked scripts over small topologies: the lists of events that come of them.
-use Rattle.std.specs.Prelude.{ℕ, zero, suc, ◌+◌, List, [], ◌∷◌, ◌++◌, Option, None, Some, take}
+use Rattle.std.specs.Prelude.{ℕ, ◌+◌, List, [], ◌∷◌, ◌++◌, Option, None, Some, take}
 use Rattle.std.specs.FinSet as set
+use Rattle.std.specs.List.{range_with_len}
 use Rattle.cmh_frames.specs.declared.edition.Edition.{Edition}
 use Rattle.cmh_frames.specs.declared.edition.Edition.TheVariants.{One}
 use Rattle.cmh_frames.specs.declared.frame.Frame.{Frame}
@@ -48,14 +49,9 @@ two_beside_two = record { edition = One; rows = (1, 1 ∷ 5 ∷ []) ∷ (2, 11 �
 abbrev pub six_processes : Topology
 six_processes = record { edition = One; rows = (1, 1 ∷ []) ∷ (2, 2 ∷ 3 ∷ 4 ∷ 5 ∷ 6 ∷ []) ∷ [] }
 
--- so many numbers, ascending from n
-abbrev pub numbers_from : ℕ → ℕ → List ℕ
-numbers_from n zero = []
-numbers_from n (suc count) = n ∷ numbers_from (n + 1) count
-
 -- the processes 1 to 40 at one site
 abbrev pub crowded_site : Edition → Topology
-crowded_site edition = record { edition = edition; rows = (1, numbers_from 1 40) ∷ [] }
+crowded_site edition = record { edition = edition; rows = (1, range_with_len 1 40) ∷ [] }
 
 -- an entry that sends these frames and declares this process, and one that does neither
 abbrev pub outcome : Event → List (ℕ × Frame) → Option ℕ → Entry

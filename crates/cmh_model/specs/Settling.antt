@@ -2,11 +2,11 @@
 use Rattle.std.specs.Prelude.{◌≡◌, ℕ, ◌+◌, ◌*◌, ◌≤◌, Bool, true, false, ◌↔◌, List, [], ◌∷◌, ◌++◌, length, Option}
 use Rattle.std.specs.List.{AllByRecursion, sum_by}
 use Rattle.cmh_frames.specs.declared.frame.Frame.{Frame}
-use Rattle.cmh_frames.specs.declared.frame.Frame.TheVariants.{Request, Reply as Reply_frame, Probe}
+use Rattle.cmh_frames.specs.declared.frame.Frame.TheVariants.{Reply as Reply_frame}
 use Rattle.cmh_frames.specs.Edition.{target_limit}
 use Rattle.cmh_frames.specs.Topology.{Topology, sites_of, members_of, all_members, site_of}
 use Rattle.cmh_model.specs.declared.event.Event.{Event}
-use Rattle.cmh_model.specs.declared.event.Event.TheVariants.{Ask, Reply, Start, Got}
+use Rattle.cmh_model.specs.declared.event.Event.TheVariants.{Got}
 use Rattle.cmh_model.specs.declared.journal.WorldEvent.{WorldEvent}
 use Rattle.cmh_model.specs.State.{State}
 use Rattle.cmh_model.specs.Rules.{Accepts, Sends}
@@ -39,10 +39,8 @@ FirstFramesDeliverable t events =
 
 -- a frame came from another site
 abbrev pub is_delivery : Event → Bool
-is_delivery (Ask asker targets) = false
-is_delivery (Reply holder asker) = false
-is_delivery (Start i) = false
 is_delivery (Got from frame) = true
+is_delivery event = false
 
 -- The run goes on by these entries, and each of them is a delivery.
 pub record GoesOn (t : Topology) (events more : List WorldEvent) : Type 0 where
@@ -57,9 +55,8 @@ IsSettled t events = (e : WorldEvent) → is_delivery e.entry.event ≡ true →
 
 -- a reply of any process to any
 abbrev pub is_any_reply : Frame → Bool
-is_any_reply (Request (asker, holder)) = false
-is_any_reply (Reply_frame (holder, asker)) = true
-is_any_reply (Probe (origin, from, to)) = false
+is_any_reply (Reply_frame reply) = true
+is_any_reply frame = false
 
 -- the frames that are under way and pass the test, over all links between sites of the topology
 abbrev pub under_way_in_all : (Frame → Bool) → Topology → List WorldEvent → ℕ

@@ -2,23 +2,19 @@
 use Rattle.std.specs.Prelude.{◌≡◌, ℕ, Bool, true, false, not, ◌&&◌, ◌||◌, ◌⊎◌, List, [], ◌∷◌, ◌==◌, Some}
 use Rattle.std.specs.List.{list_any}
 use Rattle.cmh_model.specs.declared.event.Event.{Event}
-use Rattle.cmh_model.specs.declared.event.Event.TheVariants.{Ask, Reply, Start, Got}
+use Rattle.cmh_model.specs.declared.event.Event.TheVariants.{Ask, Reply}
 use Rattle.cmh_model.specs.declared.journal.WorldEvent.{WorldEvent}
 use Rattle.cmh_model.specs.Paths.{IsPath, IsCycleOf}
 
 -- the event is an ask of j that names k
 abbrev pub asks_for : ℕ → ℕ → Event → Bool
 asks_for j k (Ask asker targets) = (asker == j) && list_any (λ q. q == k) targets
-asks_for j k (Reply holder asker) = false
-asks_for j k (Start i) = false
-asks_for j k (Got from frame) = false
+asks_for j k event = false
 
 -- the event is the reply of k to j
 abbrev pub grants : ℕ → ℕ → Event → Bool
-grants k j (Ask asker targets) = false
 grants k j (Reply holder asker) = (holder == k) && (asker == j)
-grants k j (Start i) = false
-grants k j (Got from frame) = false
+grants k j event = false
 
 -- an ask of j that names k begins the wait, and a reply of k to j ends it
 abbrev pub wait_after : Bool → ℕ → ℕ → List WorldEvent → Bool

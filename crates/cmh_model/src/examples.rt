@@ -18,7 +18,8 @@ ghost use Rattle.cmh_model.specs.Waits.{IsCycle, OnCycle, DependsOn, IsDeclared,
 ghost use Rattle.cmh_model.specs.LastAsker.{AskedLast};
 ghost use Rattle.cmh_model.specs.Stops.{IsConsistent};
 ghost use Rattle.cmh_model.specs.Settling.{GoesOn, IsSettled, most_deliveries};
-ghost use Rattle.cmh_model.specs.Scripts.{one_site, two_sites, three_processes, silent, between, state_with, wait_for_each_other, ask_and_reply, declared_at_ask, ask_each_other, probe_goes_round, granted_before_the_probe, marked_by_the_probe, overtaken, lone_process, two_beside_one, two_beside_two, six_processes, crowded_site, numbers_from, at_site, got_before_sent, asked_and_answered, found_beside_it, waits_for_a_cycle};
+ghost use Rattle.std.specs.List.{range_with_len};
+ghost use Rattle.cmh_model.specs.Scripts.{one_site, two_sites, three_processes, silent, between, state_with, wait_for_each_other, ask_and_reply, declared_at_ask, ask_each_other, probe_goes_round, granted_before_the_probe, marked_by_the_probe, overtaken, lone_process, two_beside_one, two_beside_two, six_processes, crowded_site, at_site, got_before_sent, asked_and_answered, found_beside_it, waits_for_a_cycle};
 
 /// `1: 1 2`, `ask 1 2 / ask 2 1 / start 1`: two processes of one site wait for each other, and the start declares 1.
 pub fn deadlock_at_one_site()
@@ -114,10 +115,10 @@ pub fn targets_of_an_ask()
     ensures none { AreTargets (one_site One) 1 [] → ⊥ }
     ensures twice { AreTargets (one_site One) 1 (2 ∷ 2 ∷ []) → ⊥ }
     ensures descending { AreTargets three_processes 1 (3 ∷ 2 ∷ []) → ⊥ }
-    ensures sixteen { AreTargets (crowded_site One) 1 (numbers_from 2 16) }
-    ensures seventeen { AreTargets (crowded_site One) 1 (numbers_from 2 17) → ⊥ }
-    ensures thirty_two { AreTargets (crowded_site Two) 1 (numbers_from 2 32) }
-    ensures thirty_three { AreTargets (crowded_site Two) 1 (numbers_from 2 33) → ⊥ }
+    ensures sixteen { AreTargets (crowded_site One) 1 (range_with_len 2 16) }
+    ensures seventeen { AreTargets (crowded_site One) 1 (range_with_len 2 17) → ⊥ }
+    ensures thirty_two { AreTargets (crowded_site Two) 1 (range_with_len 2 32) }
+    ensures thirty_three { AreTargets (crowded_site Two) 1 (range_with_len 2 33) → ⊥ }
 {}
 
 /// `1: 1`, `2: 2`: of these only the first request fits at site 2. A frame comes from the home of who sent it, which

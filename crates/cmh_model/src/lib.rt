@@ -5,10 +5,12 @@
 //! explains it.
 #![tactic(auto)]
 
+mod done;
 mod event;
 pub mod examples;
 pub mod instances;
 mod journal;
 
+pub use crate::done::Done;
 pub use crate::event::{Event, Targets, is_ascending};
 pub use crate::journal::{Entry, Outcome, Sendings, WorldEvent};

@@ -9,9 +9,9 @@ use Rattle.cmh_draw.specs.Marks.{IsRunPicture, IsWaitsPicture}
 use Rattle.cmh_draw.specs.declared.picture.Kind.{Kind}
 use Rattle.cmh_draw.specs.declared.picture.Kind.TheVariants.{Waits, Run}
 use Rattle.cmh_draw.specs.declared.picture.Picture.{Picture}
-use Rattle.cmh_script.specs.Device.{Writing}
+use Rattle.cmh_console.specs.Device.{Writing}
 use Rattle.cmh_files.specs.Audits.{Audits, IsCause}
-use Rattle.cmh_files.specs.Faults.{NamesFault}
+use Rattle.cmh_console.specs.Faults.{NamesFault}
 use Rattle.cmh_picture.specs.PictureTexts.{IsDrawn}
 use Rattle.cmh_picture.specs.declared.format.Format.{Format}
 

@@ -1,7 +1,7 @@
 -- What each mark stands for, in words.
-use Rattle.std.specs.Prelude.{ℕ, List, [], ◌++◌, codes, Option, None, Some}
+use Rattle.std.specs.Prelude.{ℕ, List, ◌++◌, codes, Option, None, Some}
 use Rattle.std.specs.Fmt.{decimal}
-use Rattle.cmh_frames.specs.Texts.{frame_text}
+use Rattle.cmh_frames.specs.Texts.{declared_text, frame_text}
 use Rattle.cmh_show.specs.EntryTexts.{event_text}
 use Rattle.cmh_draw.specs.declared.mark.EntrySpot.{EntrySpot}
 use Rattle.cmh_draw.specs.declared.mark.Arrow as marks
@@ -10,10 +10,6 @@ use Rattle.cmh_draw.specs.declared.mark.Mark.TheVariants.{Site, Process, Wait, E
 
 abbrev pub entry_name : EntrySpot → List ℕ
 entry_name at = codes "site " ++ decimal at.site ++ codes " entry " ++ decimal at.number
-
-abbrev pub declared_name : Option ℕ → List ℕ
-declared_name None = []
-declared_name (Some process) = codes " declared " ++ decimal process
 
 abbrev pub got_name : Option EntrySpot → List ℕ
 got_name None = codes ": lost or waiting"
@@ -28,6 +24,6 @@ abbrev pub name_of : Mark → List ℕ
 name_of (Site of) = codes "site " ++ decimal of.site
 name_of (Process of) = codes "process " ++ decimal of.process ++ codes " at site " ++ decimal of.site
 name_of (Wait wait) = decimal wait.asker ++ codes " waits for " ++ decimal wait.holder
-name_of (Entry entry) = entry_name entry.at ++ codes ": " ++ event_text entry.event ++ declared_name entry.declared
+name_of (Entry entry) = entry_name entry.at ++ codes ": " ++ event_text entry.event ++ declared_text entry.declared
 name_of (Arrow arrow) = arrow_name arrow
 name_of (Stop stop) = codes "site " ++ decimal stop.at.site ++ codes " stops at entry " ++ decimal stop.at.number

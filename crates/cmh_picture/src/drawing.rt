@@ -2,14 +2,14 @@
 
 ghost use Rattle.std.specs.Prelude.{◌≡◌, true, OnOk, IfOk, IfErr, map};
 ghost use Rattle.cmh_files.specs.Audits.{IsAuditFault, IsCause};
-ghost use Rattle.cmh_files.specs.Status.{IsStatus};
+ghost use Rattle.cmh_console.specs.Status.{IsStatus};
 ghost use Rattle.cmh_picture.specs.Draws.{DrawEnds, DrawsFiles, IsPictureOf, WroteDrawing};
 
 use crate::format::Format;
 use crate::picture_text::picture_text;
+use cmh_console::{Fault, Output};
 use cmh_draw::{Kind, Picture, run_picture, waits_picture};
-use cmh_files::{Audited, Fault, audit_files};
-use cmh_script::Output;
+use cmh_files::{Audited, audit_files};
 use cmh_stored::list_journals;
 use std::alloc::{AllocError, Global};
 use std::io::Write;

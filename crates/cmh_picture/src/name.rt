@@ -4,7 +4,7 @@ ghost use Rattle.std.specs.Prelude.{Some};
 ghost use Rattle.cmh_picture.specs.Names as spec;
 
 use cmh_draw::{Arrow, EntrySpot, Mark};
-use cmh_frames::ProcId;
+use cmh_frames::DeclaredText;
 use cmh_show::EventText;
 use std::fmt;
 
@@ -38,7 +38,7 @@ impl<'a> fmt::Display for MarkName<'a> {
                 let event = EventText {
                     event: &entry.event,
                 };
-                let declared = DeclaredName {
+                let declared = DeclaredText {
                     declared: entry.declared,
                 };
                 write!(f, "{at}: {event}{declared}")
@@ -68,22 +68,6 @@ impl fmt::Display for EntryName {
         let site = self.at.site;
         let number = self.at.number;
         write!(f, "site {site} entry {number}")
-    }
-}
-
-#[derive(Clone, Copy)]
-struct DeclaredName {
-    declared: Option<ProcId>,
-}
-
-impl fmt::Display for DeclaredName {
-    ghost output = { λ name. Some (spec.declared_name name.declared) };
-
-    fn fmt<W: fmt::Write>(&self, f: &mut fmt::Formatter<W>) -> fmt::Result {
-        match self.declared {
-            Some(process) => write!(f, " declared {process}"),
-            None => Ok(()),
-        }
     }
 }
 

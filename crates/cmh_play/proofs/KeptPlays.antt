@@ -3,17 +3,17 @@ use Rattle.std.proofs.Common.{◌≡◌, ◌≢◌, ℕ, Bool, Box, List, [], Op
 use Rattle.std.specs.Prelude.{◌⊎◌, IfErr, IfSome, IsErr, IsErrAnd, OnOk, Result, Ok, Err}
 use Rattle.std.specs.Global.{Global}
 use Rattle.std.specs.Io.KnownBytes.{Keeps}
-use Rattle.cmh_files.proofs.TextLemmas.{appends-kept}
-use Rattle.cmh_files.specs.Faults.{IsAnswerFault, IsPlayFault, NamesFault, status_of}
-use Rattle.cmh_files.specs.declared.faults.Fault.{Fault}
-use Rattle.cmh_files.specs.declared.faults.Fault.TheVariants.{Memory}
+use Rattle.std.proofs.KnownBytes.{Appends-kept}
+use Rattle.cmh_console.specs.Faults.{IsAnswerFault, IsPlayFault, NamesFault, status_of}
+use Rattle.cmh_console.specs.declared.faults.Fault.{Fault}
+use Rattle.cmh_console.specs.declared.faults.Fault.TheVariants.{Memory}
 use Rattle.cmh_journal.specs.Journal.{Journal}
-use Rattle.cmh_script.proofs.LinesSeen.{if_some}
-use Rattle.cmh_script.specs.Device.{Writing}
-use Rattle.cmh_script.specs.Lines.{IsNextLine}
-use Rattle.cmh_script.specs.declared.lines.NextLine.{NextLine}
-use Rattle.cmh_script.specs.declared.lines.NextLine.TheVariants.{End}
-use Rattle.cmh_files.proofs.LineLemmas.{at_some}
+use Rattle.cmh_console.proofs.LinesSeen.{if_some}
+use Rattle.cmh_console.specs.Device.{Writing}
+use Rattle.cmh_console.specs.Lines.{IsNextLine}
+use Rattle.cmh_console.specs.declared.lines.NextLine.{NextLine}
+use Rattle.cmh_console.specs.declared.lines.NextLine.TheVariants.{End}
+use Rattle.cmh_console.proofs.LineLemmas.{at_some}
 use Rattle.cmh_play.proofs.Plays.{HasPlayed, answer_fault, answered_fault, answered_some, fault_not_0}
 use Rattle.cmh_play.specs.Keeping.{AnsweredAndKept, IsKeptPlayFault, IsUnanswered, KeepsAt, KeepsWorld, PlayedToEnd}
 use Rattle.cmh_play.specs.Play.{Answered, Plays, status_after}
@@ -118,9 +118,9 @@ kept_at_end Kept (Some bytes) old out new has_failed state before after (Ok x) p
     text = played.text;
     state = state;
     plays = played.plays;
-    wrote = inr (appends-kept old out new played.text played.wrote flushed);
+    wrote = inr (Appends-kept old out new played.text played.wrote flushed);
     all = λ _. refl;
-    all_written = λ _. appends-kept old out new played.text played.wrote flushed;
+    all_written = λ _. Appends-kept old out new played.text played.wrote flushed;
   };
   kept = λ _. (before, kept);
 }
@@ -130,9 +130,9 @@ kept_at_end Kept (Some bytes) old out new has_failed state before after (Err fau
     text = played.text;
     state = state;
     plays = played.plays;
-    wrote = inr (appends-kept old out new played.text played.wrote flushed);
+    wrote = inr (Appends-kept old out new played.text played.wrote flushed);
     all = λ _. refl;
-    all_written = λ _. appends-kept old out new played.text played.wrote flushed;
+    all_written = λ _. Appends-kept old out new played.text played.wrote flushed;
   };
   kept = λ zero. absurd (fault_not_0 fault zero);
 }

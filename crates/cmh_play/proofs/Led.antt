@@ -8,7 +8,7 @@ use Rattle.cmh_frames.specs.Topology.{Topology, IsTopologyOf}
 use Rattle.cmh_playground.specs.Draft.{Draft}
 use Rattle.cmh_playground.specs.Held.{Held, ShowsNew}
 use Rattle.cmh_playground.proofs.PlayedRuns.{nothing_played}
-use Rattle.cmh_script.specs.declared.script.Command.{Command}
+use Rattle.cmh_console.specs.declared.script.Command.{Command}
 use Rattle.cmh_play.proofs.PlayedLines.{commanded}
 use Rattle.cmh_play.specs.PlayStates.{PlayState, Named, Played}
 use Rattle.cmh_play.specs.Play.{AddsSite, CarriesOut, Commands, IsNewWorld, OnlyAnswers, SetsEdition}

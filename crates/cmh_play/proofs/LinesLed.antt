@@ -3,9 +3,9 @@ use Rattle.std.proofs.Common.{◌≡◌, ◌≢◌, ℕ, ◌+◌, Bool, List, Op
 use Rattle.std.specs.Prelude.{IfSome}
 use Rattle.std.specs.Io.BufRead.{drop_through}
 use Rattle.cmh_journal.specs.Journal.{Journal}
-use Rattle.cmh_script.specs.Lines.{IsNextLine}
-use Rattle.cmh_script.specs.declared.lines.NextLine.{NextLine}
-use Rattle.cmh_script.specs.declared.lines.NextLine.TheVariants.{End}
+use Rattle.cmh_console.specs.Lines.{IsNextLine}
+use Rattle.cmh_console.specs.declared.lines.NextLine.{NextLine}
+use Rattle.cmh_console.specs.declared.lines.NextLine.TheVariants.{End}
 use Rattle.cmh_play.proofs.PlayedLines.{replied, said_no_got}
 use Rattle.cmh_play.proofs.Plays.{HasPlayed, begun, played_more}
 use Rattle.cmh_play.specs.PlayStates.{PlayState, Named}

@@ -10,14 +10,14 @@ use Rattle.cmh_playground.specs.World.{World}
 use Rattle.cmh_playground.specs.declared.playground.Delivery.{Delivery}
 use Rattle.cmh_playground.specs.declared.playground.Delivery.TheVariants.{BadLink, Closed, Empty, Refused as DeliveryRefused, Got as Got_frame}
 use Rattle.cmh_playground.proofs.PlayedRuns.{nothing_played, stepped_of, delivered_on, cut_off, refused_for_room, accepted_report}
-use Rattle.cmh_script.proofs.Events.{act_no_got}
-use Rattle.cmh_script.specs.Script.{Says}
-use Rattle.cmh_script.specs.declared.script.Command.{Command}
-use Rattle.cmh_script.specs.declared.script.Command.TheVariants.{Act, Deliver, Cut, Report}
-use Rattle.cmh_script.specs.declared.script.Line.{Line}
-use Rattle.cmh_script.specs.declared.script.Line.TheVariants.{Silent, Bad, Edition as Edition_line, Site, Command as Command_line}
-use Rattle.cmh_script.specs.declared.lines.NextLine.{NextLine}
-use Rattle.cmh_script.specs.declared.lines.NextLine.TheVariants.{Line as Read, TooLong, End}
+use Rattle.cmh_console.proofs.Events.{act_no_got}
+use Rattle.cmh_console.specs.Script.{Says}
+use Rattle.cmh_console.specs.declared.script.Command.{Command}
+use Rattle.cmh_console.specs.declared.script.Command.TheVariants.{Act, Deliver, Cut, Report}
+use Rattle.cmh_console.specs.declared.script.Line.{Line}
+use Rattle.cmh_console.specs.declared.script.Line.TheVariants.{Silent, Bad, Edition as Edition_line, Site, Command as Command_line}
+use Rattle.cmh_console.specs.declared.lines.NextLine.{NextLine}
+use Rattle.cmh_console.specs.declared.lines.NextLine.TheVariants.{Line as Read, TooLong, End}
 use Rattle.cmh_play.specs.PlayStates.{PlayState, Named, Played}
 use Rattle.cmh_play.specs.declared.reply.Reply.{Reply as Reply_text}
 use Rattle.cmh_play.specs.declared.reply.Reply.TheVariants.{Silent as NoReply, Ok, BadLine, Late, Topology, Step as StepReply, Delivery as DeliveryReply, Severance as SeveranceReply, Report as ReportReply}

@@ -5,28 +5,27 @@ use Rattle.std.specs.Io.BufRead.{first_line, drop_through}
 use Rattle.std.specs.Io.KnownBytes.{Appends, Keeps}
 use Rattle.std.proofs.lemmas.Bool.{lt-ltb, le-ltb}
 use Rattle.std.specs.Global.{Global}
-use Rattle.cmh_files.proofs.LineLemmas.{at_some, length-drop_through, long_some}
-use Rattle.cmh_files.proofs.TextLemmas.{appends-kept, appends-more, appends-none}
-use Rattle.cmh_script.proofs.LinesSeen.{if_some}
+use Rattle.cmh_console.proofs.LineLemmas.{HasLeft, at_some, endless_input, length-drop_through, long_some, unread, unread_err}
+use Rattle.std.proofs.KnownBytes.{Appends-kept, Appends-nil, Appends-trans}
+use Rattle.cmh_console.proofs.LinesSeen.{if_some}
 use Rattle.cmh_frames.specs.declared.edition.Edition.TheVariants.{One}
-use Rattle.cmh_script.specs.Device.{Tells}
-use Rattle.cmh_files.specs.Faults.{IsAnswerFault, IsPlayFault, status_of, of_line}
-use Rattle.cmh_script.specs.Lines.{IsNextLine, IsEndless, IsLineFault}
+use Rattle.cmh_console.specs.Device.{Tells}
+use Rattle.cmh_console.specs.Faults.{IsAnswerFault, IsPlayFault, status_of, of_line}
+use Rattle.cmh_console.specs.Lines.{IsNextLine, IsEndless, IsLineFault}
 use Rattle.cmh_play.proofs.PlayedLines.{replied, said_no_got}
 use Rattle.cmh_play.specs.Play.{Plays, begin, answer, IsNewState, FirstSays, IsSaidBy, Replies, Answered, IsOfRun, status_after}
 use Rattle.cmh_play.specs.Replies.{reply_text}
-use Rattle.cmh_script.specs.Script.{Says}
-use Rattle.cmh_script.specs.declared.device.WriteFault.{WriteFault}
-use Rattle.cmh_files.specs.declared.faults.Fault.{Fault}
-use Rattle.cmh_files.specs.declared.faults.Fault.TheVariants.{TopologyFile, ScriptFile, OutFile, JournalFile, Json, Topology, Journal, Set, Site, JournalDisk, Listen, Input, Output, Memory}
-use Rattle.cmh_script.specs.declared.lines.LineFault.{LineFault}
-use Rattle.cmh_script.specs.declared.lines.LineFault.TheVariants.{Input as NoInput, Memory as NoSpace}
-use Rattle.cmh_script.specs.declared.lines.NextLine.{NextLine}
-use Rattle.cmh_script.specs.declared.lines.NextLine.TheVariants.{Line as Read, TooLong, End}
+use Rattle.cmh_console.specs.Script.{Says}
+use Rattle.cmh_console.specs.declared.device.WriteFault.{WriteFault}
+use Rattle.cmh_console.specs.declared.faults.Fault.{Fault}
+use Rattle.cmh_console.specs.declared.faults.Fault.TheVariants.{TopologyFile, ScriptFile, OutFile, JournalFile, Json, Topology, Journal, Set, Site, JournalDisk, Listen, Input, Output, Memory}
+use Rattle.cmh_console.specs.declared.lines.LineFault.{LineFault}
+use Rattle.cmh_console.specs.declared.lines.NextLine.{NextLine}
+use Rattle.cmh_console.specs.declared.lines.NextLine.TheVariants.{Line as Read, TooLong, End}
 use Rattle.cmh_play.specs.PlayStates.{PlayState, Named}
 use Rattle.cmh_play.specs.declared.reply.Reply.{Reply}
-use Rattle.cmh_script.specs.declared.script.Line.{Line}
-use Rattle.cmh_script.specs.declared.script.Line.TheVariants.{Bad}
+use Rattle.cmh_console.specs.declared.script.Line.{Line}
+use Rattle.cmh_console.specs.declared.script.Line.TheVariants.{Bad}
 
 -- ---- the first line of what is left
 
@@ -64,7 +63,7 @@ answered_none (Some bytes) out alloc has_failed fault = record {
   text = [];
   state = Named (record { edition = One; rows = [] });
   plays = begin (Named (record { edition = One; rows = [] })) refl;
-  wrote = inr (appends-none out);
+  wrote = inr (Appends-nil out);
   all = λ zero. absurd (fault_not_0 fault zero);
   all_written = λ zero. absurd (fault_not_0 fault zero);
 }
@@ -95,7 +94,7 @@ begun start out state new = λ bytes e. record {
   text = [];
   now_is = e;
   plays = begin state new;
-  wrote = appends-none out;
+  wrote = Appends-nil out;
   counted = omega arith;
 }
 
@@ -115,7 +114,7 @@ module _ (start now old out : Option (List ℕ)) (state : PlayState) (n : ℕ) (
         text = s.text ++ reply_text reply;
         now_is = at_some now (λ bytes. after ≡ Some (drop_through 10 bytes)) s.rest s.now_is left;
         plays = answer s.rest s.text state later said reply s.plays first.0 first.1 replies follows.0 follows.1;
-        wrote = appends-more old out wrote s.text (reply_text reply) s.wrote tells;
+        wrote = Appends-trans old out wrote s.text (reply_text reply) s.wrote tells;
         counted = omega (arith, shorter, counted);
       }
 
@@ -191,36 +190,19 @@ module _ (start now old out : Option (List ℕ)) (state : PlayState) (n : ℕ) (
   answered_fault_err after has_failed (Ok x) lower is h = absurd is
   answered_fault_err after has_failed (Err fault) lower is h = answered_fault after has_failed fault (subst (IsAnswerFault out after has_failed) (sym is) h)
 
-  endless_before : IsEndless now → IsEndless start
-  endless_before endless = go start (λ bytes e. so_far bytes e)
-    where
-      go : (s : Option (List ℕ)) → ((bytes : List ℕ) → s ≡ Some bytes → PlayedSoFar bytes now old out state n) → IsEndless s
-      go None h = tt
-      go (Some bytes) h =
-          let s = h bytes refl in
-          let many : 2 ^ 64 - 1 ≤ length s.rest = subst IsEndless s.now_is endless in
-          let counted = s.counted in
-          omega (arith, many, counted)
+  has_left : (bytes : List ℕ) → start ≡ Some bytes → HasLeft bytes now n
+  has_left bytes e = let s = so_far bytes e in record { left = s.rest; now_is = s.now_is; counted = s.counted }
 
   pub endless_lines : 2 ^ 64 - 1 ≤ n → IsEndless start
-  endless_lines many = go start (λ bytes e. so_far bytes e)
-    where
-      go : (s : Option (List ℕ)) → ((bytes : List ℕ) → s ≡ Some bytes → PlayedSoFar bytes now old out state n) → IsEndless s
-      go None h = tt
-      go (Some bytes) h =
-          let counted = (h bytes refl).counted in
-          omega (arith, many, counted)
+  endless_lines = endless_input start now n has_left
 
   -- the next line can't be read
   pub read_fault : (read_failed write_failed : Bool) (fault : LineFault) → IsLineFault now read_failed fault → IsPlayFault start read_failed write_failed (of_line fault)
-  read_fault read_failed write_failed NoInput (inl failed) = inl failed
-  read_fault read_failed write_failed NoInput (inr endless) = inr (endless_before endless)
-  read_fault read_failed write_failed NoSpace h = tt
+  read_fault = unread start now n has_left
 
   pub read_err : (read_failed write_failed : Bool) (r : Result (Unit {0}) Fault) (lower : LineFault) → IsErrAnd r (λ fault. fault ≡ of_line lower) → IsLineFault now read_failed lower
       → IfErr r (IsPlayFault start read_failed write_failed)
-  read_err read_failed write_failed (Ok x) lower is h = tt
-  read_err read_failed write_failed (Err fault) lower is h = subst (IsPlayFault start read_failed write_failed) (sym is) (read_fault read_failed write_failed lower h)
+  read_err = unread_err start now n has_left
 
 pub answer_fault : (start out after : Option (List ℕ)) (read_failed has_failed : Bool) (fault : Fault) → IsAnswerFault out after has_failed fault → IsPlayFault start read_failed has_failed fault
 answer_fault start out after read_failed has_failed Output failed = failed
@@ -248,7 +230,7 @@ answer_err start out after read_failed has_failed (Err fault) lower is h =
 
 pub tells_kept : (old out new : Option (List ℕ)) (before after : Bool) (text : List ℕ) → Tells old out before text → Keeps out new → after ≡ before → Tells old new after text
 tells_kept old out new before after text (inl failed) kept same = inl (same ∙ failed)
-tells_kept old out new before after text (inr wrote) kept same = inr (appends-kept old out new text wrote kept)
+tells_kept old out new before after text (inr wrote) kept same = inr (Appends-kept old out new text wrote kept)
 
 -- the answers are flushed, or the writer fails
 pub answered_flushed : (start old out new : Option (List ℕ)) (before after : Bool) (status : ℕ) → IfSome start (λ bytes. Answered bytes old out before status) → Keeps out new → after ≡ before
@@ -261,7 +243,7 @@ answered_flushed (Some bytes) old out new before after status a kept same = reco
   plays = a.plays;
   wrote = tells_kept old out new before after a.text a.wrote kept same;
   all = a.all;
-  all_written = λ zero. appends-kept old out new a.text (a.all_written zero) kept;
+  all_written = λ zero. Appends-kept old out new a.text (a.all_written zero) kept;
 }
 
 pub answered_unflushed : (start old out new : Option (List ℕ)) (before after : Bool) (status : ℕ) (fault : Fault) → IfSome start (λ bytes. Answered bytes old out before status) → after ≡ true

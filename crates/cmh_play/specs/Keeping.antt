@@ -3,11 +3,11 @@ use Rattle.std.specs.Prelude.{◌≡◌, ℕ, Bool, ◌⊎◌, List, [], Option,
 use Rattle.std.specs.Io.KnownBytes.{Appends}
 use Rattle.cmh_journal.specs.Journal.{Journal}
 use Rattle.cmh_playground.specs.World.{World}
-use Rattle.cmh_script.specs.declared.lines.NextLine.{NextLine}
-use Rattle.cmh_files.specs.declared.faults.Fault.{Fault}
-use Rattle.cmh_files.specs.declared.faults.Fault.TheVariants.{OutFile, Memory}
+use Rattle.cmh_console.specs.declared.lines.NextLine.{NextLine}
+use Rattle.cmh_console.specs.declared.faults.Fault.{Fault}
+use Rattle.cmh_console.specs.declared.faults.Fault.TheVariants.{OutFile, Memory}
 use Rattle.cmh_play.specs.Play.{Answered, AnswersLine, IsWorldOf, Plays}
-use Rattle.cmh_files.specs.Faults.{IsAnswerFault, IsPlayFault}
+use Rattle.cmh_console.specs.Faults.{IsAnswerFault, IsPlayFault}
 use Rattle.cmh_play.specs.PlayStates.{PlayState}
 use Rattle.cmh_play.specs.declared.reply.Reply.{Reply}
 use Rattle.cmh_play.specs.declared.reply.Reply.TheVariants.{Report}

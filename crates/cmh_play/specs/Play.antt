@@ -9,23 +9,23 @@ use Rattle.cmh_frames.specs.Rows.{Row, IsFaultOf, fault_of}
 use Rattle.cmh_frames.specs.Topology.{IsTopologyOf}
 use Rattle.cmh_play.specs.Replies.{reply_text}
 use Rattle.cmh_audit.specs.Verdicts.{IsAccepted, IsVerdictOn}
-use Rattle.cmh_script.specs.Device.{Tells}
+use Rattle.cmh_console.specs.Device.{Tells}
 use Rattle.cmh_playground.specs.Draft.{Draft}
 use Rattle.cmh_playground.specs.World.{World, entries_at, link_at, IsStepOf, IsDelivery, IsSeverance}
 use Rattle.cmh_playground.specs.Runs.{IsPlayed, IsWantOfRoom}
 use Rattle.cmh_playground.specs.declared.playground.Delivery.TheVariants.{Refused as DeliveryRefused}
-use Rattle.cmh_script.specs.Script.{Says}
-use Rattle.cmh_files.specs.Faults.{status_of}
-use Rattle.cmh_files.specs.declared.faults.Fault.{Fault}
-use Rattle.cmh_script.specs.declared.lines.NextLine.{NextLine}
-use Rattle.cmh_script.specs.declared.lines.NextLine.TheVariants.{Line as Read, TooLong, End}
+use Rattle.cmh_console.specs.Script.{Says}
+use Rattle.cmh_console.specs.Faults.{status_of}
+use Rattle.cmh_console.specs.declared.faults.Fault.{Fault}
+use Rattle.cmh_console.specs.declared.lines.NextLine.{NextLine}
+use Rattle.cmh_console.specs.declared.lines.NextLine.TheVariants.{Line as Read, TooLong, End}
 use Rattle.cmh_play.specs.PlayStates.{PlayState, Named, Played}
 use Rattle.cmh_play.specs.declared.reply.Reply.{Reply}
 use Rattle.cmh_play.specs.declared.reply.Reply.TheVariants.{Silent as NoReply, Ok, BadLine, Late, Topology, Step as StepReply, Delivery as DeliveryReply, Severance as SeveranceReply, Report as ReportReply}
-use Rattle.cmh_script.specs.declared.script.Command.{Command}
-use Rattle.cmh_script.specs.declared.script.Command.TheVariants.{Act, Deliver, Cut, Report}
-use Rattle.cmh_script.specs.declared.script.Line.{Line}
-use Rattle.cmh_script.specs.declared.script.Line.TheVariants.{Silent, Bad, Edition as Edition_line, Site, Command as Command_line}
+use Rattle.cmh_console.specs.declared.script.Command.{Command}
+use Rattle.cmh_console.specs.declared.script.Command.TheVariants.{Act, Deliver, Cut, Report}
+use Rattle.cmh_console.specs.declared.script.Line.{Line}
+use Rattle.cmh_console.specs.declared.script.Line.TheVariants.{Silent, Bad, Edition as Edition_line, Site, Command as Command_line}
 
 -- ---- what a line does
 

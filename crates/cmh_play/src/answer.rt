@@ -4,15 +4,17 @@ ghost use Rattle.std.specs.Prelude.{◌≡◌, ◌+◌, ◌≤◌, [], ◌++◌,
 ghost use Rattle.std.specs.Fmt.{decimal};
 ghost use Rattle.std.specs.Io.KnownBytes.{Appends};
 ghost use Rattle.cmh_play.specs.Replies.{reply_text};
-ghost use Rattle.cmh_playground.specs.Texts.{declared_text, step_text, delivery_text};
+ghost use Rattle.cmh_frames.specs.Texts.{declared_text};
+ghost use Rattle.cmh_playground.specs.Texts.{step_text, delivery_text};
 ghost use Rattle.cmh_playground.specs.declared.playground.Delivery as deliveries;
 ghost use Rattle.cmh_playground.specs.declared.site.Step as steps;
 
 use crate::reply::Reply;
 use crate::tail::Tail;
+use cmh_console::{Output, WriteFault};
 use cmh_frames::{Frame, Probe, ProcId, Reply as Grant, Request};
-use cmh_playground::{Delivery, Done, Step};
-use cmh_script::{Output, WriteFault};
+use cmh_model::Done;
+use cmh_playground::{Delivery, Step};
 use std::io::Write;
 
 /// Writes a reply. One that is frequent is put together from its end, which takes less time than to format it.

@@ -2,23 +2,22 @@
 
 ghost use Rattle.std.specs.Prelude.{◌≡◌, ◌≢◌, ◌⊎◌, Bool, true, false, IfOk, IfErr, IfSome, OnOk, OnErr, Some};
 ghost use Rattle.std.specs.Io.KnownBytes.{Keeps};
-ghost use Rattle.cmh_files.specs.Faults.{IsPlayFault, NamesFault};
+ghost use Rattle.cmh_console.specs.Faults.{IsPlayFault, NamesFault};
 ghost use Rattle.cmh_play.specs.PlayStates as states;
 ghost use Rattle.cmh_play.specs.Keeping.{AnsweredAndKept, AnswersAndKeeps, IsKeptPlayFault, IsUnanswered, KeepsAt, KeepsWorld, PlayedToEnd};
 ghost use Rattle.cmh_play.specs.Play.{AddsSite, Answered, CarriesOut, Commands, IsSaidBy, Replies, SetsEdition, status_after};
 ghost use Rattle.cmh_play.specs.Showing.{HasWorld, IsNewHeld, IsShown, LeadsOn, LeadsPlayed, ShowsSome};
-ghost use Rattle.cmh_files.specs.Status.{IsStatus};
+ghost use Rattle.cmh_console.specs.Status.{IsStatus};
 
 use crate::answer::write_reply;
 use crate::keeper::{Keeper, NoKeeper};
 use crate::reply::Reply;
-use cmh_files::Fault;
+use cmh_console::{
+    Ahead, Command, Fault, Input, Line, NextLine, Output, WriteFault, parse_into, read_line,
+};
 use cmh_frames::{Edition, ProcId, SiteId, SiteRow};
 use cmh_model::Event;
 use cmh_playground::{Draft, Playground};
-use cmh_script::{
-    Ahead, Command, Input, Line, NextLine, Output, WriteFault, parse_into, read_line,
-};
 use std::alloc::{AllocError, Global};
 use std::io::{BufRead, Write};
 

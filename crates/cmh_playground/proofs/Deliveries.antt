@@ -7,7 +7,7 @@ use Rattle.cmh_frames.specs.Topology.{is_site}
 use Rattle.cmh_model.specs.declared.event.Event.TheVariants.{Got}
 use Rattle.cmh_model.specs.Journals.{frames_to}
 use Rattle.cmh_audit.specs.Journals.{journal_of}
-use Rattle.cmh_playground.specs.declared.site.Done.{Done}
+use Rattle.cmh_model.specs.declared.done.Done.{Done}
 use Rattle.cmh_playground.specs.Links.{link_of, with_all, goes, without_first, ChangesLink}
 use Rattle.cmh_playground.specs.World.{World, is_link, WorldSteps, Delivers}
 

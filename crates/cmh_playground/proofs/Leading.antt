@@ -6,7 +6,7 @@ use Rattle.cmh_frames.specs.Topology.{Topology}
 use Rattle.cmh_model.specs.declared.event.Event.TheVariants.{Got}
 use Rattle.cmh_playground.specs.declared.playground.Delivery.TheVariants.{Got as Got_frame}
 use Rattle.cmh_playground.specs.declared.playground.Severance.TheVariants.{Lost}
-use Rattle.cmh_playground.specs.declared.site.Done.{Done}
+use Rattle.cmh_model.specs.declared.done.Done.{Done}
 use Rattle.cmh_playground.specs.declared.site.Step.TheVariants.{Taken}
 use Rattle.cmh_playground.specs.Held.{Held, Leads, Shows}
 use Rattle.cmh_playground.specs.Links.{Links, is_cut, link_of, next_of, without_first, ChangesLink}

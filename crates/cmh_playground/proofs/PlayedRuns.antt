@@ -26,7 +26,7 @@ use Rattle.cmh_playground.specs.declared.playground.Delivery.{Delivery}
 use Rattle.cmh_playground.specs.declared.playground.Delivery.TheVariants.{BadLink, Closed, Empty, Refused as DeliveryRefused, Got as Got_frame}
 use Rattle.cmh_playground.specs.declared.playground.Severance.{Severance}
 use Rattle.cmh_playground.specs.declared.playground.Severance.TheVariants.{BadLink as NoLink, Closed as CutBefore, Lost}
-use Rattle.cmh_playground.specs.declared.site.Done.{Done}
+use Rattle.cmh_model.specs.declared.done.Done.{Done}
 use Rattle.cmh_playground.specs.declared.site.Refused.{Refused}
 use Rattle.cmh_playground.specs.declared.site.Refused.TheVariants.{Full, Rule}
 use Rattle.cmh_playground.specs.declared.site.Step.{Step}

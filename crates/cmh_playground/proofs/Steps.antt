@@ -21,7 +21,7 @@ use Rattle.cmh_playground.specs.Held.{Held, Shows, ShowsLater, Takes, IsReasonAt
 use Rattle.cmh_playground.specs.Links.{Links, link_after}
 use Rattle.cmh_playground.specs.Sites.{IsStanding, IsReasonOf}
 use Rattle.cmh_playground.specs.World.{World, IsWorldStep}
-use Rattle.cmh_playground.specs.declared.site.Done.{Done}
+use Rattle.cmh_model.specs.declared.done.Done.{Done}
 use Rattle.cmh_playground.specs.declared.site.Refused.{Refused}
 use Rattle.cmh_playground.specs.declared.site.Refused.TheVariants.{Full, Rule}
 use Rattle.cmh_playground.specs.declared.site.Step.{Step}

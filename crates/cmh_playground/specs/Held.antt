@@ -14,7 +14,7 @@ use Rattle.cmh_playground.specs.History.{History, Adds, kept_of}
 use Rattle.cmh_playground.specs.Links.{Links, link_of, link_after}
 use Rattle.cmh_playground.specs.Sites.{AreOfEdition, AreStanding}
 use Rattle.cmh_playground.specs.World.{World, entries_at, link_at}
-use Rattle.cmh_playground.specs.declared.site.Done.{Done}
+use Rattle.cmh_model.specs.declared.done.Done.{Done}
 use Rattle.cmh_playground.specs.declared.site.Refused.{Refused}
 use Rattle.cmh_playground.specs.declared.site.Refused.TheVariants.{Full, Rule}
 use Rattle.cmh_playground.specs.declared.site.Step.{Step}

@@ -1,24 +1,16 @@
 -- What came of a command, as it is printed.
-use Rattle.std.specs.Prelude.{ℕ, List, [], ◌++◌, codes, Option, None, Some}
+use Rattle.std.specs.Prelude.{ℕ, List, ◌++◌, codes}
 use Rattle.std.specs.Fmt.{decimal}
 use Rattle.cmh_frames.specs.Texts.{frame_text}
+use Rattle.cmh_model.specs.Texts.{done_text}
 use Rattle.cmh_playground.specs.Sites.{number_of}
 use Rattle.cmh_playground.specs.declared.playground.Delivery.{Delivery}
 use Rattle.cmh_playground.specs.declared.playground.Delivery.TheVariants.{BadLink, Closed, Empty, Refused as DeliveryRefused, Got}
 use Rattle.cmh_playground.specs.declared.playground.Severance.{Severance}
 use Rattle.cmh_playground.specs.declared.playground.Severance.TheVariants.{BadLink as NoLink, Closed as CutBefore, Lost}
-use Rattle.cmh_playground.specs.declared.site.Done.{Done}
 use Rattle.cmh_playground.specs.declared.site.Refused.{Refused}
 use Rattle.cmh_playground.specs.declared.site.Step.{Step}
 use Rattle.cmh_playground.specs.declared.site.Step.TheVariants.{Taken, Refused as StepRefused}
-
-abbrev pub declared_text : Option ℕ → List ℕ
-declared_text None = []
-declared_text (Some process) = codes " declared " ++ decimal process
-
--- how many frames a step sent, and whom it declared
-abbrev pub done_text : Done → List ℕ
-done_text done = codes "sent " ++ decimal done.sent ++ declared_text done.declared
 
 abbrev pub refused_text : Refused → List ℕ
 refused_text refused = codes "refused " ++ decimal (number_of refused)

@@ -13,7 +13,7 @@ use Rattle.cmh_journal.specs.Journal.{Journal}
 use Rattle.cmh_audit.specs.Journals.{journal_of}
 use Rattle.cmh_playground.specs.Links.{Links, link_of, link_after, goes, next_of, without_first}
 use Rattle.cmh_playground.specs.Sites.{IsReasonOf}
-use Rattle.cmh_playground.specs.declared.site.Done.{Done}
+use Rattle.cmh_model.specs.declared.done.Done.{Done}
 use Rattle.cmh_playground.specs.declared.site.Refused.{Refused}
 use Rattle.cmh_playground.specs.declared.site.Refused.TheVariants.{Rule}
 use Rattle.cmh_playground.specs.declared.site.Step.{Step}

@@ -10,4 +10,4 @@ mod site;
 pub use crate::draft::Draft;
 pub use crate::links::Links;
 pub use crate::playground::{Delivery, Playground, Severance};
-pub use crate::site::{Done, Refused, Step};
+pub use crate::site::{Refused, Step};

@@ -8,12 +8,12 @@ ghost use Rattle.cmh_playground.specs.Texts as texts;
 
 use crate::history::History;
 use crate::links::Links;
-use crate::site::{Done, Refused, Step, take};
+use crate::site::{Refused, Step, take};
 use cmh_audit::{AuditMemory, Verdict};
 use cmh_controller::{Controller, Refusal};
 use cmh_frames::{Edition, Frame, ProcId, SiteId, Topology};
 use cmh_journal::{Journal, whole_law};
-use cmh_model::Event;
+use cmh_model::{Done, Event};
 use std::alloc::{AllocError, Global};
 use std::fmt;
 use std::marker::Model;

@@ -11,29 +11,9 @@ use crate::links::Links;
 use cmh_controller::{Controller, Refusal};
 use cmh_frames::{Frame, ProcId, SiteId, Topology};
 use cmh_journal::whole_law;
-use cmh_model::Event;
+use cmh_model::{Done, Event};
 use std::alloc::AllocError;
 use std::fmt;
-
-/// What a step sent, in frames, and declared.
-#[derive(Clone, Copy, Debug, PartialEq, Eq)]
-pub struct Done {
-    pub sent: usize,
-    pub declared: Option<ProcId>,
-}
-
-impl fmt::Display for Done {
-    ghost output = { λ done. Some (texts.done_text done) };
-
-    fn fmt<W: fmt::Write>(&self, f: &mut fmt::Formatter<W>) -> fmt::Result {
-        let sent = self.sent;
-        write!(f, "sent {sent}")?;
-        if let Some(process) = self.declared {
-            write!(f, " declared {process}")?;
-        }
-        Ok(())
-    }
-}
 
 /// Why a site took no step.
 #[derive(Clone, Copy, Debug, PartialEq, Eq)]

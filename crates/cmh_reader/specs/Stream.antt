@@ -58,19 +58,16 @@ Reads edition senders stream frames (Broken sender offset) =
 
 -- the fault of a stream that has come to this
 abbrev pub fault_of : Standing → Option ReadFault
-fault_of (Greeting rest) = None
 fault_of NoHello = Some BadHello
 fault_of Stranger = Some WrongSite
-fault_of (Open sender rest offset) = None
 fault_of (Broken sender offset) = Some (BadFrame offset)
+fault_of standing = None
 
 -- the site of its hello, once that was good
 abbrev pub sender_of : Standing → Option ℕ
-sender_of (Greeting rest) = None
-sender_of NoHello = None
-sender_of Stranger = None
 sender_of (Open sender rest offset) = Some sender
 sender_of (Broken sender offset) = Some sender
+sender_of standing = None
 
 -- its bytes past the last whole frame, or of a hello that isn't whole; none after a fault
 abbrev pub rest_of : Standing → List ℕ

@@ -2,16 +2,17 @@
 use Rattle.std.proofs.Common.{◌≡◌, ℕ, zero, suc, ◌+◌, ◌<◌, ◌≤◌, List, [], ◌∷◌, ◌++◌, length, get_or, map, refl, ap, sym, ◌∙◌, subst, arith}
 use Rattle.cmh_ring.specs.Backlogs.{AtEach, seen}
 use Rattle.cmh_ring.specs.declared.link.Link.{Link as LinkFields}
-use Rattle.cmh_ring.specs.Links.{AreFresh, ArePaired, IsTapOf, Link, Tap, ends_of}
+use Rattle.std.specs.List.{AllZip}
+use Rattle.cmh_ring.specs.Links.{AreFresh, IsTapOf, Link, Tap, ends_of}
 
-pub at_each_paired : {X Y : Type 0} (R : X → Y → Type 0) (xs : List X) (ys : List Y) → AtEach R xs ys → ArePaired R xs ys
+pub at_each_paired : {X Y : Type 0} (R : X → Y → Type 0) (xs : List X) (ys : List Y) → AtEach R xs ys → AllZip R xs ys
 at_each_paired R [] [] h = tt
 at_each_paired R [] (y ∷ ys) h = absurd (omega (arith, h.0))
 at_each_paired R (x ∷ xs) [] h = absurd (omega (arith, h.0))
 at_each_paired R (x ∷ xs) (y ∷ ys) h =
     (h.1 0 x y (omega arith), at_each_paired R xs ys (omega (arith, h.0), λ k d e lt. h.1 (suc k) d e (omega arith)))
 
-pub paired_at_each : {X Y : Type 0} (R : X → Y → Type 0) (xs : List X) (ys : List Y) → ArePaired R xs ys → AtEach R xs ys
+pub paired_at_each : {X Y : Type 0} (R : X → Y → Type 0) (xs : List X) (ys : List Y) → AllZip R xs ys → AtEach R xs ys
 paired_at_each R [] [] h = (refl, λ k d e lt. absurd (omega arith))
 paired_at_each R [] (y ∷ ys) h = absurd h
 paired_at_each R (x ∷ xs) [] h = absurd h
@@ -24,23 +25,23 @@ paired_at_each {X} {Y} R (x ∷ xs) (y ∷ ys) h =
     each below (suc k) d e lt = below k d e (omega arith)
 
 -- what is seen of the first of each pair
-pub firsts_seen : {Y : Type 0} (R : Link → Y → Type 0) (xs : List LinkFields) (ys : List Y) → ArePaired (λ a b. R (seen a) b) xs ys → ArePaired R (map seen xs) ys
+pub firsts_seen : {Y : Type 0} (R : Link → Y → Type 0) (xs : List LinkFields) (ys : List Y) → AllZip (λ a b. R (seen a) b) xs ys → AllZip R (map seen xs) ys
 firsts_seen R [] [] h = tt
 firsts_seen R [] (y ∷ ys) h = absurd h
 firsts_seen R (x ∷ xs) [] h = absurd h
 firsts_seen R (x ∷ xs) (y ∷ ys) h = (h.0, firsts_seen R xs ys h.1)
 
-pub firsts_fields : {Y : Type 0} (R : Link → Y → Type 0) (xs : List LinkFields) (ys : List Y) → ArePaired R (map seen xs) ys → ArePaired (λ a b. R (seen a) b) xs ys
+pub firsts_fields : {Y : Type 0} (R : Link → Y → Type 0) (xs : List LinkFields) (ys : List Y) → AllZip R (map seen xs) ys → AllZip (λ a b. R (seen a) b) xs ys
 firsts_fields R [] [] h = tt
 firsts_fields R [] (y ∷ ys) h = absurd h
 firsts_fields R (x ∷ xs) [] h = absurd h
 firsts_fields R (x ∷ xs) (y ∷ ys) h = (h.0, firsts_fields R xs ys h.1)
 
 -- what is seen of both
-pub both_seen : (R : Link → Link → Type 0) (xs ys : List LinkFields) → AtEach (λ a b. R (seen a) (seen b)) xs ys → ArePaired R (map seen xs) (map seen ys)
+pub both_seen : (R : Link → Link → Type 0) (xs ys : List LinkFields) → AtEach (λ a b. R (seen a) (seen b)) xs ys → AllZip R (map seen xs) (map seen ys)
 both_seen R xs ys h = of xs ys (at_each_paired (λ a b. R (seen a) (seen b)) xs ys h)
   where
-    of : (xs ys : List LinkFields) → ArePaired (λ a b. R (seen a) (seen b)) xs ys → ArePaired R (map seen xs) (map seen ys)
+    of : (xs ys : List LinkFields) → AllZip (λ a b. R (seen a) (seen b)) xs ys → AllZip R (map seen xs) (map seen ys)
     of [] [] h = tt
     of [] (y ∷ ys) h = absurd h
     of (x ∷ xs) [] h = absurd h
@@ -50,7 +51,7 @@ both_seen R xs ys h = of xs ys (at_each_paired (λ a b. R (seen a) (seen b)) xs 
 pub all_changed : (f : Link → Link) (xs ys : List LinkFields) → AtEach (λ a b. seen b ≡ f (seen a)) xs ys → map seen ys ≡ map f (map seen xs)
 all_changed f xs ys h = of xs ys (at_each_paired (λ a b. seen b ≡ f (seen a)) xs ys h)
   where
-    of : (xs ys : List LinkFields) → ArePaired (λ a b. seen b ≡ f (seen a)) xs ys → map seen ys ≡ map f (map seen xs)
+    of : (xs ys : List LinkFields) → AllZip (λ a b. seen b ≡ f (seen a)) xs ys → map seen ys ≡ map f (map seen xs)
     of [] [] h = refl
     of [] (y ∷ ys) h = absurd h
     of (x ∷ xs) [] h = absurd h
@@ -62,7 +63,7 @@ all_changed f xs ys h = of xs ys (at_each_paired (λ a b. seen b ≡ f (seen a))
 pub all_same : (xs ys : List LinkFields) → AtEach (λ a b. seen b ≡ seen a) xs ys → map seen ys ≡ map seen xs
 all_same xs ys h = of xs ys (at_each_paired (λ a b. seen b ≡ seen a) xs ys h)
   where
-    of : (xs ys : List LinkFields) → ArePaired (λ a b. seen b ≡ seen a) xs ys → map seen ys ≡ map seen xs
+    of : (xs ys : List LinkFields) → AllZip (λ a b. seen b ≡ seen a) xs ys → map seen ys ≡ map seen xs
     of [] [] h = refl
     of [] (y ∷ ys) h = absurd h
     of (x ∷ xs) [] h = absurd h
@@ -72,7 +73,7 @@ all_same xs ys h = of xs ys (at_each_paired (λ a b. seen b ≡ seen a) xs ys h)
         cc
 
 -- one pair more at the end
-pub paired_behind : {X Y : Type 0} (R : X → Y → Type 0) (xs : List X) (ys : List Y) (x : X) (y : Y) → ArePaired R xs ys → R x y → ArePaired R (xs ++ x ∷ []) (ys ++ y ∷ [])
+pub paired_behind : {X Y : Type 0} (R : X → Y → Type 0) (xs : List X) (ys : List Y) (x : X) (y : Y) → AllZip R xs ys → R x y → AllZip R (xs ++ x ∷ []) (ys ++ y ∷ [])
 paired_behind R [] [] x y h r = (r, tt)
 paired_behind R [] (b ∷ ys) x y h r = absurd h
 paired_behind R (a ∷ xs) [] x y h r = absurd h
@@ -93,7 +94,7 @@ pub at_each_alike : {X : Type 0} (R : X → X → Type 0) (xs ys : List X) → l
 at_each_alike {X} R xs ys count h = (count, λ k d e lt. subst (λ (y : X). R (get_or xs k d) y) (any_default ys k d e (omega (arith, count))) (h k d lt))
 
 -- fresh taps are taps
-pub fresh_taps : (links : List Link) (taps : List Tap) → ArePaired AreFresh links taps → ArePaired IsTapOf links taps
+pub fresh_taps : (links : List Link) (taps : List Tap) → AllZip AreFresh links taps → AllZip IsTapOf links taps
 fresh_taps [] [] h = tt
 fresh_taps [] (tap ∷ taps) h = absurd h
 fresh_taps (link ∷ links) [] h = absurd h

@@ -1,5 +1,5 @@
 -- What a contract sees of links and of their taps.
-use Rattle.std.specs.Prelude.{ℕ, ◌≡◌, ◌⊎◌, List, [], ◌∷◌, ◌++◌, map}
+use Rattle.std.specs.Prelude.{ℕ, ◌≡◌, ◌⊎◌, List, [], ◌++◌, map}
 use mathlib.Core.List.{IsPrefix}
 use denote.RawPtr.{Ptr}
 use Rattle.rtrb.specs.Shared.{Names}
@@ -32,13 +32,6 @@ pub record Tap : Type 0 where
 pub record Links : Type 0 where
   pub each : List Link
   pub reserved : ℕ
-
--- two lists of one length, and R of the two at each place
-abbrev pub ArePaired : {X Y : Type 0} → (X → Y → Type 0) → List X → List Y → Type 0
-ArePaired R [] [] = Unit {0}
-ArePaired R [] (y ∷ ys) = ⊥
-ArePaired R (x ∷ xs) [] = ⊥
-ArePaired R (x ∷ xs) (y ∷ ys) = R x y × ArePaired R xs ys
 
 -- the two ends of one ring
 pub record IsTapOf (link : Link) (tap : Tap) : Type 0 where

@@ -2,7 +2,8 @@
 
 ghost use Rattle.std.specs.Prelude.{◌≡◌, ◌≤◌, length, map, All, IfOk, OnOk};
 ghost use Rattle.cmh_ring.specs.Backlogs.{AtEach, HasRoom, seen};
-ghost use Rattle.cmh_ring.specs.Links.{AreFresh, ArePaired, IsTapOf, Released, Through, ends_of, queued};
+ghost use Rattle.std.specs.List.{AllZip};
+ghost use Rattle.cmh_ring.specs.Links.{AreFresh, IsTapOf, Released, Through, ends_of, queued};
 
 use crate::link::Link;
 use crate::tap::LinkTap;
@@ -35,8 +36,8 @@ impl Links {
     /// A link to each of these sites, and its tap, in their order.
     pub fn open(alloc: Global, sites: &[SiteId]) -> Result<(Links, Vec<LinkTap>), AllocError>
         ensures to { IfOk result (λ opened. ends_of opened.0.each ≡ sites.now) }
-        ensures fresh { IfOk result (λ opened. ArePaired AreFresh opened.0.each opened.1.items) }
-        ensures taps { IfOk result (λ opened. ArePaired IsTapOf opened.0.each opened.1.items) }
+        ensures fresh { IfOk result (λ opened. AllZip AreFresh opened.0.each opened.1.items) }
+        ensures taps { IfOk result (λ opened. AllZip IsTapOf opened.0.each opened.1.items) }
     {
         let mut links = Vec::with_capacity(alloc, sites.len())?;
         let mut taps = Vec::with_capacity(alloc, sites.len())?;
@@ -70,7 +71,7 @@ impl Links {
 
     /// Moves frames from the backlogs into the rings while they fit. It takes no memory.
     pub fn release(&mut self)
-        ensures { ArePaired Released self.old.each self.new.each }
+        ensures { AllZip Released self.old.each self.new.each }
     {
         release_each(self.links.as_mut_slice());
         self.reserved = 0;
@@ -78,8 +79,8 @@ impl Links {
 
     /// With both ends of each ring in one thread: what was taken and what is left in the rings is what was released.
     pub fn look_through(&mut self, taps: &mut Vec<LinkTap>)
-        requires { ArePaired IsTapOf self.old.each taps.old.items }
-        ensures { ArePaired Through self.old.each taps.old.items }
+        requires { AllZip IsTapOf self.old.each taps.old.items }
+        ensures { AllZip Through self.old.each taps.old.items }
     {
         look_through_each(&mut self.links, taps);
         self.reserved = 0;

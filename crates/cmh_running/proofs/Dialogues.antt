@@ -4,17 +4,16 @@ use Rattle.std.specs.Prelude.{if◌then◌else◌, IfErr, IfSome, IsErr, IsErrAn
 use Rattle.std.specs.Io.BufRead.{first_line, drop_through}
 use Rattle.std.specs.Io.KnownBytes.{Appends}
 use Rattle.std.proofs.lemmas.Bool.{lt-ltb, le-ltb}
-use Rattle.cmh_script.proofs.LinesSeen.{if_some}
-use Rattle.cmh_script.specs.Lines.{IsNextLine, IsEndless, IsLineFault}
-use Rattle.cmh_script.specs.declared.lines.LineFault.{LineFault}
-use Rattle.cmh_script.specs.declared.lines.LineFault.TheVariants.{Input as NoInput, Memory as NoSpace}
-use Rattle.cmh_script.specs.declared.lines.NextLine.{NextLine}
-use Rattle.cmh_script.specs.declared.lines.NextLine.TheVariants.{Line as Read, TooLong, End}
-use Rattle.cmh_files.specs.Faults.{IsAnswerFault, IsPlayFault, of_line}
-use Rattle.cmh_files.specs.declared.faults.Fault.{Fault}
-use Rattle.cmh_files.specs.declared.faults.Fault.TheVariants.{TopologyFile, ScriptFile, OutFile, JournalFile, Json, Topology, Journal, Set, Site, JournalDisk, Listen, Input, Output, Memory}
-use Rattle.cmh_files.proofs.LineLemmas.{at_some, length-drop_through, long_some}
-use Rattle.cmh_files.proofs.TextLemmas.{appends-more, appends-none}
+use Rattle.cmh_console.proofs.LinesSeen.{if_some}
+use Rattle.cmh_console.specs.Lines.{IsNextLine, IsEndless, IsLineFault}
+use Rattle.cmh_console.specs.declared.lines.LineFault.{LineFault}
+use Rattle.cmh_console.specs.declared.lines.NextLine.{NextLine}
+use Rattle.cmh_console.specs.declared.lines.NextLine.TheVariants.{Line as Read, TooLong, End}
+use Rattle.cmh_console.specs.Faults.{IsAnswerFault, IsPlayFault, of_line}
+use Rattle.cmh_console.specs.declared.faults.Fault.{Fault}
+use Rattle.cmh_console.specs.declared.faults.Fault.TheVariants.{TopologyFile, ScriptFile, OutFile, JournalFile, Json, Topology, Journal, Set, Site, JournalDisk, Listen, Input, Output, Memory}
+use Rattle.cmh_console.proofs.LineLemmas.{HasLeft, at_some, endless_input, length-drop_through, long_some, unread_err}
+use Rattle.std.proofs.KnownBytes.{Appends-nil, Appends-trans}
 use Rattle.cmh_running.specs.Dialogue.{line_of, line_in, HasAnswered, Dialogue, begin, turn, Conversed}
 use Rattle.cmh_running.specs.declared.dialogue.Flow.{Flow}
 use Rattle.cmh_running.specs.declared.dialogue.Flow.TheVariants.{Awaits, Ends}
@@ -49,7 +48,7 @@ module _ (S : Type 0) (answers : S → S → Option (List ℕ) → List ℕ → 
     text = [];
     now_is = e;
     dialogue = begin;
-    wrote = appends-none old;
+    wrote = Appends-nil old;
     counted = omega arith;
   }
 
@@ -69,7 +68,7 @@ module _ (S : Type 0) (answers : S → S → Option (List ℕ) → List ℕ → 
           text = s.text ++ said.text;
           now_is = at_some now (λ bytes. after ≡ Some (drop_through 10 bytes)) s.rest s.now_is left;
           dialogue = turn s.rest s.text said.text last later s.dialogue one.0 (subst (λ (l : Option (List ℕ)). answers last later l said.text Awaits) one.1 answered);
-          wrote = appends-more old out wrote s.text said.text s.wrote said.wrote;
+          wrote = Appends-trans old out wrote s.text said.text s.wrote said.wrote;
           counted = omega (arith, shorter, counted);
         }
 
@@ -107,7 +106,7 @@ module _ (S : Type 0) (answers : S → S → Option (List ℕ) → List ℕ → 
             ends = subst (λ (l : Option (List ℕ)). answers last later l said.text Ends) one.1 answered;
             text_is = refl;
           });
-          wrote = appends-more old out wrote s.text said.text s.wrote said.wrote;
+          wrote = Appends-trans old out wrote s.text said.text s.wrote said.wrote;
         })
 
     -- a fault comes after these lines
@@ -150,32 +149,12 @@ module _ (S : Type 0) (answers : S → S → Option (List ℕ) → List ℕ → 
     talked_fault_err after has_failed (Ok x) lower is h = absurd is
     talked_fault_err after has_failed (Err fault) lower is h = talked_fault after has_failed fault (subst (IsAnswerFault out after has_failed) (sym is) h)
 
-    endless_before : IsEndless now → IsEndless start
-    endless_before endless = go start (λ bytes e. so_far bytes e)
-      where
-        go : (s : Option (List ℕ)) → ((bytes : List ℕ) → s ≡ Some bytes → TalkedSoFar S answers first bytes now old out last n) → IsEndless s
-        go None h = tt
-        go (Some bytes) h =
-            let s = h bytes refl in
-            let many : 2 ^ 64 - 1 ≤ length s.rest = subst IsEndless s.now_is endless in
-            let counted = s.counted in
-            omega (arith, many, counted)
+    has_left : (bytes : List ℕ) → start ≡ Some bytes → HasLeft bytes now n
+    has_left bytes e = let s = so_far bytes e in record { left = s.rest; now_is = s.now_is; counted = s.counted }
 
     pub endless_talk : 2 ^ 64 - 1 ≤ n → IsEndless start
-    endless_talk many = go start (λ bytes e. so_far bytes e)
-      where
-        go : (s : Option (List ℕ)) → ((bytes : List ℕ) → s ≡ Some bytes → TalkedSoFar S answers first bytes now old out last n) → IsEndless s
-        go None h = tt
-        go (Some bytes) h =
-            let counted = (h bytes refl).counted in
-            omega (arith, many, counted)
-
-    read_fault : (read_failed write_failed : Bool) (fault : LineFault) → IsLineFault now read_failed fault → IsPlayFault start read_failed write_failed (of_line fault)
-    read_fault read_failed write_failed NoInput (inl failed) = inl failed
-    read_fault read_failed write_failed NoInput (inr endless) = inr (endless_before endless)
-    read_fault read_failed write_failed NoSpace h = tt
+    endless_talk = endless_input start now n has_left
 
     pub read_err : (read_failed write_failed : Bool) (r : Result (Unit {0}) Fault) (lower : LineFault) → IsErrAnd r (λ fault. fault ≡ of_line lower) → IsLineFault now read_failed lower
         → IfErr r (IsPlayFault start read_failed write_failed)
-    read_err read_failed write_failed (Ok x) lower is h = tt
-    read_err read_failed write_failed (Err fault) lower is h = subst (IsPlayFault start read_failed write_failed) (sym is) (read_fault read_failed write_failed lower h)
+    read_err = unread_err start now n has_left

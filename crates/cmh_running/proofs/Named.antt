@@ -1,7 +1,7 @@
 -- The site whose declarations a line asks for.
 use Rattle.std.proofs.Common.{◌≡◌, ℕ, List, [], ◌∷◌, Option, None, Some, sym, ap, subst, ◌∙◌}
 use Rattle.std.specs.Prelude.{codes, MatchOption, SomeIff}
-use Rattle.cmh_script.specs.Words.{IsNumeral, decimal}
+use Rattle.cmh_console.specs.Words.{IsNumeral, decimal}
 use Rattle.cmh_running.specs.SiteScript.{NamesNoSite, NamesSite}
 
 abbrev second : List (List ℕ) → List ℕ

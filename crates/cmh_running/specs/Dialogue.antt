@@ -2,10 +2,10 @@
 use Rattle.std.specs.Prelude.{◌≡◌, ℕ, ◌<◌, nat_lt, Bool, ◌⊎◌, List, [], ◌++◌, length, Option, None, Some, Result, Ok, Err, if◌then◌else◌}
 use Rattle.std.specs.Io.BufRead.{first_line, drop_through}
 use Rattle.std.specs.Io.KnownBytes.{Appends}
-use Rattle.cmh_script.specs.Device.{Tells}
-use Rattle.cmh_script.specs.declared.lines.NextLine.{NextLine}
-use Rattle.cmh_script.specs.declared.lines.NextLine.TheVariants.{Line as Read, TooLong, End}
-use Rattle.cmh_files.specs.declared.faults.Fault.{Fault}
+use Rattle.cmh_console.specs.Device.{Tells}
+use Rattle.cmh_console.specs.declared.lines.NextLine.{NextLine}
+use Rattle.cmh_console.specs.declared.lines.NextLine.TheVariants.{Line as Read, TooLong, End}
+use Rattle.cmh_console.specs.declared.faults.Fault.{Fault}
 use Rattle.cmh_running.specs.declared.dialogue.Flow.{Flow}
 use Rattle.cmh_running.specs.declared.dialogue.Flow.TheVariants.{Awaits, Ends}
 
@@ -57,7 +57,7 @@ IsTextOf S answers first bytes text (Ok done) = IsAll S answers first bytes text
 IsTextOf S answers first bytes text (Err fault) = IsPart S answers first bytes text
 
 -- the text was written; at a fault, unless the writer failed
-abbrev pub WroteBefore : Result (Unit {0}) Fault → Option (List ℕ) → Option (List ℕ) → Bool → List ℕ → Type 0
+abbrev pub WroteBefore : {A : Type 0} → Result A Fault → Option (List ℕ) → Option (List ℕ) → Bool → List ℕ → Type 0
 WroteBefore (Ok done) old new has_failed text = Appends old new text
 WroteBefore (Err fault) old new has_failed text = Tells old new has_failed text
 

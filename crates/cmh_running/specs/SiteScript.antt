@@ -1,10 +1,10 @@
 -- What a line says to running sites: `ask`, `reply` and `start` as in every script, and what else they are asked.
 use Rattle.std.specs.Prelude.{◌≡◌, ◌≢◌, ℕ, List, [], ◌∷◌, codes}
-use Rattle.cmh_script.specs.Script.{Says}
-use Rattle.cmh_script.specs.Words.{IsNumeral, decimal, words_of}
-use Rattle.cmh_script.specs.declared.script.Command.TheVariants.{Act, Deliver, Cut, Report}
-use Rattle.cmh_script.specs.declared.script.Line.{Line}
-use Rattle.cmh_script.specs.declared.script.Line.TheVariants.{Silent, Bad, Edition, Site, Command}
+use Rattle.cmh_console.specs.Script.{Says}
+use Rattle.cmh_console.specs.Words.{IsNumeral, decimal, words_of}
+use Rattle.cmh_console.specs.declared.script.Command.TheVariants.{Act}
+use Rattle.cmh_console.specs.declared.script.Line.{Line}
+use Rattle.cmh_console.specs.declared.script.Line.TheVariants.{Silent, Command}
 use Rattle.cmh_running.specs.declared.site_script.ClusterLine.{ClusterLine}
 use Rattle.cmh_running.specs.declared.site_script.ClusterLine.TheVariants.{Declared as DeclaredOf, Event as ClusterEvent}
 use Rattle.cmh_running.specs.declared.site_script.EventLine.{EventLine}
@@ -17,13 +17,8 @@ use Rattle.cmh_running.specs.declared.site_script.SiteLine.TheVariants.{Order as
 -- an event is what it is in every script; all else but silence is no event
 abbrev pub IsEventOf : Line → EventLine → Type 0
 IsEventOf Silent said = said ≡ SilentEvent
-IsEventOf Bad said = said ≡ BadEvent
-IsEventOf (Edition edition) said = said ≡ BadEvent
-IsEventOf (Site row) said = said ≡ BadEvent
 IsEventOf (Command (Act process event)) said = said ≡ ActEvent process event
-IsEventOf (Command (Deliver from to)) said = said ≡ BadEvent
-IsEventOf (Command (Cut from to)) said = said ≡ BadEvent
-IsEventOf (Command Report) said = said ≡ BadEvent
+IsEventOf line said = said ≡ BadEvent
 
 pub record SaysEvent (bytes : List ℕ) (said : EventLine) : Type 0 where
   pub line : Line

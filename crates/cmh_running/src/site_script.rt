@@ -1,14 +1,14 @@
 //! What the lines say that running sites are given.
 
 ghost use Rattle.std.specs.Prelude.{◌≡◌, ◌≢◌, ◌∷◌, [], List, ℕ, codes, IfOk, MatchOption};
-ghost use Rattle.cmh_script.specs.Words.{words_of};
+ghost use Rattle.cmh_console.specs.Words.{words_of};
 ghost use Rattle.cmh_running.specs.SiteScript.{IsEventOf, NamesNoSite, NamesSite, SaysEvent, SaysToCluster, SaysToSite, order_name};
-ghost use Rattle.cmh_script.specs.declared.script.Line.TheVariants as scripts;
+ghost use Rattle.cmh_console.specs.declared.script.Line.TheVariants as scripts;
 ghost use Rattle.cmh_running.specs.declared.site_script.Order as orders;
 
+use cmh_console::{Command, Line, Words, number, parse};
 use cmh_frames::ProcId;
 use cmh_model::Event;
-use cmh_script::{Command, Line, Words, number, parse};
 use std::alloc::{AllocError, Global};
 
 /// What a line says as it does in every script.

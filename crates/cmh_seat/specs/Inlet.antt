@@ -5,7 +5,7 @@ use Rattle.cmh_frames.specs.declared.frame.Frame.{Frame}
 use Rattle.cmh_reader.specs.Reader.{BeginsLink, ExpectsSame, Reader, StandsFor, Takes}
 use Rattle.cmh_reader.specs.Stream.{HasMore, fault_of}
 use Rattle.cmh_reader.specs.declared.fault.ReadFault.{ReadFault}
-use Rattle.cmh_reader.specs.declared.fault.ReadFault.TheVariants.{BadHello, BadFrame, WrongSite, Memory}
+use Rattle.cmh_reader.specs.declared.fault.ReadFault.TheVariants.{Memory}
 use Rattle.cmh_seat.specs.declared.inlet.InletFault.{InletFault}
 use Rattle.cmh_seat.specs.declared.inlet.InletFault.TheVariants.{Short, Read}
 
@@ -43,6 +43,4 @@ pub record IsStarved (old : Reader) (piece : List ℕ) (new : Reader) : Type 0 w
 abbrev pub GaveNothing : Reader → List ℕ → ℕ → InletFault → Reader → Type 0
 GaveNothing old piece room Short new = (room < length piece + 6) × (new ≡ old)
 GaveNothing old piece room (Read Memory) new = IsStarved old piece new
-GaveNothing old piece room (Read BadHello) new = IsFaulty old piece BadHello new
-GaveNothing old piece room (Read WrongSite) new = IsFaulty old piece WrongSite new
-GaveNothing old piece room (Read (BadFrame offset)) new = IsFaulty old piece (BadFrame offset) new
+GaveNothing old piece room (Read fault) new = IsFaulty old piece fault new

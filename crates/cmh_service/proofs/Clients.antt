@@ -5,9 +5,9 @@ use Rattle.std.proofs.lemmas.Bool.{ne_eqb, eq-eqb}
 use Rattle.std.specs.Prelude.{if◌then◌else◌}
 use Rattle.std.specs.Io.BufRead.{drop_through}
 use Rattle.memchr.specs.Find.{IsFirstByte, Nowhere, Passes, is_byte}
-use Rattle.cmh_script.specs.Lines.{IsNextLine}
-use Rattle.cmh_script.specs.declared.lines.NextLine.{NextLine}
-use Rattle.cmh_script.specs.declared.lines.NextLine.TheVariants.{End}
+use Rattle.cmh_console.specs.Lines.{IsNextLine}
+use Rattle.cmh_console.specs.declared.lines.NextLine.{NextLine}
+use Rattle.cmh_console.specs.declared.lines.NextLine.TheVariants.{End}
 use Rattle.cmh_running.specs.Dialogue.{line_of}
 use Rattle.cmh_running.proofs.Dialogues.{first_is}
 use Rattle.cmh_service.specs.Clients.{IsNext}

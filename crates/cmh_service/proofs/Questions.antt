@@ -1,7 +1,7 @@
 -- Lines that ask something of a service alone, or nothing.
 use Rattle.std.proofs.Common.{◌≡◌, ◌≢◌, ℕ, List, [], ◌∷◌, sym, ap, subst, ◌∙◌}
 use Rattle.std.specs.Prelude.{codes}
-use Rattle.cmh_script.specs.Front.{Begins, BeginsNone}
+use Rattle.cmh_console.specs.Front.{Begins, BeginsNone}
 use Rattle.cmh_service.specs.Said.{AsksNoService, NamesProcess}
 use Rattle.cmh_service.specs.declared.said.Said.TheVariants.{Event, Declared, Links, Waits, Owed, Watch, Status, Quit}
 

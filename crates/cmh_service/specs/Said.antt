@@ -1,7 +1,7 @@
 -- What a line of a client says: a line for a running site but for `connect`, or what only a service is asked.
 use Rattle.std.specs.Prelude.{◌≡◌, ℕ, List, [], ◌∷◌, codes, Option, None, Some}
-use Rattle.cmh_script.specs.Front.{Begins}
-use Rattle.cmh_script.specs.Words.{words_of}
+use Rattle.cmh_console.specs.Front.{Begins}
+use Rattle.cmh_console.specs.Words.{words_of}
 use Rattle.cmh_running.specs.SiteScript.{SaysToSite}
 use Rattle.cmh_running.specs.declared.site_script.EventLine.TheVariants.{Bad}
 use Rattle.cmh_running.specs.declared.site_script.Order.TheVariants as orders

@@ -3,8 +3,8 @@
 ghost use Rattle.std.specs.Prelude.{◌≡◌, ◌≤◌, ◌++◌, drop, min, vec_len, IfOk, IfSome, OnOk};
 
 use crate::said::{Said, said_by};
+use cmh_console::{Input, MAX_LINE, read_line};
 use cmh_frames::ProcId;
-use cmh_script::{Input, MAX_LINE, read_line};
 use memchr::{memchr, memrchr};
 use std::alloc::{AllocError, Global};
 use std::fmt;

@@ -3,7 +3,7 @@
 ghost use Rattle.std.specs.Prelude.{◌≡◌, ◌≤◌, ◌<◌, ◌++◌, ◌∷◌, [], length, map, vec_len, OnOk, OnErr};
 ghost use Rattle.cmh_journal.specs.Sink.{known_and};
 ghost use Rattle.cmh_station.specs.Journaled.{batch_limit};
-ghost use Rattle.cmh_service.specs.Desks.{addressed};
+ghost use Rattle.std.specs.List.{zip};
 
 use cmh_model::Event;
 use cmh_station::BATCH_LIMIT;
@@ -67,7 +67,7 @@ impl Desk {
     pub fn hand_back<T, W: Waiting<T>>(&mut self, answers: &[T], waiting: &mut W)
         requires { length answers.now ≡ length self.old.events.items }
         ensures given { W.given waiting.new
-            ≡ known_and (W.given waiting.old) (addressed self.old.places.items answers.now) }
+            ≡ known_and (W.given waiting.old) (zip self.old.places.items answers.now) }
         ensures none { self.new.events.items ≡ [] }
     {
         for at in 0..self.places.len() {

@@ -1,13 +1,13 @@
 //! What the lines say that clients of a service send.
 
 ghost use Rattle.std.specs.Prelude.{◌≡◌, ◌↔◌, ◌∷◌, [], ℕ, IfOk, IsTrue, MatchOption};
-ghost use Rattle.cmh_script.specs.Words.{words_of};
+ghost use Rattle.cmh_console.specs.Words.{words_of};
 ghost use Rattle.cmh_running.specs.Dialogue.{line_of};
 ghost use Rattle.cmh_service.specs.Said.{AsksNoService, AsksService, NamesProcess, SaysToService, WasSaid};
 
+use cmh_console::{NextLine, Words};
 use cmh_frames::ProcId;
 use cmh_running::{EventLine, Order, SiteLine, parse_for_site};
-use cmh_script::{NextLine, Words};
 use std::alloc::{AllocError, Global};
 
 /// What a line of a client says.

@@ -1,6 +1,6 @@
 //! A site as a service: it waits for its clients and for what the site declares.
 
-ghost use Rattle.cmh_files.specs.Status.{IsStatus};
+ghost use Rattle.cmh_console.specs.Status.{IsStatus};
 
 use crate::desk::Desk;
 use crate::guests::MOST_CLIENTS;
@@ -8,12 +8,11 @@ use crate::host::Host;
 use crate::mailbox::Mailbox;
 use crate::rounds::Rounds;
 use crate::server::{MAIL, PAUSE_MILLISECONDS, Server};
-use cmh_files::{Fault, read_topology_file_with_ports};
+use cmh_console::{Fault, Output, read_topology_file_with_ports};
 use cmh_frames::Topology;
 use cmh_host::{Running, RunningSite, SiteSetup, SiteStart, System, start_site};
 use cmh_notes::{Noting, Voice};
 use cmh_running::Ports;
-use cmh_script::Output;
 use cmh_station::BATCH_LIMIT;
 use crossbeam_utils::sync::Parker;
 use mio::net::TcpListener as Listener;

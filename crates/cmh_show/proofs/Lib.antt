@@ -1,4 +1,3 @@
-pub mod ListLemmas
 pub mod LineLemmas
 pub mod FileLemmas
 pub mod TurnLemmas

@@ -1,11 +1,12 @@
 -- What an audit prints.
-use Rattle.std.specs.Prelude.{ℕ, zero, suc, List, [], ◌∷◌, ◌++◌, codes, Option, None, Some, flat_map}
+use Rattle.std.specs.Prelude.{ℕ, zero, suc, List, [], ◌++◌, codes, Option, None, Some, flat_map}
 use Rattle.std.specs.Fmt.{decimal}
 use Rattle.cmh_frames.specs.declared.edition.Edition.{Edition}
 use Rattle.cmh_frames.specs.declared.edition.Edition.TheVariants.{One, Two}
 use Rattle.cmh_audit.specs.declared.verdict.Verdict.{Verdict}
 use Rattle.cmh_audit.specs.declared.verdict.Verdict.TheVariants.{Accepted, Refused}
 use Rattle.cmh_audit.specs.Reports.{Report, cycle_of}
+use Rattle.cmh_frames.specs.Texts.{processes_text}
 
 -- ---- accepted
 
@@ -21,17 +22,11 @@ wait_text wait = codes "wait " ++ decimal wait.0 ++ codes " " ++ decimal wait.1 
 abbrev pub waits_text : List (ℕ × ℕ) → List ℕ
 waits_text waits = flat_map wait_text waits
 
-abbrev pub member_text : ℕ → List ℕ
-member_text member = codes " " ++ decimal member
-
-abbrev pub members_text : List ℕ → List ℕ
-members_text members = flat_map member_text members
-
 -- a process and a cycle through it; nothing where it has none
 abbrev pub deadlock_text : ℕ → Option (List ℕ) → List ℕ
 deadlock_text process None = []
 deadlock_text process (Some members) =
-    codes "declared " ++ decimal process ++ codes " cycle" ++ members_text members ++ codes "\n"
+    codes "declared " ++ decimal process ++ codes " cycle" ++ processes_text members ++ codes "\n"
 
 abbrev pub deadlocks_text : Report → List ℕ
 deadlocks_text report = flat_map (λ process. deadlock_text process (cycle_of report process)) report.declared

@@ -45,8 +45,7 @@ abbrev pub IsOwnFault : Topology → ℕ → State → Entry → Reason → Type
 IsOwnFault t s v e (Refused refusal) = Refuses t s v e.event refusal × (refusal ≢ Memory)
 IsOwnFault t s v e (Sent number due) = IsDue t s v e.event e.sent number due
 IsOwnFault t s v e (Declared due) = Makes t s v e.event e.sent due × (e.declared ≢ due)
-IsOwnFault t s v e (NotNext from next) = ⊥
-IsOwnFault t s v e (NothingUnderWay from) = ⊥
+IsOwnFault t s v e reason = ⊥
 
 -- ---- links
 

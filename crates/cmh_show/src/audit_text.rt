@@ -6,7 +6,7 @@ ghost use Rattle.std.specs.Io.KnownBytes.{Appends};
 ghost use Rattle.cmh_show.specs.AuditTexts as spec;
 
 use cmh_audit::{Report, Verdict};
-use cmh_frames::{Edition, ProcId, SiteId};
+use cmh_frames::{Edition, ProcId, ProcessesText, SiteId};
 use std::io::Write;
 use std::{fmt, io};
 
@@ -92,26 +92,9 @@ impl<'a> fmt::Display for Deadlocks<'a> {
     fn fmt<W: fmt::Write>(&self, f: &mut fmt::Formatter<W>) -> fmt::Result {
         for process in self.report.declared() {
             if let Some(members) = self.report.cycle(*process) {
-                let cycle = Cycle { members };
+                let cycle = ProcessesText { processes: members };
                 write!(f, "declared {process} cycle{cycle}\n")?;
             }
-        }
-        Ok(())
-    }
-}
-
-/// The members of a cycle, each after a space.
-#[derive(Drop)]
-struct Cycle<'a> {
-    members: &'a [ProcId],
-}
-
-impl<'a> fmt::Display for Cycle<'a> {
-    ghost output = { λ c. Some (spec.members_text c.members.now) };
-
-    fn fmt<W: fmt::Write>(&self, f: &mut fmt::Formatter<W>) -> fmt::Result {
-        for member in self.members {
-            write!(f, " {member}")?;
         }
         Ok(())
     }

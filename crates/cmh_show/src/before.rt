@@ -5,22 +5,11 @@ ghost use Rattle.cmh_audit.specs.Journals.{journal_of};
 ghost use Rattle.cmh_audit.specs.Stops.{before_stop};
 ghost use Rattle.cmh_model.specs.Journals.{frame_from, frames_to, receipts_of, sendings_of};
 
+use cmh_audit::entries_at;
 use cmh_frames::{Frame, SiteId};
 use cmh_journal::Journal;
 use cmh_model::{Entry, Event};
 use std::alloc::{AllocError, Global};
-
-/// The entries of a site's journal; none where it has no journal.
-pub fn journal_of(journals: &[Journal], site: SiteId) -> &[Entry]
-    ensures { result.now ≡ journal_of journals.now site }
-{
-    for journal in journals {
-        if journal.site() == site {
-            return journal.entries();
-        }
-    }
-    &[]
-}
 
 /// The entries of a site before its stop; all where it has none.
 pub fn before_stop<'a>(
@@ -31,7 +20,7 @@ pub fn before_stop<'a>(
     requires { All (λ stop. (1 ≤ stop.1) × (stop.1 ≤ length (journal_of journals.now stop.0))) stops.now }
     ensures { result.now ≡ before_stop stops.now site (journal_of journals.now site) }
 {
-    let entries = journal_of(journals, site);
+    let entries = entries_at(journals, site);
     for (stopped, number) in stops {
         if *stopped == site {
             return &entries[..*number - 1];

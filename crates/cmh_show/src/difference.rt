@@ -11,7 +11,7 @@ pub fn first_difference(left: &[(SiteId, Frame)], right: &[(SiteId, Frame)]) -> 
 {
     let shared = left.len().min(right.len());
     for place in 0..shared {
-        if !is_same(&left[place], &right[place]) {
+        if left[place] != right[place] {
             return Some(place + 1);
         }
     }
@@ -19,10 +19,4 @@ pub fn first_difference(left: &[(SiteId, Frame)], right: &[(SiteId, Frame)]) -> 
         return None;
     }
     Some(shared + 1)
-}
-
-fn is_same(left: &(SiteId, Frame), right: &(SiteId, Frame)) -> bool
-    ensures { IsTrue result ↔ (left.now ≡ right.now) }
-{
-    left.0 == right.0 && left.1 == right.1
 }

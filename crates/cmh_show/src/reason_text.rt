@@ -4,10 +4,10 @@ ghost use Rattle.std.specs.Prelude.{IfOk, Some, string_bytes};
 ghost use Rattle.cmh_audit.specs.Stops.{AreStops};
 ghost use Rattle.cmh_show.specs.ReasonLines as spec;
 
-use crate::before::journal_of;
 use crate::entry_text::EntryText;
 use crate::reason::Reason;
 use crate::stop::reason_of;
+use cmh_audit::entries_at;
 use cmh_frames::{SiteId, Topology};
 use cmh_journal::Journal;
 use cmh_model::Entry;
@@ -56,7 +56,7 @@ pub fn reason_lines(
             site: *site,
             number: *number,
             reason,
-            entry: &journal_of(journals, *site)[*number - 1],
+            entry: &entries_at(journals, *site)[*number - 1],
         };
         write!(text, "{line}")?;
     }

@@ -5,9 +5,10 @@ ghost use Rattle.cmh_model.specs.Journals.{receipts_of, sendings_of};
 ghost use Rattle.cmh_audit.specs.Stops.{AreStops};
 ghost use Rattle.cmh_show.specs.Reasons.{IsReasonOf, awaits};
 
-use crate::before::{before_stop, count_received, frames_sent, journal_of};
+use crate::before::{before_stop, count_received, frames_sent};
 use crate::own::fault_at;
 use crate::reason::Reason;
+use cmh_audit::entries_at;
 use cmh_frames::{Frame, SiteId, Topology};
 use cmh_journal::Journal;
 use cmh_model::{Entry, Event};
@@ -28,7 +29,7 @@ pub fn reason_of(
     ensures { IfOk result (IsReasonOf topology.now journals.now stops.now (site, number)) }
 {
     growing_law(topology);
-    let entry = &journal_of(journals, site)[number - 1];
+    let entry = &entries_at(journals, site)[number - 1];
     let before = before_stop(journals, stops, site);
     if let Some(fault) = fault_at(alloc, topology, site, before, entry)? {
         return Ok(fault);

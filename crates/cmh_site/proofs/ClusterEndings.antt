@@ -4,18 +4,18 @@ use Rattle.std.specs.Prelude.{IfErr, IfSome, IsErr, IsErrAnd, Result, Ok, Err, f
 use Rattle.std.specs.Io.KnownBytes.{Appends}
 use Rattle.std.proofs.lemmas.List.{flat_map_more}
 use Rattle.cmh_frames.specs.Topology.{Topology}
-use Rattle.cmh_script.proofs.LinesSeen.{if_some}
-use Rattle.cmh_script.specs.Device.{Writing}
-use Rattle.cmh_script.specs.Lines.{IsNextLine, IsLineFault}
-use Rattle.cmh_script.specs.declared.lines.LineFault.{LineFault}
-use Rattle.cmh_script.specs.declared.lines.NextLine.{NextLine}
-use Rattle.cmh_script.specs.declared.lines.NextLine.TheVariants.{End}
-use Rattle.cmh_files.proofs.TextLemmas.{appends-more, appends-none}
+use Rattle.cmh_console.proofs.LinesSeen.{if_some}
+use Rattle.cmh_console.specs.Device.{Writing}
+use Rattle.cmh_console.specs.Lines.{IsNextLine, IsLineFault}
+use Rattle.cmh_console.specs.declared.lines.LineFault.{LineFault}
+use Rattle.cmh_console.specs.declared.lines.NextLine.{NextLine}
+use Rattle.cmh_console.specs.declared.lines.NextLine.TheVariants.{End}
+use Rattle.std.proofs.KnownBytes.{Appends-nil, Appends-trans}
 use Rattle.cmh_files.specs.Audits.{AuditEnds}
-use Rattle.cmh_files.specs.Faults.{IsAnswerFault, IsPlayFault, of_line}
-use Rattle.cmh_files.specs.declared.faults.Fault.{Fault}
-use Rattle.cmh_files.specs.declared.faults.Fault.TheVariants.{TopologyFile, ScriptFile, OutFile, JournalFile, Json, Topology as NoTopology, Journal, Set, Site, JournalDisk, Listen, Input, Output, Memory}
-use Rattle.cmh_files.proofs.LineLemmas.{at_some}
+use Rattle.cmh_console.specs.Faults.{IsAnswerFault, IsPlayFault, of_line}
+use Rattle.cmh_console.specs.declared.faults.Fault.{Fault}
+use Rattle.cmh_console.specs.declared.faults.Fault.TheVariants.{TopologyFile, ScriptFile, OutFile, JournalFile, Json, Topology as NoTopology, Journal, Set, Site, JournalDisk, Listen, Input, Output, Memory}
+use Rattle.cmh_console.proofs.LineLemmas.{at_some}
 use Rattle.cmh_running.proofs.Dialogues.{HasTalked, first_is, read_err, talked_fault_err, talked_some}
 use Rattle.cmh_running.specs.Dialogue.{Conversed, Dialogue, HasAnswered, begin, line_of}
 use Rattle.cmh_running.specs.declared.dialogue.Flow.{Flow}
@@ -60,7 +60,7 @@ module _ (t : Topology) (start old now out : Option (List ℕ)) (n : ℕ) (so_fa
           ends = subst (λ (l : Option (List ℕ)). IsTurnOfCluster t l said.text) one.1 said.answered;
           text_is = refl;
         };
-        wrote = appends-more old out wrote s.text said.text s.wrote said.wrote;
+        wrote = Appends-trans old out wrote s.text said.text s.wrote said.wrote;
       })
 
   replied_part : (after : Option (List ℕ)) (has_failed : Bool) (fault : Fault)
@@ -94,13 +94,13 @@ module _ (t : Topology) (start old now out : Option (List ℕ)) (n : ℕ) (so_fa
 
 -- no link was named, and one more
 pub none_closed : (out : Option (List ℕ)) → NamesClosed out out
-none_closed out = record { links = []; wrote = appends-none out }
+none_closed out = record { links = []; wrote = Appends-nil out }
 
 pub one_more_closed : (old out new : Option (List ℕ)) (link : ClosedLink) → NamesClosed old out → Appends out new (closed_line link) → NamesClosed old new
 one_more_closed old out new link c wrote = record {
   links = c.links ++ link ∷ [];
   wrote = subst (λ (text : List ℕ). Appends old new text) (flat_map_more closed_line [] c.links link)
-      (appends-more old out new (flat_map closed_line c.links) (closed_line link) c.wrote wrote);
+      (Appends-trans old out new (flat_map closed_line c.links) (closed_line link) c.wrote wrote);
 }
 
 -- ---- the play of a script
@@ -115,12 +115,12 @@ module _ (t : Topology) (script : List ℕ) (old : Option (List ℕ)) where
         text = replied.text;
         links = closed.links;
         is = replied.is;
-        wrote = appends-more old said new replied.text (flat_map closed_line closed.links) replied.wrote closed.wrote;
+        wrote = Appends-trans old said new replied.text (flat_map closed_line closed.links) replied.wrote closed.wrote;
       }
 
   -- no line was answered yet
   not_begun : (has_failed : Bool) → Begun t script old old has_failed
-  not_begun has_failed = record { text = []; is = record { rest = script; last = tt; dialogue = begin }; wrote = inr (appends-none old) }
+  not_begun has_failed = record { text = []; is = record { rest = script; last = tt; dialogue = begin }; wrote = inr (Appends-nil old) }
 
   start_fault : (has_failed : Bool) (fault : Fault) → IsStartFault fault → IsRunFault t script old old has_failed fault
   start_fault has_failed OutFile h = refl

@@ -2,10 +2,10 @@
 use Rattle.std.proofs.Common.{◌≡◌, ℕ, Bool, true, false, List, [], ◌++◌, Option, sym, subst, inl, inr, true≢false}
 use Rattle.std.specs.Prelude.{IfSome, IsErr, Result, Ok, Err, codes}
 use Rattle.std.specs.Io.KnownBytes.{Appends, Keeps}
-use Rattle.cmh_script.proofs.LinesSeen.{if_some}
-use Rattle.cmh_files.proofs.TextLemmas.{appends-kept, appends-more}
-use Rattle.cmh_files.specs.declared.faults.Fault.{Fault}
-use Rattle.cmh_files.proofs.LineLemmas.{at_some}
+use Rattle.cmh_console.proofs.LinesSeen.{if_some}
+use Rattle.std.proofs.KnownBytes.{Appends-kept, Appends-trans}
+use Rattle.cmh_console.specs.declared.faults.Fault.{Fault}
+use Rattle.cmh_console.proofs.LineLemmas.{at_some}
 use Rattle.cmh_running.specs.Dialogue.{Conversed, WroteBefore, begin}
 use Rattle.cmh_site.specs.Endings.{Served, Welcomed}
 use Rattle.cmh_site.specs.SiteTalk.{IsTurnOfSite}
@@ -13,16 +13,16 @@ use Rattle.cmh_site.specs.SiteTalk.{IsTurnOfSite}
 -- a text, and then what was written of another
 wrote_behind : (r : Result (Unit {0}) Fault) (a b c : Option (List ℕ)) (has_failed : Bool) (x y : List ℕ) → Appends a b x → WroteBefore r b c has_failed y
     → WroteBefore r a c has_failed (x ++ y)
-wrote_behind (Ok done) a b c has_failed x y first further = appends-more a b c x y first further
+wrote_behind (Ok done) a b c has_failed x y first further = Appends-trans a b c x y first further
 wrote_behind (Err fault) a b c has_failed x y first (inl failed) = inl failed
-wrote_behind (Err fault) a b c has_failed x y first (inr further) = inr (appends-more a b c x y first further)
+wrote_behind (Err fault) a b c has_failed x y first (inr further) = inr (Appends-trans a b c x y first further)
 
 module _ (site : ℕ) (start : Option (List ℕ)) (old : Option (List ℕ)) where
   pub welcomed : (was : Bool) (said kept new : Option (List ℕ)) (has_failed : Bool) (r : Result (Unit {0}) Fault) → Appends old said (codes "listening\n") → Keeps said kept
       → IfSome start (λ bytes. Conversed (IsTurnOfSite site) was bytes kept new has_failed r) → IfSome start (λ bytes. Welcomed site was bytes old new has_failed r)
   welcomed was said kept new has_failed r first same talked = if_some start _ (λ bytes e.
       let c = at_some start (λ bytes. Conversed (IsTurnOfSite site) was bytes kept new has_failed r) bytes e talked in
-      record { text = c.text; is = c.is; wrote = wrote_behind r old kept new has_failed (codes "listening\n") c.text (appends-kept _ _ _ _ first same) c.wrote })
+      record { text = c.text; is = c.is; wrote = wrote_behind r old kept new has_failed (codes "listening\n") c.text (Appends-kept _ _ _ _ first same) c.wrote })
 
   -- the writer failed before any line was read
   pub unwelcomed : (was : Bool) (new : Option (List ℕ)) (has_failed : Bool) (r : Result (Unit {0}) Fault) → IsErr r → has_failed ≡ true
@@ -40,7 +40,7 @@ module _ (site : ℕ) (start : Option (List ℕ)) (old : Option (List ℕ)) wher
       record {
         text = w.text;
         is = w.is;
-        wrote = appends-more old said kept (codes "listening\n" ++ w.text) (codes "stopped\n") w.wrote (appends-kept _ _ _ _ last same);
+        wrote = Appends-trans old said kept (codes "listening\n" ++ w.text) (codes "stopped\n") w.wrote (Appends-kept _ _ _ _ last same);
       })
 
   -- the same by a site that was started for this

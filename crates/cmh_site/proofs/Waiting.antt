@@ -1,20 +1,19 @@
 -- Lines whose events wait for their answers.
-use Rattle.std.proofs.Common.{◌≡◌, ◌≢◌, ℕ, ◌+◌, ◌-◌, ◌^◌, ◌<◌, ◌≤◌, Bool, true, List, [], ◌∷◌, ◌++◌, Option, None, Some, length, refl, sym, subst, arith, inl, inr, true≢false}
+use Rattle.std.proofs.Common.{◌≡◌, ◌≢◌, ℕ, ◌+◌, ◌-◌, ◌^◌, ◌<◌, ◌≤◌, Bool, true, List, [], ◌∷◌, ◌++◌, Option, Some, length, refl, sym, subst, arith, inl, inr, true≢false}
 use Rattle.std.specs.Prelude.{IfErr, IfSome, IsErr, IsErrAnd, Result, Ok, Err, flat_map}
 use Rattle.std.specs.Io.BufRead.{drop_through}
 use Rattle.std.specs.Io.KnownBytes.{Appends}
 use Rattle.std.proofs.lemmas.List.{append_assoc, append-nil}
 use Rattle.cmh_model.specs.declared.event.Event.{Event}
-use Rattle.cmh_script.proofs.LinesSeen.{if_some}
-use Rattle.cmh_script.specs.Lines.{IsNextLine, IsEndless, IsLineFault}
-use Rattle.cmh_script.specs.declared.lines.LineFault.{LineFault}
-use Rattle.cmh_script.specs.declared.lines.LineFault.TheVariants.{Input as NoInput, Memory as NoSpace}
-use Rattle.cmh_script.specs.declared.lines.NextLine.{NextLine}
-use Rattle.cmh_script.specs.declared.lines.NextLine.TheVariants.{End}
-use Rattle.cmh_files.specs.Faults.{IsPlayFault, of_line}
-use Rattle.cmh_files.specs.declared.faults.Fault.{Fault}
-use Rattle.cmh_files.proofs.LineLemmas.{at_some, length-drop_through}
-use Rattle.cmh_files.proofs.TextLemmas.{appends-more}
+use Rattle.cmh_console.proofs.LinesSeen.{if_some}
+use Rattle.cmh_console.specs.Lines.{IsNextLine, IsEndless, IsLineFault}
+use Rattle.cmh_console.specs.declared.lines.LineFault.{LineFault}
+use Rattle.cmh_console.specs.declared.lines.NextLine.{NextLine}
+use Rattle.cmh_console.specs.declared.lines.NextLine.TheVariants.{End}
+use Rattle.cmh_console.specs.Faults.{IsPlayFault, of_line}
+use Rattle.cmh_console.specs.declared.faults.Fault.{Fault}
+use Rattle.cmh_console.proofs.LineLemmas.{HasLeft, at_some, endless_input, length-drop_through, unread_err}
+use Rattle.std.proofs.KnownBytes.{Appends-trans}
 use Rattle.cmh_running.proofs.Dialogues.{HasTalked, begun, first_is}
 use Rattle.cmh_running.specs.Dialogue.{Conversed, Dialogue, HasAnswered, line_in, line_of, turn}
 use Rattle.cmh_running.specs.declared.dialogue.Flow.{Flow}
@@ -105,7 +104,7 @@ module _ (site : ℕ) (first : Bool) (start old now out : Option (List ℕ)) (la
         text = s.text ++ flat_map reply_text told.replies;
         now_is = s.now_is;
         dialogue = all_answered site first bytes s.rest s.left s.text last events told.replies s.dialogue s.says told.are;
-        wrote = appends-more old out wrote s.text (flat_map reply_text told.replies) s.wrote told.wrote;
+        wrote = Appends-trans old out wrote s.text (flat_map reply_text told.replies) s.wrote told.wrote;
         counted = s.counted;
       }
 
@@ -126,35 +125,15 @@ module _ (site : ℕ) (first : Bool) (start old now out : Option (List ℕ)) (la
       let s = so_far bytes e in
       record { text = s.text; is = record { rest = s.rest; last = last; dialogue = s.dialogue }; wrote = inl failed })
 
-  endless_now : IsEndless now → IsEndless start
-  endless_now endless = go start (λ bytes e. so_far bytes e)
-    where
-      go : (s : Option (List ℕ)) → ((bytes : List ℕ) → s ≡ Some bytes → WaitedSoFar site first bytes now old out last events n) → IsEndless s
-      go None h = tt
-      go (Some bytes) h =
-          let s = h bytes refl in
-          let many : 2 ^ 64 - 1 ≤ length s.left = subst IsEndless s.now_is endless in
-          let counted = s.counted in
-          omega (arith, many, counted)
+  has_left : (bytes : List ℕ) → start ≡ Some bytes → HasLeft bytes now n
+  has_left bytes e = let s = so_far bytes e in record { left = s.left; now_is = s.now_is; counted = s.counted }
 
   pub endless_wait : 2 ^ 64 - 1 ≤ n → IsEndless start
-  endless_wait many = go start (λ bytes e. so_far bytes e)
-    where
-      go : (s : Option (List ℕ)) → ((bytes : List ℕ) → s ≡ Some bytes → WaitedSoFar site first bytes now old out last events n) → IsEndless s
-      go None h = tt
-      go (Some bytes) h =
-          let counted = (h bytes refl).counted in
-          omega (arith, many, counted)
+  endless_wait = endless_input start now n has_left
 
-  unread : (read_failed write_failed : Bool) (fault : LineFault) → IsLineFault now read_failed fault → IsPlayFault start read_failed write_failed (of_line fault)
-  unread read_failed write_failed NoInput (inl failed) = inl failed
-  unread read_failed write_failed NoInput (inr endless) = inr (endless_now endless)
-  unread read_failed write_failed NoSpace h = tt
-
-  pub unread_err : (read_failed write_failed : Bool) (r : Result (Unit {0}) Fault) (lower : LineFault) → IsErrAnd r (λ fault. fault ≡ of_line lower) → IsLineFault now read_failed lower
+  pub unread_waiting : (read_failed write_failed : Bool) (r : Result (Unit {0}) Fault) (lower : LineFault) → IsErrAnd r (λ fault. fault ≡ of_line lower) → IsLineFault now read_failed lower
       → IfErr r (IsPlayFault start read_failed write_failed)
-  unread_err read_failed write_failed (Ok x) lower is h = tt
-  unread_err read_failed write_failed (Err fault) lower is h = subst (IsPlayFault start read_failed write_failed) (sym is) (unread read_failed write_failed lower h)
+  unread_waiting = unread_err start now n has_left
 
 -- a line that says this was answered
 pub answered_line : (now site : ℕ) (was is : Bool) (flow : Flow) (line old new : Option (List ℕ)) (said : SiteLine) → now ≡ site

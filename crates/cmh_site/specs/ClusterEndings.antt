@@ -2,14 +2,14 @@
 use Rattle.std.specs.Prelude.{◌≡◌, ℕ, Bool, true, ◌⊎◌, List, [], ◌∷◌, ◌++◌, length, map, codes, Option, Result, Ok, Err, ⊤, flat_map}
 use Rattle.std.specs.Io.KnownBytes.{Appends}
 use Rattle.cmh_frames.specs.Topology.{Topology, sites_of}
-use Rattle.cmh_script.specs.Device.{Tells, Writing}
+use Rattle.cmh_console.specs.Device.{Tells, Writing}
 use Rattle.cmh_files.specs.Audits.{AuditEnds, IsOfNoTopology}
-use Rattle.cmh_files.specs.Faults.{NamesFault}
-use Rattle.cmh_files.specs.TopologyFile.{IsFaultOfFileWithPorts}
-use Rattle.cmh_files.specs.declared.faults.Fault.{Fault}
-use Rattle.cmh_files.specs.declared.faults.Fault.TheVariants.{ScriptFile, OutFile, Json, Topology as NoTopology, Listen, Input, Output, Memory}
-use Rattle.cmh_files.specs.declared.topology_file.TopologyFileFault.TheVariants.{Json as NoJson}
-use Rattle.cmh_running.specs.Dialogue.{IsAll, EndsBy, IsPart}
+use Rattle.cmh_console.specs.Faults.{NamesFault}
+use Rattle.cmh_console.specs.TopologyFile.{IsFaultOfFileWithPorts}
+use Rattle.cmh_console.specs.declared.faults.Fault.{Fault}
+use Rattle.cmh_console.specs.declared.faults.Fault.TheVariants.{ScriptFile, OutFile, Json, Topology as NoTopology, Listen, Input, Output, Memory}
+use Rattle.cmh_console.specs.declared.topology_file.TopologyFileFault.TheVariants.{Json as NoJson}
+use Rattle.cmh_running.specs.Dialogue.{IsAll, EndsBy, IsPart, WroteBefore}
 use Rattle.cmh_running.specs.declared.dialogue.Flow.{Flow}
 use Rattle.cmh_running.specs.declared.dialogue.Flow.TheVariants.{Awaits, Ends}
 use Rattle.cmh_site.specs.Endings.{IsWorldOf}
@@ -32,17 +32,12 @@ IsTextOfScript t script text (Ok Awaits) = IsAll (Unit {0}) (IsTurn t) tt script
 IsTextOfScript t script text (Ok Ends) = EndsBy (Unit {0}) (IsTurn t) tt script text
 IsTextOfScript t script text (Err fault) = IsPart (Unit {0}) (IsTurn t) tt script text
 
--- the text was written; at a fault, unless the writer failed
-abbrev pub WroteScript : Result Flow Fault → Option (List ℕ) → Option (List ℕ) → Bool → List ℕ → Type 0
-WroteScript (Ok flow) old new has_failed text = Appends old new text
-WroteScript (Err fault) old new has_failed text = Tells old new has_failed text
-
 -- lines of the script were answered, up to a fault if there is one
 pub record Replied (t : Topology) (script : List ℕ) (old new : Option (List ℕ)) (has_failed : Bool)
     (result : Result Flow Fault) : Type 0 where
   pub text : List ℕ
   pub is : IsTextOfScript t script text result
-  pub wrote : WroteScript result old new has_failed text
+  pub wrote : WroteBefore result old new has_failed text
 
 -- some first lines of the script were answered, or none
 pub record Begun (t : Topology) (script : List ℕ) (old new : Option (List ℕ)) (has_failed : Bool) : Type 0 where
@@ -106,34 +101,20 @@ IsWorldFault topology (NoTopology fault) = IsOfNoTopology topology fault
 IsWorldFault topology Memory = ⊤
 IsWorldFault topology fault = ⊥
 
--- the topology file is that of a topology, and nothing was written
-pub record FailsToStart (topology : List ℕ) (old new : Option (List ℕ)) : Type 0 where
-  pub world : Topology
-  pub world_is : IsWorldOf topology world
-  pub silent : new ≡ old
-
--- the topology file is that of a topology, and some first lines of the script were answered, or none
-pub record FailsOnTheWay (topology script : List ℕ) (old new : Option (List ℕ)) (has_failed : Bool) : Type 0 where
-  pub world : Topology
-  pub world_is : IsWorldOf topology world
-  pub begun : Begun world script old new has_failed
-
--- the topology file is that of a topology, and all lines of the script were answered
-pub record FailsAtTheEnd (topology script : List ℕ) (old new : Option (List ℕ)) : Type 0 where
-  pub world : Topology
-  pub world_is : IsWorldOf topology world
-  pub answered : Answered world script old new
+-- the topology file is that of a topology, and this holds of it
+abbrev pub OfWorld : List ℕ → (Topology → Type 0) → Type 0
+OfWorld topology Holds = (world : Topology) × IsWorldOf topology world × Holds world
 
 -- Why a cluster ends without an audit, and what was written then. What a disk or a port refuses comes only where the file
 -- is that of a topology: a journal's file is refused before all lines, or behind them, when it is read back.
 abbrev pub IsClusterFault : List ℕ → List ℕ → Option (List ℕ) → Option (List ℕ) → Bool → Fault → Type 0
 IsClusterFault topology script old new write_failed Json = IsWorldFault topology Json × (new ≡ old)
 IsClusterFault topology script old new write_failed (NoTopology fault) = IsWorldFault topology (NoTopology fault) × (new ≡ old)
-IsClusterFault topology script old new write_failed Listen = FailsToStart topology old new
-IsClusterFault topology script old new write_failed OutFile = FailsToStart topology old new ⊎ FailsAtTheEnd topology script old new
-IsClusterFault topology script old new write_failed ScriptFile = FailsOnTheWay topology script old new write_failed
+IsClusterFault topology script old new write_failed Listen = OfWorld topology (λ world. new ≡ old)
+IsClusterFault topology script old new write_failed OutFile = OfWorld topology (λ world. (new ≡ old) ⊎ Answered world script old new)
+IsClusterFault topology script old new write_failed ScriptFile = OfWorld topology (λ world. Begun world script old new write_failed)
 IsClusterFault topology script old new write_failed Memory =
-    (new ≡ old) ⊎ FailsOnTheWay topology script old new write_failed ⊎ FailsAtTheEnd topology script old new
+    (new ≡ old) ⊎ OfWorld topology (λ world. Begun world script old new write_failed ⊎ Answered world script old new)
 IsClusterFault topology script old new write_failed Output = write_failed ≡ true
 IsClusterFault topology script old new write_failed fault = ⊥
 

@@ -5,12 +5,12 @@ use Rattle.cmh_frames.specs.Rows.{Row}
 use Rattle.cmh_frames.specs.Topology.{Topology, IsTopologyOf, is_site}
 use Rattle.cmh_frames.specs.declared.edition.Edition.{Edition}
 use Rattle.cmh_files.specs.Audits.{IsOfNoTopology}
-use Rattle.cmh_files.specs.TopologyFile.{Says, IsFaultOfFileWithPorts}
-use Rattle.cmh_files.specs.declared.faults.Fault.{Fault}
-use Rattle.cmh_files.specs.declared.faults.Fault.TheVariants.{Json, Topology as NoTopology, Site, JournalDisk, Listen, Input, Output, Memory}
-use Rattle.cmh_files.specs.declared.topology_file.TopologyFileFault.TheVariants.{Json as NoJson}
+use Rattle.cmh_console.specs.TopologyFile.{Says, IsFaultOfFileWithPorts}
+use Rattle.cmh_console.specs.declared.faults.Fault.{Fault}
+use Rattle.cmh_console.specs.declared.faults.Fault.TheVariants.{Json, Topology as NoTopology, Site, JournalDisk, Listen, Input, Output, Memory}
+use Rattle.cmh_console.specs.declared.topology_file.TopologyFileFault.TheVariants.{Json as NoJson}
 use Rattle.cmh_running.specs.Dialogue.{IsTextOf, WroteBefore}
-use Rattle.cmh_files.specs.Faults.{IsPlayFault}
+use Rattle.cmh_console.specs.Faults.{IsPlayFault}
 use Rattle.cmh_site.specs.SiteTalk.{IsTurnOfSite}
 
 -- ---- the start

@@ -1,23 +1,26 @@
 //! The command `cluster`: all sites of a topology as threads of one program, driven by a script.
 
-ghost use Rattle.std.specs.Prelude.{◌≡◌, ◌⊎◌, None, true, MatchOption, IfOk, IfErr, IfSome, OnOk, codes, length};
+ghost use Rattle.std.specs.Prelude.{◌≡◌, ◌<◌, ◌⊎◌, None, true, MatchOption, IfOk, IfErr, IfSome, OnOk, codes, length, vec_capacity, vec_len};
 ghost use Rattle.std.specs.Io.KnownBytes.{Appends};
 ghost use Rattle.cmh_controller.specs.declared.refusal.Refusal.TheVariants.{UnknownProcess};
-ghost use Rattle.cmh_files.specs.Status.{IsStatus};
+ghost use Rattle.cmh_console.specs.Status.{IsStatus};
 ghost use Rattle.cmh_frames.specs.Topology.{home, sites_of};
 ghost use Rattle.cmh_running.specs.Dialogue.{HasAnswered, line_of};
 ghost use Rattle.cmh_site.specs.ClusterEndings as spec;
 ghost use Rattle.cmh_site.specs.ClusterEndings.{AuditsSome, ClusterEnds, ComesTo, HasPlayed, IsClusterFault, IsRunFault, IsStartFault, IsWorldFault, NamesClosed, Replied};
 ghost use Rattle.cmh_site.specs.Endings.{IsWorldOf};
-ghost use Rattle.cmh_files.specs.Faults.{IsAnswerFault, IsPlayFault};
+ghost use Rattle.cmh_console.specs.Faults.{IsAnswerFault, IsPlayFault};
 ghost use Rattle.cmh_host.specs.declared.site_reply.SiteReply.TheVariants.{Refused};
 ghost use Rattle.cmh_station.specs.declared.refusal.StationRefusal.TheVariants.{Rule};
 ghost use Rattle.cmh_host.specs.Steps.{IsDeclared};
 ghost use Rattle.cmh_site.specs.SiteTalk.{AnswersCluster, IsTurnOfCluster, WasSaidToCluster, WasSteppedOrAway};
 
 use cmh_carriers::{Dial, Listen, TcpDial, TcpListen};
+use cmh_console::{
+    Fault, Input, NextLine, Output, path_in, read_line, read_topology_file_with_ports,
+};
 use cmh_controller::Refusal;
-use cmh_files::{Fault, path_in, read_topology_file_with_ports, run_audit};
+use cmh_files::run_audit;
 use cmh_frames::{ProcId, SiteId, Topology};
 use cmh_host::{
     ClosedLink, Opened, RunningSite, SiteReply, Speakers, System, closed_in, closed_out, fault_of,
@@ -31,7 +34,6 @@ use cmh_running::{
     ClusterLine, Disk, EventLine, Flow, JournalFolder, JournalSink, Ports, ReceiptLook,
     SendingLook, Silence, Tally, can_be_made, parse_for_cluster,
 };
-use cmh_script::{Input, NextLine, Output, read_line};
 use cmh_station::{KeptBoard, Listing, StationRefusal};
 use std::alloc::{AllocError, Global};
 use std::fs::File;
@@ -358,21 +360,38 @@ where
         ensures topology { self.new.topology ≡ self.old.topology }
         ensures fault { IfErr result IsStartFault }
     {
+        let (speakers, dial) = self.prepare(ports, opened.site(), &listen)?;
+        let (rt, topology) = (self.rt, self.topology);
+        let member = start_threads(rt, self.alloc, topology, opened, listen, dial, speakers)?;
+        self.members.push_reserved(member);
+        Ok(())
+    }
+
+    /// What the threads of a site need besides its station and its port, and a place for it among the members.
+    fn prepare(
+        &mut self,
+        ports: &Ports,
+        site: SiteId,
+        listen: &TcpListen<R>,
+    ) -> Result<(Speakers, TcpDial<R>), Fault>
+        ensures topology { self.new.topology ≡ self.old.topology }
+        ensures place { OnOk result (vec_len self.new.members < vec_capacity self.new.members) }
+        ensures listens { OnOk result (listen.now.faults ≡ 0) }
+        ensures dials { IfOk result (λ ready. ready.1.faults ≡ 0) }
+        ensures fault { IfErr result IsStartFault }
+    {
         if listen.faults() != 0 {
             // Never so: nothing was asked of it yet.
             return Err(Fault::Listen);
         }
         self.members.reserve(1)?;
-        let origin = Origin::Site(opened.site());
+        let origin = Origin::Site(site);
         let speakers = Speakers {
             handle: self.noting.speaker(origin)?,
             threads: self.noting.speaker(origin)?,
         };
         let dial = TcpDial::new(self.rt, ports.pairs(self.alloc)?);
-        let (rt, topology) = (self.rt, self.topology);
-        let member = start_threads(rt, self.alloc, topology, opened, listen, dial, speakers)?;
-        self.members.push_reserved(member);
-        Ok(())
+        Ok((speakers, dial))
     }
 
     /// Listens for all sites. Where a port is taken and a journal can't be made, the journal is named.

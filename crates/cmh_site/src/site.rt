@@ -1,8 +1,8 @@
 //! The command `site`: one site, driven by the lines of an input.
 
 ghost use Rattle.std.specs.Prelude.{◌≡◌, ◌≢◌, ◌≤◌, ◌⊎◌, [], length, true, false, IfOk, IfErr, IfSome, MatchBool, OnOk};
-ghost use Rattle.cmh_files.specs.Faults.{IsAnswerFault, IsPlayFault, NamesFault};
-ghost use Rattle.cmh_files.specs.Status.{IsStatus};
+ghost use Rattle.cmh_console.specs.Faults.{IsAnswerFault, IsPlayFault, NamesFault};
+ghost use Rattle.cmh_console.specs.Status.{IsStatus};
 ghost use Rattle.cmh_running.specs.Dialogue.{Conversed, line_of};
 ghost use Rattle.cmh_links.specs.Threads.{connected_in, failed_in};
 ghost use Rattle.cmh_site.specs.Endings.{IsSiteFault, Served, Welcomed};
@@ -12,7 +12,9 @@ ghost use Rattle.cmh_site.specs.Together.{SaidTurn, SaysEvent};
 ghost use Rattle.cmh_station.specs.Journaled.{batch_limit};
 
 use cmh_carriers::{Dial, TcpDial};
-use cmh_files::{Fault, read_topology_file_with_ports};
+use cmh_console::{
+    Ahead, Fault, Input, NextLine, Output, read_line, read_topology_file_with_ports,
+};
 use cmh_frames::{SiteId, Topology};
 use cmh_host::{
     Running, RunningSite, SiteHandle, SiteReply, SiteSetup, SiteStart, System, answer_events,
@@ -22,7 +24,6 @@ use cmh_journal::Sink;
 use cmh_model::Event;
 use cmh_notes::{NoVoice, Noting, Voice};
 use cmh_running::{EventLine, Flow, JournalSink, Order, Ports, SiteLine, parse_for_site};
-use cmh_script::{Ahead, Input, NextLine, Output, read_line};
 use cmh_station::{BATCH_LIMIT, KeptBoard, Listing};
 use std::alloc::{AllocError, Global};
 use std::fs::File;

@@ -1,3 +1,7 @@
 pub mod Rests
 pub mod Counted
 pub mod Unchecked
+mod LengthLemmas
+mod ReadLemmas
+mod StopLemmas
+mod WalkLemmas

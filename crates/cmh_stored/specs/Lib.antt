@@ -1,1 +1,3 @@
-pub mod Spelled
+pub mod Inner
+pub mod Readings
+pub mod Stops

@@ -27,9 +27,8 @@ claimed (Some (Closed fault)) = Some (Closed fault)
 -- a link that is not closed closes with this fault
 abbrev pub closed : LinkFault → Option LinkState → Option LinkState
 closed fault None = None
-closed fault (Some Fresh) = Some (Closed fault)
-closed fault (Some Running) = Some (Closed fault)
 closed fault (Some (Closed earlier)) = Some (Closed earlier)
+closed fault (Some state) = Some (Closed fault)
 
 -- the first row of the site
 abbrev pub IsPlace : List (ℕ × LinkState) → ℕ → Option ℕ → Type 0

@@ -1,6 +1,6 @@
 -- An event keeps what holds of a world.
 use Rattle.std.proofs.Common.{◌≡◌, ◌≢◌, ◌⊎◌, ℕ, ◌+◌, Bool, true, false, not, ◌&&◌, ◌||◌, List, [], ◌∷◌, ◌++◌, if◌then◌else◌, refl, sym, ap, ◌∙◌, subst, inl, inr, true≢false, Some, arith, append_assoc, append-nil}
-use Rattle.std.proofs.lemmas.Bool.{eq-eqb, ne_eqb, and_parts, or_cases, cases_eq, cases_Bool, false_from_ne_true}
+use Rattle.std.proofs.lemmas.Bool.{eq-eqb, ne_eqb, and_parts, or_cases, cases_eq, cases_Bool, false_from_ne_true, or_right}
 use Rattle.cmh_model.proofs.Choices.{and_yes}
 use Rattle.cmh_frames.specs.declared.frame.Frame.{Frame}
 use Rattle.cmh_frames.specs.declared.frame.Frame.TheVariants.{Request, Reply as Reply_frame, Probe}
@@ -198,11 +198,7 @@ module _ (t : Topology) (w : World) (e : WorldEvent) (n : World) (inv : Invarian
       let no_grant : grants q p e.entry.event ≡ false = false_from_ne_true _ (λ g.
       let means = grants_means t e.site (w.value e.site) e.entry.event p q st.accepted g in
       true≢false (sym (subst (λ z. is_blocked (w.value z) q ≡ true) (one_place t q b.0 e.site b.1 means.0) b.2) ∙ means.1)) in
-      st.waits p q ∙ ap (λ z. asks_for p q e.entry.event || (not z && w.wait p q)) no_grant ∙ or_yes (asks_for p q e.entry.event) (w.wait p q) h
-    where
-      or_yes : (x y : Bool) → y ≡ true → (x || y) ≡ true
-      or_yes true y h = refl
-      or_yes false y h = h
+      st.waits p q ∙ ap (λ z. asks_for p q e.entry.event || (not z && w.wait p q)) no_grant ∙ or_right (asks_for p q e.entry.event) (w.wait p q) h
 
   -- a path to a blocked process stays
   pub path_kept : (p : ℕ) (members : List ℕ) (q : ℕ) → IsPath (Waiting w) p members q → BlockedAt t w inv q → IsPath (Waiting n) p members q

@@ -13,5 +13,5 @@ loop-row-preserved c =
     (sym c.in_ok-push.ensures.items)
     (columns_more (λ site. length (journal_of c.args.journals.now site)) c.sites-site-items.result.now (sites_of c.args.topology.now) c.sites-site-items.ensures.value
     c.loop-row.row c.site-item.result c.loop-row.all.items c.in_ok-columns.columns c.loop-row-test.true c.site-item.is c.loop-row.invariant
-    (c.in_ok-columns.ensures.length ∙ ap (λ (l : List Entry). length l) c.entries_of-count.ensures.value)
+    (c.in_ok-columns.ensures.length ∙ ap (λ (l : List Entry). length l) c.entries_at-count.ensures.value)
     c.in_ok-columns.ensures.ascending)

@@ -14,13 +14,13 @@ returns-clause-audits c =
     let checked : c.deref-2.result.now ≡ journals = search rules in
     let audited : c.deref-3.result.now ≡ journals = search rules in
     let set : IsSet world journals = subst (λ (js : List Journal). IsSet world js) checked (c.check_set.ensures.ok.0 (subst IsOk (sym c.in_ok-check_set.was) refl)) in
-    let verdict_is : IsVerdictOn world journals c.in_ok-verdict.verdict = subst (λ (js : List Journal). IsVerdictOn world js c.in_ok-verdict.verdict) audited (record {
-      accepted = c.in_ok-verdict.ensures.accepted;
-      report = c.in_ok-verdict.ensures.report;
-      order = c.in_ok-verdict.ensures.order;
-      counted = c.in_ok-verdict.ensures.events;
-      stops = c.in_ok-verdict.ensures.stops;
-      tries = c.in_ok-verdict.ensures.tries;
+    let verdict_is : IsVerdictOn world journals c.in-Ok.verdict = subst (λ (js : List Journal). IsVerdictOn world js c.in-Ok.verdict) audited (record {
+      accepted = c.in-Ok.ensures.accepted;
+      report = c.in-Ok.ensures.report;
+      order = c.in-Ok.ensures.order;
+      counted = c.in-Ok.ensures.events;
+      stops = c.in-Ok.ensures.stops;
+      tries = c.in-Ok.ensures.tries;
     }) in
     let read = c.in_ok-journals.ensures.read in
     record {
@@ -33,7 +33,7 @@ returns-clause-audits c =
         read = read;
         set = set;
         verdict_is = verdict_is;
-        headline = c.headline_law.ensures.headline _ journals read.tails c.in_ok-verdict.verdict read.are_files set verdict_is;
+        headline = c.headline_law.ensures.headline _ journals read.tails c.in-Ok.verdict read.are_files set verdict_is;
       };
       world_is = refl;
       journals_are = refl;

@@ -2,7 +2,7 @@ use Rattle.std.proofs.Common.{◌≡◌, ◌++◌, ◌∷◌, [], ℕ, List, Vec
 use Rattle.std.specs.Global.{Global}
 use Rattle.cmh_journal.specs.File.{IsFileOf, IsFault}
 use Rattle.cmh_files.specs.Audits.{cut_of, IsFaultOfFiles}
-use Rattle.cmh_files.specs.declared.faults.Fault.{Fault}
+use Rattle.cmh_console.specs.declared.faults.Fault.{Fault}
 use Rattle.cmh_files.proofs.FileLemmas.{fault-found, read-more, read-same}
 use Rattle.cmh_files.proofs.auditing.read_journals.Goals as goal
 use Rattle.cmh_files.proofs.auditing.read_journals.Goals.{in-Cut+in_ok-push-in-Ok, in_default}

@@ -5,7 +5,7 @@ use Rattle.cmh_journal.specs.Journal.{Journal}
 use Rattle.cmh_audit.specs.Stops.{AreStops}
 use Rattle.cmh_audit.specs.Verdicts.{IfRefused}
 use Rattle.cmh_files.specs.Explains.{AreReasons}
-use Rattle.cmh_files.proofs.TextLemmas.{appends-kept}
+use Rattle.std.proofs.KnownBytes.{Appends-kept}
 use Rattle.cmh_files.proofs.explaining.explain_into.Goals as goal
 
 pub explained_text-requires : goal.explained_text-requires
@@ -25,10 +25,10 @@ returns-clause-wrote g c =
       cuts = c.in_ok-audited.audited.cuts.items;
       verdict = verdict;
       audits = of.audits;
-      status_is = c.status_of-status.ensures;
+      status_is = c.status-status.ensures;
       reasons = told.0;
       are_reasons = subst (λ (world : Topology). AreReasons world of.audits.journals verdict told.0) (sym of.world_is)
           (subst (λ (js : List Journal). AreReasons c.in_ok-audited.audited.world js verdict told.0) (sym of.journals_are) told.1);
       wrote = subst (λ (text : List ℕ). Appends c.args.out.now.written c.flush.new.self.written text)
-          (c.as_str.ensures.value ∙ told.2) (appends-kept _ _ _ _ c.in_ok-write_text.ensures.bytes c.flush.ensures.bytes);
+          (c.as_str.ensures.value ∙ told.2) (Appends-kept _ _ _ _ c.in_ok-write_text.ensures.bytes c.flush.ensures.bytes);
     }

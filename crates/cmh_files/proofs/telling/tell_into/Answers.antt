@@ -7,7 +7,7 @@ use Rattle.cmh_audit.specs.Journals.{journal_of}
 use Rattle.cmh_audit.specs.Set.{IsSet}
 use Rattle.cmh_audit.specs.Verdicts.{IsAccepted}
 use Rattle.cmh_files.specs.RunAudits.{AreStepsToTell, run_text}
-use Rattle.cmh_files.proofs.TextLemmas.{appends-kept, appends-more}
+use Rattle.std.proofs.KnownBytes.{Appends-kept, Appends-trans}
 use Rattle.cmh_files.proofs.telling.tell_into.Goals as goal
 
 pub steps_of-requires-clause-set : goal.steps_of-requires-clause-set
@@ -29,20 +29,20 @@ returns-clause-wrote g c =
     let edition = c.in_ok-audited.audited.edition in
     let cuts = c.in_ok-audited.audited.cuts.items in
     let verdict = c.in_ok-audited.audited.verdict in
-    let steps = c.in_ok-steps.steps.items in
+    let steps = c.in-Ok.steps.items in
     let journals = c.deref-2.ensures.value ∙ c.in_ok-listed.ensures ∙ c.deref.ensures.value ∙ sym of.journals_are in
     let first = c.as_str.ensures.value ∙ c.in_ok-text.ensures in
     let lines = ap (λ (js : List Journal). run_text js c.deref-3.result.now) journals ∙ ap (run_text of.audits.journals) c.deref-3.ensures.value in
-    let both = appends-more _ _ _ _ _ c.in_ok-write_text.ensures.bytes c.in_ok-write_text-2.ensures.bytes in
+    let both = Appends-trans _ _ _ _ _ c.in_ok-write_text.ensures.bytes c.in_ok-write_text-2.ensures.bytes in
     record {
       edition = edition;
       cuts = cuts;
       verdict = verdict;
       audits = of.audits;
-      status_is = c.status_of-status.ensures;
+      status_is = c.status-status.ensures;
       steps = steps;
       are_steps = subst (λ (world : Topology). AreStepsToTell world of.audits.journals verdict steps) (sym of.world_is)
-          (subst (λ (js : List Journal). AreStepsToTell c.in_ok-audited.audited.world js verdict steps) (sym of.journals_are) c.in_ok-steps.ensures);
+          (subst (λ (js : List Journal). AreStepsToTell c.in_ok-audited.audited.world js verdict steps) (sym of.journals_are) c.in-Ok.ensures);
       wrote = subst₂ (λ (a b : List ℕ). Appends c.args.out.now.written c.flush.new.self.written (a ++ b))
-          first lines (appends-kept _ _ _ _ both c.flush.ensures.bytes);
+          first lines (Appends-kept _ _ _ _ both c.flush.ensures.bytes);
     }

@@ -1,5 +1,5 @@
 use Rattle.std.specs.Prelude.{string_bytes}
-use Rattle.cmh_files.proofs.TextLemmas.{appends-kept}
+use Rattle.std.proofs.KnownBytes.{Appends-kept}
 use Rattle.cmh_picture.proofs.drawing.draw_into.Goals as goal
 
 pub returns-clause-wrote : goal.returns-clause-wrote
@@ -9,5 +9,5 @@ returns-clause-wrote g c =
       text = string_bytes c.in_ok-text.text;
       draws = c.in_ok-picture.ensures.draws;
       is_drawn = c.in_ok-text.ensures;
-      wrote = appends-kept _ _ _ _ c.in_ok-write_text.ensures.bytes c.flush.ensures.bytes;
+      wrote = Appends-kept _ _ _ _ c.in_ok-write_text.ensures.bytes c.flush.ensures.bytes;
     }

@@ -2,7 +2,7 @@ use Rattle.std.proofs.Common.{inl, inr, refl, ◌∙◌}
 use Rattle.cmh_play.proofs.KeptPlays.{kept_fault, played_to_end, unanswered_err, unanswered_fault_err}
 use Rattle.cmh_play.proofs.LinesLed.{led_begun, led_more}
 use Rattle.cmh_play.proofs.Plays.{answered_all, answered_err, answered_some, endless_lines, read_err}
-use Rattle.cmh_files.specs.declared.faults.Fault.TheVariants.{Input}
+use Rattle.cmh_console.specs.declared.faults.Fault.TheVariants.{Input}
 use Rattle.cmh_play.proofs.play.answer_all.Goals as goal
 
 pub loop-turn-init : goal.loop-turn-init

@@ -12,10 +12,10 @@ loop-site-preserved c =
     let js = c.args.journals.now in
     let stops = c.args.stops.now in
     let stop = c.loop-site-item.result in
-    let e = c.index-journal_of-number.result in
+    let e = c.index-entries_at-number.result in
     let i = c.loop-site.site-index in
     let one = stop_listed stops i stop c.loop-site-test.true c.loop-site-item.is in
-    let read = entry_read t js stops stop.0 stop.1 c.journal_of.result.now e c.requires one c.journal_of.ensures c.index-journal_of-number.is in
+    let read = entry_read t js stops stop.0 stop.1 c.entries_at.result.now e c.requires one c.entries_at.ensures.value c.index-entries_at-number.is in
     let line = is_line t js stops stop c.in_ok-reason.reason e c.in_ok-reason.ensures read.stands in
     let lines = lines_push t js stops (take i stops) (string_bytes c.loop-site.text) stop (line_text stop c.in_ok-reason.reason e) c.loop-site.invariant line in
     subst (λ (l : List (ℕ × ℕ)). AreReasonLines t js stops l (string_bytes c.write.new.self)) (sym (take_next stops i stop c.loop-site-test.true c.loop-site-item.is))

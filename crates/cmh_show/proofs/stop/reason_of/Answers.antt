@@ -13,8 +13,8 @@ returns-in-Some c =
     let s = c.args.site in
     let js = c.args.journals.now in
     let stops = c.args.stops.now in
-    let e = c.index-journal_of-number.result in
-    let read = entry_read t js stops s c.args.number c.journal_of.result.now e c.requires.stops c.requires.one c.journal_of.ensures c.index-journal_of-number.is in
+    let e = c.index-entries_at-number.result in
+    let read = entry_read t js stops s c.args.number c.entries_at.result.now e c.requires.stops c.requires.one c.entries_at.ensures.value c.index-entries_at-number.is in
     let fault = subst (λ (found : Option Reason). MatchOption found (Makes t s (value t s c.before_stop-before.result.now) e.event e.sent e.declared)
     (IsOwnFault t s (value t s c.before_stop-before.result.now) e)) c.in-Some.is c.in_ok-fault.ensures in
     let held = subst (λ (l : List Entry). IsOwnFault t s (value t s l) e c.in-Some.fault) c.before_stop-before.ensures fault in
@@ -26,8 +26,8 @@ unreachable-requires c =
     let s = c.args.site in
     let js = c.args.journals.now in
     let stops = c.args.stops.now in
-    let e = c.index-journal_of-number.result in
-    let read = entry_read t js stops s c.args.number c.journal_of.result.now e c.requires.stops c.requires.one c.journal_of.ensures c.index-journal_of-number.is in
+    let e = c.index-entries_at-number.result in
+    let read = entry_read t js stops s c.args.number c.entries_at.result.now e c.requires.stops c.requires.one c.entries_at.ensures.value c.index-entries_at-number.is in
     let made = subst (λ (found : Option Reason). MatchOption found (Makes t s (value t s c.before_stop-before.result.now) e.event e.sent e.declared)
     (IsOwnFault t s (value t s c.before_stop-before.result.now) e)) c.in_default.is c.in_ok-fault.ensures in
     let makes = subst (λ (l : List Entry). Makes t s (value t s l) e.event e.sent e.declared) c.before_stop-before.ensures made in
@@ -41,8 +41,8 @@ returns c =
     let js = c.args.journals.now in
     let stops = c.args.stops.now in
     let from = c.in-Got.from in
-    let e = c.index-journal_of-number.result in
-    let read = entry_read t js stops s c.args.number c.journal_of.result.now e c.requires.stops c.requires.one c.journal_of.ensures c.index-journal_of-number.is in
+    let e = c.index-entries_at-number.result in
+    let read = entry_read t js stops s c.args.number c.entries_at.result.now e c.requires.stops c.requires.one c.entries_at.ensures.value c.index-entries_at-number.is in
     let made = subst (λ (found : Option Reason). MatchOption found (Makes t s (value t s c.before_stop-before.result.now) e.event e.sent e.declared)
     (IsOwnFault t s (value t s c.before_stop-before.result.now) e)) c.in_default.is c.in_ok-fault.ensures in
     let makes = subst (λ (l : List Entry). Makes t s (value t s l) e.event e.sent e.declared) c.before_stop-before.ensures made in

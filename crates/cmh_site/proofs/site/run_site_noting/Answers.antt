@@ -1,4 +1,4 @@
-use Rattle.cmh_files.specs.declared.faults.Fault.TheVariants.{Memory}
+use Rattle.cmh_console.specs.declared.faults.Fault.TheVariants.{Memory}
 use Rattle.cmh_site.proofs.site.run_site_noting.Goals as goal
 
 pub returns-in-Err-clause-status : goal.returns-in-Err-clause-status

@@ -1,6 +1,6 @@
 use Rattle.std.proofs.Common.{rules}
 use Rattle.std.proofs.Output.{has_written_append, has_written_of_eq}
-use Rattle.cmh_show.proofs.ListLemmas.{texts_written}
+use Rattle.cmh_frames.proofs.ListLemmas.{texts_written}
 use Rattle.cmh_host.specs.SiteReplies.{ends_text}
 use Rattle.cmh_host.proofs.site_reply.LinkLinesDisplay.fmt.Goals as goal
 

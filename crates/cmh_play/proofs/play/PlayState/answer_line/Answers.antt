@@ -1,5 +1,5 @@
 use Rattle.std.proofs.Common.{Bool, subst}
-use Rattle.cmh_files.proofs.TextLemmas.{appends-kept}
+use Rattle.std.proofs.KnownBytes.{Appends-kept}
 use Rattle.cmh_play.proofs.KeptPlays.{unkept_err}
 use Rattle.cmh_play.specs.PlayStates.{PlayState}
 use Rattle.cmh_play.specs.Play.{Replies}
@@ -20,7 +20,7 @@ returns-clause-answers g c = λ state shown of.
           reply = c.in_ok-reply.reply;
           says = c.in_ok-said.ensures;
           replies = later.holds;
-          wrote = appends-kept _ _ _ _ c.in_ok-write_reply.ensures.bytes c.in_ok-flush_awaited.ensures.bytes;
+          wrote = Appends-kept _ _ _ _ c.in_ok-write_reply.ensures.bytes c.in_ok-flush_awaited.ensures.bytes;
         };
         keeps = c.in_ok-keep_for.ensures.kept later.state later.shows;
       };

@@ -1,6 +1,7 @@
 use Rattle.std.proofs.Common.{subst, sym}
 use Rattle.cmh_ring.specs.Backlogs.{seen}
-use Rattle.cmh_ring.specs.Links.{ArePaired, IsTapOf, Links, Through}
+use Rattle.std.specs.List.{AllZip}
+use Rattle.cmh_ring.specs.Links.{IsTapOf, Links, Through}
 use Rattle.cmh_ring.proofs.Paired.{at_each_paired, firsts_fields, firsts_seen, paired_at_each}
 use Rattle.cmh_ring.proofs.links.Links.look_through.Goals as goal
 
@@ -9,7 +10,7 @@ look_through_each-requires c =
     let links = c.self.inside.links.items in
     let taps = c.args.taps.now.items in
     paired_at_each (λ a b. IsTapOf (seen a) b) links taps
-    (firsts_fields IsTapOf links taps (subst (λ (ls : Links). ArePaired IsTapOf ls.each taps) (sym c.self.view_is) c.requires))
+    (firsts_fields IsTapOf links taps (subst (λ (ls : Links). AllZip IsTapOf ls.each taps) (sym c.self.view_is) c.requires))
 
 pub returns : goal.returns
 returns c =

@@ -1,6 +1,7 @@
 use Rattle.std.proofs.Common.{◌≡◌, ◌≤◌, ℕ, vec_len, vec_capacity, length, take, map}
 use Rattle.cmh_ring.specs.Backlogs.{seen}
-use Rattle.cmh_ring.specs.Links.{AreFresh, ArePaired, ends_of}
+use Rattle.std.specs.List.{AllZip}
+use Rattle.cmh_ring.specs.Links.{AreFresh, ends_of}
 use Rattle.cmh_ring.proofs.links.Links.open.Given as goal
 
 abbrev pub invariant-loop-site : goal.invariant-loop-site
@@ -10,5 +11,5 @@ invariant-loop-site l = record {
   room : length l.sites ≤ vec_capacity l.links;
   room_taps : length l.sites ≤ vec_capacity l.taps;
   to : ends_of (map seen l.links.items) ≡ take l.site-index l.sites;
-  fresh : ArePaired (λ a b. AreFresh (seen a) b) l.links.items l.taps.items;
+  fresh : AllZip (λ a b. AreFresh (seen a) b) l.links.items l.taps.items;
 }

@@ -1,5 +1,5 @@
 use Rattle.std.proofs.Common.{subst}
-use Rattle.cmh_ring.specs.Links.{Link, ArePaired, Released}
+use Rattle.cmh_ring.specs.Links.{Link, Released}
 use Rattle.cmh_ring.proofs.Paired.{both_seen}
 use Rattle.cmh_ring.proofs.Refill.{refilled}
 use Rattle.cmh_ring.proofs.links.Links.release.Goals as goal

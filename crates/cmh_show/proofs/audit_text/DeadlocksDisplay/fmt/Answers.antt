@@ -3,8 +3,9 @@ use Rattle.std.specs.Fmt.{decimal}
 use Rattle.std.proofs.Output.{has_written_append, has_written_of_eq, has_written_to_eq}
 use Rattle.std.specs.List.{flat_map}
 use Rattle.cmh_audit.specs.Reports.{cycle_of}
-use Rattle.cmh_show.specs.AuditTexts.{deadlock_text, members_text}
-use Rattle.cmh_show.proofs.ListLemmas.{joined_five, texts_written}
+use Rattle.cmh_frames.specs.Texts.{processes_text}
+use Rattle.cmh_show.specs.AuditTexts.{deadlock_text}
+use Rattle.cmh_frames.proofs.ListLemmas.{joined_five, texts_written}
 use Rattle.cmh_show.proofs.audit_text.DeadlocksDisplay.fmt.Goals as goal
 use Rattle.cmh_show.proofs.audit_text.DeadlocksDisplay.fmt.Goals.{in-Some+in_ok-write, in_default}
 
@@ -22,7 +23,7 @@ loop-process-preserved g c = λ plain.
       | in-Some+in_ok-write w ↦
           let found : cycle_of report process ≡ Some w.in-Some.members.now = w.in-Some.ensures.some in
           let line = has_written_of_eq _ _ _ _ _
-          (joined_five (codes "declared ") (decimal process) (codes " cycle") (members_text w.in-Some.members.now) (codes "\n") ∙ ap (deadlock_text process) (sym found))
+          (joined_five (codes "declared ") (decimal process) (codes " cycle") (processes_text w.in-Some.members.now) (codes "\n") ∙ ap (deadlock_text process) (sym found))
           (w.write.ensures.writes so_far.plain (search rules)) in
           has_written_of_eq _ _ _ _ _ step (has_written_to_eq _ _ _ _ _ w.f-is (has_written_append _ _ _ _ _ _ so_far line))
       | in_default w ↦

@@ -2,7 +2,7 @@ use Rattle.std.proofs.Common.{rules, codes}
 use Rattle.std.specs.Fmt.{decimal}
 use Rattle.std.proofs.Output.{has_written_append, has_written_of_eq}
 use Rattle.cmh_show.specs.AuditTexts.{wait_text}
-use Rattle.cmh_show.proofs.ListLemmas.{joined_five, texts_written}
+use Rattle.cmh_frames.proofs.ListLemmas.{joined_five, texts_written}
 use Rattle.cmh_show.proofs.audit_text.WaitsDisplay.fmt.Goals as goal
 
 pub loop-asker-preserved : goal.loop-asker-preserved

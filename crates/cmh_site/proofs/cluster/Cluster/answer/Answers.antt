@@ -1,5 +1,5 @@
 use Rattle.std.proofs.Common.{refl}
-use Rattle.cmh_files.proofs.TextLemmas.{appends-kept}
+use Rattle.std.proofs.KnownBytes.{Appends-kept}
 use Rattle.cmh_host.specs.SiteReplies.{reply_text}
 use Rattle.cmh_site.proofs.cluster.Cluster.answer.Goals as goal
 
@@ -13,5 +13,5 @@ returns-clause-answers g c = record {
     answers = c.in_ok-reply.ensures.replies;
     text_is = refl;
   };
-  wrote = appends-kept _ _ _ _ c.in_ok-write_text.ensures.bytes c.in_ok-flush.ensures.bytes;
+  wrote = Appends-kept _ _ _ _ c.in_ok-write_text.ensures.bytes c.in_ok-flush.ensures.bytes;
 }

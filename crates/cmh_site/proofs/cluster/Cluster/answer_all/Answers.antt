@@ -1,5 +1,5 @@
 use Rattle.std.proofs.Common.{inr, refl, subst, ◌∙◌}
-use Rattle.cmh_files.specs.declared.faults.Fault.TheVariants.{Input}
+use Rattle.cmh_console.specs.declared.faults.Fault.TheVariants.{Input}
 use Rattle.cmh_running.proofs.Dialogues.{begun, endless_talk, talked_more}
 use Rattle.cmh_running.specs.Dialogue.{HasAnswered, line_of}
 use Rattle.cmh_site.proofs.ClusterEndings.{replied_all, replied_err, replied_fault_err, replied_some, replied_to_end, unread_err}

@@ -1,7 +1,7 @@
 use Rattle.std.proofs.Common.{inr, refl, rules, sym, ◌∙◌}
-use Rattle.cmh_files.specs.declared.faults.Fault.TheVariants.{Input}
+use Rattle.cmh_console.specs.declared.faults.Fault.TheVariants.{Input}
 use Rattle.cmh_running.proofs.Dialogues.{talked_all, talked_fault_err, talked_more, talked_to_end}
-use Rattle.cmh_site.proofs.Waiting.{all_told, answered_line, endless_wait, turn_anew, unread_err, waited_err, waited_failed, waited_some, waits_begin, waits_on}
+use Rattle.cmh_site.proofs.Waiting.{all_told, answered_line, endless_wait, turn_anew, unread_waiting, waited_err, waited_failed, waited_some, waits_begin, waits_on}
 use Rattle.cmh_site.proofs.site.SiteHost.answer_all.Goals as goal
 use Rattle.cmh_site.proofs.site.SiteHost.answer_all.Goals.{in-Ok+in_ok-push-in-Ok+then-len-ge-BATCH_LIMIT+in_ok-answer_waiting-in-Ok, then-len-ge-BATCH_LIMIT-via-then-len-ge-BATCH_LIMIT, then-len-ge-BATCH_LIMIT-via-else-len-ge-BATCH_LIMIT+then-not-has_line, in-Ok+in_ok-push-in-Ok+else-len-ge-BATCH_LIMIT+else-not-has_line, in-Err+in_ok-answer_waiting-in-Err+in_ok-answer-in-Err+in-Awaits}
 
@@ -13,7 +13,7 @@ returns-in_err-next-clause-answers g c = waited_err _ _ _ _ _ _ c.loop-turn.self
 
 pub returns-in_err-next-clause-fault : goal.returns-in_err-next-clause-fault
 returns-in_err-next-clause-fault g c =
-    unread_err _ _ _ _ _ _ c.loop-turn.self.has_connected c.loop-turn.events.items c.loop-turn.turn c.loop-turn.invariant.2 _ _ c.from_residual.result c.in_err-next.field-0.0 c.from_residual.ensures.1 c.in_err-next.ensures.fault
+    unread_waiting _ _ _ _ _ _ c.loop-turn.self.has_connected c.loop-turn.events.items c.loop-turn.turn c.loop-turn.invariant.2 _ _ c.from_residual.result c.in_err-next.field-0.0 c.from_residual.ensures.1 c.in_err-next.ensures.fault
 
 pub returns-in_err-answer_waiting-clause-answers : goal.returns-in_err-answer_waiting-clause-answers
 returns-in_err-answer_waiting-clause-answers g c =

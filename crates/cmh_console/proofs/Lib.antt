@@ -1,0 +1,10 @@
+pub mod LinesSeen
+pub mod WordSplits
+pub mod Numerals
+pub mod Spellings
+pub mod Readings
+pub mod Forms
+pub mod Events
+pub mod Writings
+pub mod JsonLemmas
+pub mod LineLemmas

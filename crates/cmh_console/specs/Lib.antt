@@ -1,0 +1,9 @@
+pub mod Device
+pub mod Lines
+pub mod Words
+pub mod Front
+pub mod Script
+pub mod Faults
+pub mod Status
+pub mod TopologyFile
+pub mod Keeping

@@ -1,0 +1,195 @@
+//! Why a command ends before its work is done.
+
+ghost use Rattle.std.specs.Prelude.{◌≡◌, ◌≢◌, [], ◌∷◌, ◌++◌, Some};
+ghost use Rattle.cmh_console.specs.Device.{Tells};
+ghost use Rattle.cmh_console.specs.Faults as spec;
+ghost use Rattle.cmh_console.specs.Status.{IsStatus};
+
+use crate::device::{Output, WriteFault};
+use crate::lines::LineFault;
+use crate::topology_file::TopologyFileFault;
+use cmh_frames::TopologyFault;
+use cmh_journal::{JournalFault, SetFault};
+use std::alloc::{AllocError, AllocFailed};
+use std::fmt;
+use std::io::Write;
+
+/// Why a command ends before its work is done. Printed, it is the fault's line.
+#[derive(Clone, Copy, Debug, PartialEq, Eq)]
+pub enum Fault {
+    /// The topology file can't be read.
+    TopologyFile,
+    /// The file of a script can't be read.
+    ScriptFile,
+    /// A journal's file can't be made or read back where all sites run in one program.
+    OutFile,
+    /// The file of a journal can't be read, the one at this place in the command, from 1.
+    JournalFile(usize),
+    /// What the topology file holds is not the JSON of a topology.
+    Json,
+    /// The sites of the topology file make no topology.
+    Topology(TopologyFault),
+    /// What the file at this place in the command holds is no journal.
+    Journal(usize, JournalFault),
+    /// The journals are not those of one world.
+    Set(SetFault),
+    /// The site isn't in the topology.
+    Site,
+    /// The journal of a running site can't be made.
+    JournalDisk,
+    /// A site can't listen on its port.
+    Listen,
+    /// The script can't be read.
+    Input,
+    /// The answers can't be written.
+    Output,
+    /// Memory was refused, and no answer can say so.
+    Memory,
+}
+
+impl Fault {
+    /// The status with which the program ends.
+    pub const fn status(self) -> u8
+        ensures status { result ≡ spec.status_of self }
+        ensures ends { IsStatus result }
+        ensures fails { result ≢ 0 }
+    {
+        match self {
+            Fault::Memory => 1,
+            _ => 3,
+        }
+    }
+
+    /// Names the fault on `err`, a write to which may fail, and answers the status with which the program ends.
+    pub fn name_on<E: Write>(self, err: &mut Output<E>) -> u8
+        ensures status { result ≡ spec.status_of self }
+        ensures ends { IsStatus result }
+        ensures fails { result ≢ 0 }
+        ensures named { Tells err.old.written err.new.written err.new.has_failed
+            (spec.fault_text self ++ 10 ∷ []) }
+    {
+        let _ = err.write_line(self);
+        self.status()
+    }
+}
+
+impl fmt::Display for Fault {
+    ghost output = { λ fault. Some (spec.fault_text fault) };
+
+    fn fmt<W: fmt::Write>(&self, f: &mut fmt::Formatter<W>) -> fmt::Result {
+        match self {
+            Fault::TopologyFile => write!(f, "fault file topology"),
+            Fault::ScriptFile => write!(f, "fault file script"),
+            Fault::OutFile => write!(f, "fault file out"),
+            Fault::JournalFile(place) => write!(f, "fault file {place}"),
+            Fault::Json => write!(f, "fault json"),
+            Fault::Topology(fault) => {
+                let number = fault.number();
+                write!(f, "fault topology {number}")
+            }
+            Fault::Journal(place, fault) => {
+                let number = fault.number();
+                write!(f, "fault journal {place} {number}")?;
+                match fault {
+                    JournalFault::BadEntry(offset) => write!(f, " at {offset}"),
+                    _ => Ok(()),
+                }
+            }
+            Fault::Set(fault) => {
+                let number = fault.number();
+                write!(f, "fault set {number}")
+            }
+            Fault::Site => write!(f, "fault site"),
+            Fault::JournalDisk => write!(f, "fault journal disk"),
+            Fault::Listen => write!(f, "fault listen"),
+            Fault::Input => write!(f, "fault input"),
+            Fault::Output => write!(f, "fault output"),
+            Fault::Memory => write!(f, "fault memory"),
+        }
+    }
+}
+
+impl From<AllocError> for Fault {
+    ghost use Rattle.cmh_console.specs.declared.faults.Fault.TheVariants.{Memory};
+
+    ghost from_gives = { λ _ fault. fault ≡ Memory };
+
+    fn from(_: AllocError) -> Fault {
+        Fault::Memory
+    }
+}
+
+impl<T: Drop> From<AllocFailed<T>> for Fault {
+    ghost use Rattle.cmh_console.specs.declared.faults.Fault.TheVariants.{Memory};
+
+    ghost from_gives = { λ _ fault. fault ≡ Memory };
+
+    fn from(_: AllocFailed<T>) -> Fault {
+        Fault::Memory
+    }
+}
+
+impl From<TopologyFileFault> for Fault {
+    ghost from_gives = { λ lower fault. fault ≡ spec.of_file lower };
+
+    fn from(fault: TopologyFileFault) -> Fault {
+        match fault {
+            TopologyFileFault::Json => Fault::Json,
+            TopologyFileFault::Memory => Fault::Memory,
+        }
+    }
+}
+
+impl From<TopologyFault> for Fault {
+    ghost from_gives = { λ lower fault. fault ≡ spec.of_topology lower };
+
+    fn from(fault: TopologyFault) -> Fault {
+        match fault {
+            TopologyFault::Memory => Fault::Memory,
+            _ => Fault::Topology(fault),
+        }
+    }
+}
+
+impl From<LineFault> for Fault {
+    ghost from_gives = { λ lower fault. fault ≡ spec.of_line lower };
+
+    fn from(fault: LineFault) -> Fault {
+        match fault {
+            LineFault::Input => Fault::Input,
+            LineFault::Memory => Fault::Memory,
+        }
+    }
+}
+
+impl From<WriteFault> for Fault {
+    ghost use Rattle.cmh_console.specs.declared.faults.Fault.TheVariants.{Output};
+
+    ghost from_gives = { λ _ fault. fault ≡ Output };
+
+    fn from(_: WriteFault) -> Fault {
+        Fault::Output
+    }
+}
+
+impl From<SetFault> for Fault {
+    ghost use Rattle.cmh_console.specs.declared.faults.Fault.TheVariants.{Set};
+
+    ghost from_gives = { λ lower fault. fault ≡ Set lower };
+
+    fn from(fault: SetFault) -> Fault {
+        Fault::Set(fault)
+    }
+}
+
+impl Fault {
+    /// The fault of the journal at this place in the command.
+    pub fn of_journal(place: usize, fault: JournalFault) -> Fault
+        ensures { result ≡ spec.of_journal place fault }
+    {
+        match fault {
+            JournalFault::Memory => Fault::Memory,
+            _ => Fault::Journal(place, fault),
+        }
+    }
+}

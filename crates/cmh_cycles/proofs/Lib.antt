@@ -1,0 +1,6 @@
+pub mod BitLemmas
+pub mod RowLemmas
+pub mod Members
+pub mod GraphLemmas
+pub mod LevelLemmas
+pub mod CycleLemmas

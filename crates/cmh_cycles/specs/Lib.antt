@@ -1,0 +1,5 @@
+pub mod Cycles
+pub mod FoundCycles
+pub mod Graphs
+pub mod Rows
+pub mod Inner

@@ -1,4 +1,0 @@
-mod LengthLemmas
-mod ReadLemmas
-mod StopLemmas
-mod WalkLemmas

@@ -1,0 +1,358 @@
+//! What `--help` prints after the words of a command: the language, the numbers and the statuses.
+
+use cmh_controller::Refusal;
+use cmh_frames::TopologyFault;
+use cmh_journal::{JournalFault, SetFault};
+use std::alloc::{AllocError, Global};
+use std::fmt;
+
+const SCRIPT: &str = "\
+Lines of a script, by words; a line that fits none is answered `bad line`:
+  # ..           a comment; it and an empty line have no answer
+  edition N      the rules, 1 or 2, before the first site
+  site S P..     a site and its processes, before the first command
+  ask J K..      process J asks for what others hold, and waits for all of them
+  reply J K      process J grants what it holds to K, which asked for it
+  start J        a computation looks for a deadlock of process J
+  deliver A B    hands over the oldest frame from site A to site B
+  cut A B        cuts the link from site A to site B; what is under way is lost
+  report         audits the journals of all sites as they stand
+";
+
+const PLAY_STATUSES: &str = "\
+With --journals DIR the journal of each site N is written to DIR/site-N.cmhj, at each report and at the end.
+
+Statuses: 0 at the script's end, 1 where memory ran out, 2 for a command line that isn't understood, 3 at another
+fault, which is named on standard error: `fault input`, `fault output`, `fault file out` (a journal can't be written).
+
+Example: printf 'site 1 1 2\\nask 1 2\\nask 2 1\\nstart 1\\nreport\\n' | cmh play
+";
+
+const SITE_LINES: &str = "\
+Lines of standard input; a line that fits none is answered `bad line`, and each is answered before the next is awaited:
+  # ..           a comment; it and an empty line have no answer
+  ask J K..      process J of this site asks for what others hold, and waits for all of them
+  reply J K      process J of this site grants what it holds to K, which asked for it
+  start J        a computation looks for a deadlock of process J of this site
+  declared       the processes of this site that were found deadlocked
+  connect        opens the links to all other sites, which should be listening; once. With `--patience S` it tries those
+                 that don't listen yet again, for S seconds in all
+  links          the state of each link: `new`, `open` or `closed N`
+  quit           ends the site, as the end of the input does
+
+The first line that it prints is `listening`, the last one `stopped`. An answer `ok` comes after its entry is in the
+journal and synced, so the journal can be audited whenever and however the site ends. Up to 64 lines that are written
+ahead of their answers share a sync. The journal is locked until the site ends: a second site on it, and one whose
+journal is no regular file, ends with `fault journal disk`.
+";
+
+const SERVE_LINES: &str = "\
+Lines that clients send; a line that fits none is answered `bad line`:
+  ask J K..      process J of this site asks for what others hold, and waits for all of them
+  reply J K      process J of this site grants what it holds to K, which asked for it
+  start J        a computation looks for a deadlock of process J of this site
+  declared       the processes of this site that were found deadlocked
+  links          the state of each link: `new`, `open` or `closed N`
+  waits J        `waits J K..`: for whom process J of this site waits
+  owed K         `owed K J..`: whose requests process K of this site has not answered
+  watch          `ok`, and from then on a line `! declared J` for each declaration, those of before first
+  status         the entries of the journal, the room for more, the declarations, the clients, the open links, and whether
+                 the journal is sealed
+  quit           ends the connection
+
+A client may send lines ahead of its answers; each is answered once, in its order. An answer `ok` comes after its entry
+is in the journal and synced. Events of all clients that wait at the same time share a sync, up to 64. At most 256
+clients are served at once, and one for which over a mebibyte waits unread is closed.
+
+The site connects to the others by itself. It prints `listening` once both its ports stand, and notes on standard error
+what it notices, unless --quiet is given. It ends at SIGTERM or SIGINT, and its journal can be audited at any time.
+";
+
+const CLUSTER_LINES: &str = "\
+Lines of the script; a line that fits none is answered `bad line`:
+  # ..           a comment; it and an empty line have no answer
+  ask J K..      process J asks for what others hold, and waits for all of them
+  reply J K      process J grants what it holds to K, which asked for it
+  start J        a computation looks for a deadlock of process J
+  declared S     the processes of site S that were found deadlocked
+
+After the script it prints `link A B closed N` for each link that had closed, and then the audit.
+Each link takes two open files, so N sites take about 2 N N. The usual limit of 1,024 open files is enough for some 20
+sites, and `ulimit -n 20000` for all 64.
+
+The journals are made anew in place of those of an earlier run. Where a site still writes to one of them, none is touched:
+that is `fault file out`.
+";
+
+const LINK_FAULTS: &str = "\
+Why a link is closed, as in `closed 5`:
+   1  it could not be connected
+   2  a read failed
+   3  a write failed
+   4  its bytes are no frames, or a frame was unlawful
+   5  its other end has ended
+   6  memory or a thread was refused
+   7  the station takes no more steps
+";
+
+const NOTES: &str = "\
+With --notes a line on standard error, at most ten a second, for each of these (`note at S ..` in a cluster):
+  note out S closed N, note in S closed N            a link closed, for the reason N
+  note refused a hello of site S: its link is X      a connection of a site whose link isn't new
+  note refused a hello of no other site              a connection of nobody in the topology, or of another edition
+  note closed a connection without a hello           30 seconds after it came
+  note turned a connection away                      256 stand
+  note accepting ended                               no connection can come any more
+  note no thread for a connection, note no thread for the link to S
+  note the journal is sealed                         it can't be written, and no more steps are taken
+  note kept the old journal as .N                    under the journal's name with .N behind
+  note left out N                                    so many more were noticed in a second
+";
+
+const SITE_STATUSES: &str = "\
+Statuses: 0 at the end, 1 where memory ran out, 2 for a command line that isn't understood, 3 at a fault, which is named
+on standard error: `fault file topology`, `fault json`, `fault topology N`, `fault site` (it isn't in the topology),
+`fault journal disk`, `fault listen` (its port is taken), `fault input`, `fault output`.
+
+Example: (echo connect; echo ask 1 2; cat) | cmh site --topology world.json --site 1 --journal one.cmhj
+";
+
+const SERVE_STATUSES: &str = "\
+Statuses: 1 where memory ran out, 2 for a command line that isn't understood, 3 at a fault, which is named on standard
+error: `fault file topology`, `fault json`, `fault topology N`, `fault site` (it isn't in the topology),
+`fault journal disk`, `fault listen` (one of its ports is taken), `fault output`.
+
+Example: cmh serve --topology world.json --site 1 --journal one.cmhj --port 7100
+Then, as a client: printf 'ask 1 2\\nwaits 1\\n' | nc 127.0.0.1 7100
+";
+
+const CLUSTER_STATUSES: &str = "\
+Statuses: 0 accepted, 1 refused, out of memory, or `not settled` (frames were under way and none came within 10 seconds),
+2 for a command line that isn't understood, 3 at a fault, which is named on standard error: `fault file P` (P is
+`topology`, `script` or `out`), `fault json`, `fault topology N`, `fault listen` (a port is taken), `fault journal P N`,
+`fault output`.
+
+Example: cmh cluster --topology world.json --script asks --out journals
+";
+
+const AUDIT_REASONS: &str = "\
+With --why a line for each stop follows the stops, `why S at N REASON in ENTRY`, where REASON is
+  refused R                     the site's controller refuses the event, with this number
+  differs sent P due F to B     the frame that it records as its P-th is not the one that the rules send, or `due nothing`
+  differs declared due I        the process that it records as declared is not this one, or `due nobody`
+  waits next F from A           the frame that it got is not the next of its link, which is F, or `next nothing`, where
+                                site A has sent no more up to its own stop
+";
+
+const AUDIT_RUN: &str = "\
+With --run a line for each entry follows an accepted report, in the order of one run that the journals come from:
+  S N ENTRY                     entry N of site S, in the words of `cmh show`
+";
+
+const AUDIT_RUNNING: &str = "\
+The sites may run: their journals are then read twice, and cut where all sites might have stopped at one moment.
+";
+
+const AUDIT_STATUSES: &str = "\
+Statuses: 0 accepted, 1 refused or out of memory, 2 for a command line that isn't understood, 3 at a fault, which is
+named on standard error: `fault file P`, `fault json`, `fault topology N`, `fault journal P N`, `fault set N`,
+`fault output`. P is `topology`, or the place of a journal in the command, from 1.
+
+Example: cmh audit --topology world.json --why one.cmhj two.cmhj
+";
+
+const SHOW_LINES: &str = "\
+Of each journal it prints a line `site S edition N`, then a line for each entry, numbered from 1: what happened, each
+frame that was sent, and who was declared:
+  N ask J K..           process J asked, and waits for all of the others
+  N reply J K           process J granted what it holds to K
+  N start J             a computation was started for process J
+  N got F from A        frame F came from site A; F is `request J K`, `reply J K` or `probe I J K`
+  .. sent F to B        after each of these: frame F went to site B, once for each frame that was sent
+  .. declared I         at the end: process I was declared deadlocked
+
+and after the entries, where the file goes on:
+  cut N                 N bytes, less than an entry: a write was cut off
+  bad entry at O        at byte O, counted from 0, are bytes that are no entry; what follows isn't read
+";
+
+const SHOW_STATUSES: &str = "\
+Statuses: 0 where each journal was shown to its end, 1 where one has a bad entry or memory ran out, 2 for a command line
+that isn't understood, 3 at a fault, which is named on standard error: `fault file P`, `fault journal P N`,
+`fault output`. P is the place of a journal in the command, from 1.
+
+Example: cmh show one.cmhj two.cmhj
+";
+
+const DRAW_PICTURE: &str = "\
+The picture of `waits` has a box for each site with its processes, and an arrow from each process that waits at the end
+to each that it waits for; who was declared is drawn as an octagon. That of `run` has a line for each site with its
+entries, and an arrow for each frame from the entry that sent it to the one that got it. The arrow of a frame that
+nobody got has an open end: it was lost, or waits on its link. Where the journals are refused, the entry at which a site
+stops is marked.
+
+Statuses: 0 where a picture was written, 1 where memory ran out, 2 for a command line that isn't understood, 3 at a
+fault, which is named on standard error as in `cmh audit --help`.
+
+Example: cmh draw --topology world.json --kind run one.cmhj two.cmhj > run.svg
+Example: cmh draw --topology world.json --format dot one.cmhj two.cmhj | dot -Tpng > waits.png
+";
+
+const COMMANDS: &str = "\
+`cmh play --help` has the language of scripts, `cmh site --help`, `cmh serve --help` and `cmh cluster --help` that of
+running sites, `cmh audit --help` the faults of files, `cmh show --help` the lines of a journal,
+`cmh draw --help` what stands in its pictures.
+
+Example: cmh play < examples/cycle-over-two-sites.script
+";
+
+const REFUSALS: [Refusal; 9] = [
+    Refusal::UnknownProcess,
+    Refusal::NotHere,
+    Refusal::BadTargets,
+    Refusal::Blocked,
+    Refusal::NotBlocked,
+    Refusal::NotOwed,
+    Refusal::AlreadyDeclared,
+    Refusal::Unlawful,
+    Refusal::Memory,
+];
+
+// Those of a file; when memory runs out `fault memory` is printed, but for a line of a script.
+const TOPOLOGY_FAULTS: [TopologyFault; 4] = [
+    TopologyFault::Limit,
+    TopologyFault::RepeatedSite,
+    TopologyFault::RepeatedProcess,
+    TopologyFault::BadNumber,
+];
+
+const SET_FAULTS: [SetFault; 4] = [
+    SetFault::UnknownSite,
+    SetFault::OtherEdition,
+    SetFault::RepeatedSite,
+    SetFault::MissingSite,
+];
+
+/// What follows the words of each command.
+#[derive(Debug, Drop)]
+pub struct Help {
+    pub play: String,
+    pub site: String,
+    pub serve: String,
+    pub cluster: String,
+    pub audit: String,
+    pub show: String,
+    pub draw: String,
+}
+
+impl Help {
+    /// After the words of `cmh` itself.
+    pub const COMMANDS: &'static str = COMMANDS;
+
+    pub fn new(alloc: Global) -> Result<Help, AllocError> {
+        Ok(Help {
+            play: play(alloc)?,
+            site: running(alloc, SITE_LINES, SITE_STATUSES)?,
+            serve: running(alloc, SERVE_LINES, SERVE_STATUSES)?,
+            cluster: running(alloc, CLUSTER_LINES, CLUSTER_STATUSES)?,
+            audit: audit(alloc)?,
+            show: show(alloc)?,
+            draw: String::from_str(alloc, DRAW_PICTURE)?,
+        })
+    }
+}
+
+fn play(alloc: Global) -> Result<String, AllocError> {
+    let mut text = String::from_str(alloc, SCRIPT)?;
+    write!(text, "\nRefusals, as in `refused 3`:\n")?;
+    refusals(&mut text)?;
+    write!(text, "\nFaults of sites, as in `topology 2`:\n")?;
+    topology_faults(&mut text)?;
+    row(
+        &mut text,
+        TopologyFault::Memory.number(),
+        TopologyFault::Memory,
+    )?;
+    write!(text, "\n{PLAY_STATUSES}")?;
+    Ok(text)
+}
+
+/// Of sites that run: the lines that they are given, refusals, faults of links and statuses.
+fn running(alloc: Global, lines: &str, statuses: &str) -> Result<String, AllocError> {
+    let mut text = String::from_str(alloc, lines)?;
+    write!(text, "\nRefusals, as in `refused 3`:\n")?;
+    refusals(&mut text)?;
+    write!(
+        text,
+        "   9  the journal could not be written, and no more steps are taken\n"
+    )?;
+    write!(text, "  10  the journal can't be written\n")?;
+    write!(text, "\n{LINK_FAULTS}\n{NOTES}\n{statuses}")?;
+    Ok(text)
+}
+
+fn refusals(text: &mut String) -> Result<(), AllocError> {
+    for refusal in REFUSALS {
+        row(text, refusal.number(), refusal)?;
+    }
+    row(text, 12, JournalFault::Full)?;
+    Ok(())
+}
+
+fn audit(alloc: Global) -> Result<String, AllocError> {
+    let mut text = String::from_str(
+        alloc,
+        "Faults of the topology file, as in `fault topology 2`:\n",
+    )?;
+    topology_faults(&mut text)?;
+    write!(
+        text,
+        "\nFaults of journal P, as in `fault journal P 2 at 7`:\n"
+    )?;
+    for fault in [
+        JournalFault::BadHeader,
+        JournalFault::BadEntry(7),
+        JournalFault::Full,
+    ] {
+        row(&mut text, fault.number(), fault)?;
+    }
+    write!(
+        text,
+        "\nFaults of the journals together, as in `fault set 4`:\n"
+    )?;
+    for fault in SET_FAULTS {
+        row(&mut text, fault.number(), fault)?;
+    }
+    write!(
+        text,
+        "\n{AUDIT_RUN}\n{AUDIT_REASONS}\nRefusals, as in `refused 3`:\n"
+    )?;
+    for refusal in REFUSALS {
+        row(&mut text, refusal.number(), refusal)?;
+    }
+    write!(text, "\n{AUDIT_RUNNING}\n{AUDIT_STATUSES}")?;
+    Ok(text)
+}
+
+fn show(alloc: Global) -> Result<String, AllocError> {
+    let mut text = String::from_str(alloc, SHOW_LINES)?;
+    write!(text, "\nFaults of journal P, as in `fault journal P 1`:\n")?;
+    for fault in [JournalFault::BadHeader, JournalFault::Full] {
+        row(&mut text, fault.number(), fault)?;
+    }
+    write!(text, "\n{SHOW_STATUSES}")?;
+    Ok(text)
+}
+
+fn topology_faults(text: &mut String) -> Result<(), AllocError> {
+    for fault in TOPOLOGY_FAULTS {
+        row(text, fault.number(), fault)?;
+    }
+    Ok(())
+}
+
+/// A line of a table: a number and what it stands for.
+fn row<T: fmt::Display + Drop>(text: &mut String, number: u8, what: T) -> Result<(), AllocError> {
+    write!(text, "  {number:>2}  {what}\n")?;
+    Ok(())
+}

@@ -1,8 +1,0 @@
-pub mod LinesSeen
-pub mod WordSplits
-pub mod Numerals
-pub mod Spellings
-pub mod Readings
-pub mod Forms
-pub mod Events
-pub mod Writings

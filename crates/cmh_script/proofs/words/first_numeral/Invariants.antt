@@ -1,5 +1,0 @@
-use Rattle.cmh_script.proofs.Numerals.{Reads}
-use Rattle.cmh_script.proofs.words.first_numeral.Given as goal
-
-abbrev pub invariant-loop-len : goal.invariant-loop-len
-invariant-loop-len l = Reads l.line l.len l.number
