@@ -1,4 +1,2 @@
 pub mod CommandLine
-pub mod Drawing
-pub mod Playing
 pub mod Serving

@@ -6,7 +6,7 @@ use Rattle.cmh_console.specs.declared.faults.Fault.{Fault}
 use Rattle.cmh_console.specs.declared.faults.Fault.TheVariants.{Site}
 use Rattle.cmh_site.specs.ClusterEndings.{ClusterEnds}
 use Rattle.cmh_site.specs.Endings.{IsSiteFault, Served}
-use Rattle.cmh.specs.CommandLine.{IsUnread}
+use Rattle.cmh_commands.specs.Files.{IsUnread}
 
 -- A site of a topology file ended, that read these bytes where they are told: at status 0 it was served to its end, which
 -- was flushed; else a fault is named that has a cause.

@@ -3,9 +3,10 @@
 
 ghost use Rattle.std.specs.Prelude.{◌≡◌, ℕ, Some, codes};
 ghost use Rattle.clap.specs.Matches.{found_of, one_text};
-ghost use Rattle.cmh.specs.CommandLine.{AuditsFiles, AuditsSomehow, ExplainsFiles, IsEnd, IsUnset, ListsFiles, NamesAudit, NamesCluster, NamesDraw, NamesNoFolder, NamesNoReasons, NamesNoRun, NamesNothing, NamesOption, NamesReasons, NamesRun, NamesShow, NamesSite, NamesSiteNumber, ReadsNoInput, ShowsFiles, TellsNumber};
-ghost use Rattle.cmh.specs.Drawing.{DrawsFiles, DrawsSome};
-ghost use Rattle.cmh.specs.Playing.{PlaysAlone, PlaysScript};
+ghost use Rattle.cmh_commands.specs.Drawing.{DrawsFiles, DrawsSome};
+ghost use Rattle.cmh_commands.specs.Files.{AuditsFiles, AuditsSomehow, ExplainsFiles, ListsFiles, ShowsFiles};
+ghost use Rattle.cmh_commands.specs.Playing.{PlaysAlone, PlaysScript};
+ghost use Rattle.cmh.specs.CommandLine.{IsEnd, NamesAudit, NamesCluster, NamesDraw, NamesNoFolder, NamesNoReasons, NamesNoRun, NamesNothing, NamesOption, NamesReasons, NamesRun, NamesShow, NamesSite, NamesSiteNumber, ReadsNoInput, TellsNumber};
 ghost use Rattle.cmh.specs.Serving.{ServesCluster, ServesSite, ServesSome};
 ghost use Rattle.cmh_frames.specs.Number.{IsNumber};
 ghost use Rattle.cmh_draw.specs.Kinds.{kind_word};
@@ -14,22 +15,17 @@ ghost use Rattle.cmh_picture.specs.Formats.{format_word};
 ghost use Rattle.cmh_picture.specs.declared.format.Format as formats;
 ghost use Rattle.cmh_console.specs.Status.{IsStatus};
 
-mod drawing;
-mod files;
-
-use crate::drawing::draw;
-use crate::files::{cluster_files_of, files_of, journals_of, read_file};
 use clap::{ArgMatches, Error, error};
-use cmh_files::{run_audit_run, run_audit_why};
+use cmh_commands::{audit, cluster_files_of, draw, play_into, read_file, show};
 use cmh_frames::SiteId;
 use cmh_options::{
-    AUDIT, CLUSTER, DRAW, Help, JOURNAL, JOURNALS, NOTES, OUT, PATIENCE, PLAY, PORT, QUIET, RUN,
-    SERVE, SHOW, SITE, TOPOLOGY, WHY, command,
+    AUDIT, CLUSTER, DRAW, Help, JOURNAL, JOURNALS, NOTES, OUT, PATIENCE, PLAY, PORT, QUIET, SERVE,
+    SHOW, SITE, TOPOLOGY, command,
 };
 use cmh_service::run_service;
 use cmh_site::{
-    Ahead, Fault, Folder, Input, Noted, Output, SiteStart, System, Voice, run_audit,
-    run_cluster_noting, run_play, run_play_keeping, run_show, run_site_noting,
+    Ahead, Fault, Input, Noted, Output, SiteStart, System, Voice, run_cluster_noting, run_play,
+    run_site_noting,
 };
 use std::fs::File;
 use std::io::{BufRead, BufReader, BufWriter, ErrorKind, Write};
@@ -151,17 +147,14 @@ where
     ensures serves_cluster { NamesCluster matches.now → ServesCluster out.old out.new err.old err.new result }
     ensures reads_nothing { ReadsNoInput matches.now → input.new ≡ input.old }
 {
-    if let Some(audit) = matches.subcommand_matches(AUDIT) {
-        return audit_files(rt, audit, out, err);
+    if let Some(words) = matches.subcommand_matches(AUDIT) {
+        return audit(rt, words, out, err);
     }
     if let Some(words) = matches.subcommand_matches(DRAW) {
         return draw(rt, words, out, err);
     }
     if let Some(words) = matches.subcommand_matches(SHOW) {
-        return match journals_of(rt, words) {
-            Ok(journals) => run_show(rt.alloc(), &journals, out, err),
-            Err(fault) => fault.name_on(err),
-        };
+        return show(rt, words, out, err);
     }
     if let Some(words) = matches.subcommand_matches(SITE) {
         return serve_site(rt, words, input, out, err);
@@ -178,54 +171,6 @@ where
         }
     }
     run_play(rt.alloc(), input, out, err)
-}
-
-/// Audits the files that the words name, and tells the reasons for stops, or a run, where they ask for them.
-fn audit_files<R: AllocGlobal + Files, W: Write, E: Write>(
-    rt: &R,
-    words: &ArgMatches<'_>,
-    out: &mut Output<W>,
-    err: &mut Output<E>,
-) -> u8
-    ensures status { IsStatus result }
-    ensures audits { IsUnset (one_text (found_of words.now) (codes "why"))
-        → IsUnset (one_text (found_of words.now) (codes "run")) → AuditsFiles out.old out.new err.old err.new result }
-    ensures explains { one_text (found_of words.now) (codes "why") ≡ Some (codes "true")
-        → ExplainsFiles out.old out.new err.old err.new result }
-    ensures lists { IsUnset (one_text (found_of words.now) (codes "why"))
-        → one_text (found_of words.now) (codes "run") ≡ Some (codes "true")
-        → ListsFiles out.old out.new err.old err.new result }
-    ensures audits_some { AuditsSomehow out.old out.new err.old err.new result }
-{
-    let files = match files_of(rt, words) {
-        Ok(files) => files,
-        Err(fault) => return fault.name_on(err),
-    };
-    if words.get_flag(WHY) {
-        return run_audit_why(rt.alloc(), &files.topology, &files.journals, out, err);
-    }
-    if words.get_flag(RUN) {
-        return run_audit_run(rt.alloc(), &files.topology, &files.journals, out, err);
-    }
-    run_audit(rt.alloc(), &files.topology, &files.journals, out, err)
-}
-
-/// Plays a script, and keeps its journals in a folder.
-fn play_into<R: AllocGlobal + Files<File = File>, I: BufRead + Ahead, W: Write, E: Write>(
-    rt: &R,
-    path: &str,
-    input: &mut Input<I>,
-    out: &mut Output<W>,
-    err: &mut Output<E>,
-) -> u8
-    ensures status { IsStatus result }
-    ensures plays { PlaysScript input.old input.new out.old out.new err.old err.new result }
-{
-    let alloc = rt.alloc();
-    match Folder::open(rt, path) {
-        Ok(mut folder) => run_play_keeping(alloc, input, out, err, &mut folder),
-        Err(fault) => fault.name_on(err),
-    }
 }
 
 /// Runs the site that the words name.

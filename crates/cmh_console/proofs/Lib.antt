@@ -8,3 +8,4 @@ pub mod Events
 pub mod Writings
 pub mod JsonLemmas
 pub mod LineLemmas
+pub mod Dialogues

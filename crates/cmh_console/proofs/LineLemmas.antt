@@ -64,7 +64,7 @@ module _ (start now : Option (List ℕ)) (n : ℕ) (so_far : (bytes : List ℕ) 
   unread read_failed write_failed NoInput (inr endless) = inr (endless_before endless)
   unread read_failed write_failed NoSpace h = tt
 
-  pub unread_err : (read_failed write_failed : Bool) (r : Result (Unit {0}) Fault) (lower : LineFault) → IsErrAnd r (λ fault. fault ≡ of_line lower) → IsLineFault now read_failed lower
+  pub unread_err : {X : Type 0} → (read_failed write_failed : Bool) (r : Result X Fault) (lower : LineFault) → IsErrAnd r (λ fault. fault ≡ of_line lower) → IsLineFault now read_failed lower
       → IfErr r (IsPlayFault start read_failed write_failed)
   unread_err read_failed write_failed (Ok x) lower is h = tt
   unread_err read_failed write_failed (Err fault) lower is h = subst (IsPlayFault start read_failed write_failed) (sym is) (unread read_failed write_failed lower h)

@@ -6,4 +6,5 @@ pub mod Script
 pub mod Faults
 pub mod Status
 pub mod TopologyFile
+pub mod Dialogue
 pub mod Keeping

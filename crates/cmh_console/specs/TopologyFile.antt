@@ -1,13 +1,14 @@
 -- What the bytes of a topology file say.
 use Rattle.std.specs.Prelude.{◌≡◌, ℕ, ◌==◌, nat_lt, Bool, true, false, ◌||◌, if◌then◌else◌, List, [], ◌∷◌, Option, None, Some, option_and_then, codes, IsUtf8, ⊤, ◌⊎◌}
 use Rattle.std.specs.List.{list_any}
-use Rattle.std.specs.Option.{option_zip}
+use Rattle.std.specs.Option.{option_map, option_zip}
 use Rattle.serde_json.specs.Data.{Num, unsigned, negative, float, Data, Items, no_items, item}
 use Rattle.serde_json.specs.Find.{get, as_array, as_number, as_u64}
 use Rattle.serde_json.specs.Read.{read}
 use Rattle.cmh_frames.specs.declared.edition.Edition.{Edition}
 use Rattle.cmh_frames.specs.declared.edition.Edition.TheVariants.{One, Two}
 use Rattle.cmh_frames.specs.Rows.{Row}
+use Rattle.cmh_frames.specs.Topology.{Topology, IsTopologyOf}
 use Rattle.cmh_console.specs.declared.topology_file.TopologyFileFault.{TopologyFileFault}
 use Rattle.cmh_console.specs.declared.topology_file.TopologyFileFault.TheVariants.{Json, Memory}
 
@@ -20,16 +21,10 @@ whole_of_num (float x) = None
 abbrev pub whole_of : Data → Option ℕ
 whole_of d = option_and_then whole_of_num (as_number d)
 
--- one before others, if all are there
-abbrev pub before : {X : Type 0} → Option X → Option (List X) → Option (List X)
-before None xs = None
-before (Some x) None = None
-before (Some x) (Some xs) = Some (x ∷ xs)
-
 -- each item as it is read, if each can be
 abbrev pub each_of : {X : Type 0} → (Data → Option X) → Items → Option (List X)
 each_of read_one no_items = Some []
-each_of read_one (item d ds) = before (read_one d) (each_of read_one ds)
+each_of read_one (item d ds) = option_map (λ both. both.0 ∷ both.1) (option_zip (read_one d) (each_of read_one ds))
 
 abbrev pub array_in : List ℕ → Data → Option Items
 array_in name d = option_and_then as_array (get name d)
@@ -75,6 +70,17 @@ pub record Says (bytes : List ℕ) (edition : Edition) (rows : List Row) : Type 
   pub value : Data
   pub json : IsJsonOf bytes value
   pub topology : topology_in value ≡ Some (edition, rows)
+
+-- the file says this topology
+pub record SaysTopology (file : List ℕ) (t : Topology) : Type 0 where
+  pub edition : Edition
+  pub rows : List Row
+  pub says : Says file edition rows
+  pub topology_is : IsTopologyOf edition rows t
+
+-- the file says a topology, and this holds of it
+abbrev pub OfTopology : List ℕ → (Topology → Type 0) → Type 0
+OfTopology file Holds = (t : Topology) × SaysTopology file t × Holds t
 
 -- a number stands twice
 abbrev pub has_repeats : List ℕ → Bool

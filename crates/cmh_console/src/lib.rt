@@ -1,8 +1,10 @@
-//! What commands share: the reader and the writer that they are given, the lines of scripts and what they say, the faults
-//! with which they end, the topology file, and the file of a journal that was made in memory.
+//! What commands share: the reader and the writer that they are given; the lines of scripts, what they say, and how
+//! they are answered one after the other; the faults with which commands end; the topology file; and the file of a
+//! journal that was made in memory.
 #![tactic(auto)]
 
 mod device;
+mod dialogue;
 mod faults;
 mod keeping;
 mod lines;
@@ -11,6 +13,7 @@ mod topology_file;
 mod words;
 
 pub use crate::device::{Ahead, Input, Output, Piece, WriteFault};
+pub use crate::dialogue::Flow;
 pub use crate::faults::Fault;
 pub use crate::keeping::{path_in, write_journal};
 pub use crate::lines::{LineFault, MAX_LINE, NextLine, read_line};

@@ -53,20 +53,20 @@ enum Form {
 pub fn parse(alloc: Global, line: &[u8]) -> Result<Line, AllocError>
     ensures { IfOk result (Says line.now) }
 {
-    let mut room = Vec::new(alloc);
-    parse_into(alloc, line, &mut room)
+    let mut spare = Vec::new(alloc);
+    parse_into(alloc, line, &mut spare)
 }
 
-/// The same. The targets of an ask take the memory of `room`, in place of what stands there, and leave it without any.
+/// The same. The targets of an ask take the memory of `spare`, in place of what stands there, and leave it without any.
 /// It is inlined with all that it calls: a line that a call hands back is copied part by part.
 #[inline(always)]
-pub fn parse_into(alloc: Global, line: &[u8], room: &mut Vec<ProcId>) -> Result<Line, AllocError>
+pub fn parse_into(alloc: Global, line: &[u8], spare: &mut Vec<ProcId>) -> Result<Line, AllocError>
     ensures { IfOk result (Says line.now) }
 {
     let Some((form, words)) = front(line) else {
         return Ok(said_without_form(line));
     };
-    match line_of(alloc, form, words, room)? {
+    match line_of(alloc, form, words, spare)? {
         Some(line) => Ok(line),
         None => Ok(Line::Bad),
     }
@@ -156,14 +156,14 @@ fn line_of(
     alloc: Global,
     form: Form,
     words: Words<'_>,
-    room: &mut Vec<ProcId>,
+    spare: &mut Vec<ProcId>,
 ) -> Result<Option<Line>, AllocError>
     ensures { IfOk result (ReadsAll (Fits form) words.entry) }
 {
     match form {
         Form::Edition => Ok(edition(words)),
         Form::Site => site(alloc, words),
-        Form::Ask => ask(alloc, words, room),
+        Form::Ask => ask(alloc, words, spare),
         Form::Reply => Ok(reply(words)),
         Form::Start => Ok(start(words)),
         Form::Deliver => Ok(deliver(words)),
@@ -214,7 +214,7 @@ fn numbers(alloc: Global, mut words: Words<'_>) -> Result<Option<Vec<u16>>, Allo
 fn ask(
     alloc: Global,
     mut words: Words<'_>,
-    room: &mut Vec<ProcId>,
+    spare: &mut Vec<ProcId>,
 ) -> Result<Option<Line>, AllocError>
     ensures { IfOk result (ReadsAll (Fits Form.Ask) words.entry) }
 {
@@ -224,7 +224,7 @@ fn ask(
     if words.is_empty() {
         return Ok(None);
     }
-    let Some(targets) = targets(alloc, words, room)? else {
+    let Some(targets) = targets(alloc, words, spare)? else {
         return Ok(None);
     };
     Ok(Some(Line::Command(Command::Act {
@@ -238,12 +238,12 @@ fn ask(
 fn targets(
     alloc: Global,
     mut words: Words<'_>,
-    room: &mut Vec<ProcId>,
+    spare: &mut Vec<ProcId>,
 ) -> Result<Option<Targets>, AllocError>
     ensures { IfOk result (λ targets. MatchOption targets ((ns : List ℕ) → Spell words.entry ns → ⊥)
         (λ targets. Spell words.entry targets)) }
 {
-    let mut processes = replace(room, Vec::new(alloc));
+    let mut processes = replace(spare, Vec::new(alloc));
     processes.clear();
     while !words.is_empty() {
         let Some(process) = words.process() else {

@@ -5,7 +5,7 @@ use Rattle.std.specs.Io.KnownBytes.{Appends}
 use Rattle.cmh_frames.specs.declared.edition.Edition.{Edition}
 use Rattle.cmh_frames.specs.Rows.{Row, IsFaultOf}
 use Rattle.cmh_frames.specs.declared.rows.TopologyFault.{TopologyFault}
-use Rattle.cmh_frames.specs.Topology.{Topology, IsTopologyOf}
+use Rattle.cmh_frames.specs.Topology.{Topology}
 use Rattle.cmh_model.specs.Relation.{pair_cmp}
 use Rattle.cmh_journal.specs.declared.journal.JournalFault.{JournalFault}
 use Rattle.cmh_journal.specs.declared.tail.Tail.{Tail}
@@ -14,7 +14,6 @@ use Rattle.cmh_journal.specs.File.{IsFileOf, IsFault}
 use Rattle.cmh_journal.specs.Journal.{Journal}
 use Rattle.cmh_audit.specs.Set as set
 use Rattle.cmh_audit.specs.Set.{IsSet}
-use Rattle.cmh_journal.specs.declared.set_fault.SetFault.{SetFault}
 use Rattle.cmh_audit.specs.Verdicts.{IsVerdictOn}
 use Rattle.cmh_audit.specs.declared.verdict.Verdict.{Verdict}
 use Rattle.cmh_audit.specs.declared.verdict.Verdict.TheVariants.{Accepted, Refused}
@@ -22,7 +21,7 @@ use Rattle.cmh_console.specs.Device.{Writing}
 use Rattle.cmh_show.specs.AuditTexts.{cuts_text, verdict_text}
 use Rattle.cmh_console.specs.Faults.{NamesFault}
 use Rattle.cmh_files.specs.Headline.{Headline}
-use Rattle.cmh_console.specs.TopologyFile.{Says, IsFaultOfFile}
+use Rattle.cmh_console.specs.TopologyFile.{Says, SaysTopology, OfTopology, IsFaultOfFile}
 use Rattle.cmh_console.specs.declared.faults.Fault as faults
 use Rattle.cmh_console.specs.declared.faults.Fault.TheVariants.{Json, Topology as NoTopology, Journal as NoJournal, Set as NoSet, Output, Memory}
 use Rattle.cmh_console.specs.declared.topology_file.TopologyFileFault.TheVariants.{Json as NoJson}
@@ -54,26 +53,14 @@ pub record AreRead (files : List (List ℕ)) (journals : List Journal) (cuts : L
 
 -- ---- the audit
 
--- The audit of a topology file and of the journals' files: what was read, and what the verdict says of those who wrote
--- it.
-pub record Audits (topology : List ℕ) (files : List (List ℕ)) (edition : Edition) (cuts : List (ℕ × ℕ))
-    (verdict : Verdict) : Type 0 where
-  pub rows : List Row
-  pub world : Topology
-  pub journals : List Journal
-  pub says : Says topology edition rows
-  pub world_is : IsTopologyOf edition rows world
+-- The audit of a topology file and of the journals' files: this was read, and so the verdict says of those who wrote it.
+pub record Audits (topology : List ℕ) (files : List (List ℕ)) (world : Topology) (journals : List Journal)
+    (cuts : List (ℕ × ℕ)) (verdict : Verdict) : Type 0 where
+  pub says : SaysTopology topology world
   pub read : AreRead files journals cuts
   pub set : IsSet world journals
   pub verdict_is : IsVerdictOn world journals verdict
   pub headline : Headline world files verdict
-
--- the same, of this topology and these journals
-pub record AuditsOf (topology : List ℕ) (files : List (List ℕ)) (edition : Edition) (world : Topology)
-    (journals : List Journal) (cuts : List (ℕ × ℕ)) (verdict : Verdict) : Type 0 where
-  pub audits : Audits topology files edition cuts verdict
-  pub world_is : audits.world ≡ world
-  pub journals_are : audits.journals ≡ journals
 
 -- 0 for accepted, 1 for refused
 abbrev pub status_of : Verdict → ℕ
@@ -82,11 +69,12 @@ status_of (Refused stops) = 1
 
 -- the lines and the status are those of the files' audit
 pub record TellsAudit (topology : List ℕ) (files : List (List ℕ)) (text : List ℕ) (status : ℕ) : Type 0 where
-  pub edition : Edition
+  pub world : Topology
+  pub journals : List Journal
   pub cuts : List (ℕ × ℕ)
   pub verdict : Verdict
-  pub audits : Audits topology files edition cuts verdict
-  pub text_is : text ≡ cuts_text cuts ++ verdict_text edition verdict
+  pub audits : Audits topology files world journals cuts verdict
+  pub text_is : text ≡ cuts_text cuts ++ verdict_text world.edition verdict
   pub status_is : status ≡ status_of verdict
 
 -- these lines were written
@@ -113,27 +101,6 @@ IsFaultOfFiles files (NoJournal place fault) = IsFirstFaulty files place fault
 IsFaultOfFiles files Memory = ⊤
 IsFaultOfFiles files fault = ⊥
 
--- the topology file is that of a topology, and of the files the one at this place is the first at fault
-pub record IsOfNoJournal (topology : List ℕ) (files : List (List ℕ)) (place : ℕ) (fault : JournalFault) : Type 0 where
-  pub edition : Edition
-  pub rows : List Row
-  pub world : Topology
-  pub says : Says topology edition rows
-  pub world_is : IsTopologyOf edition rows world
-  pub first : IsFirstFaulty files place fault
-
--- the files are those of journals that are not of one world
-pub record IsOfNoWorld (topology : List ℕ) (files : List (List ℕ)) (fault : SetFault) : Type 0 where
-  pub edition : Edition
-  pub rows : List Row
-  pub world : Topology
-  pub journals : List Journal
-  pub cuts : List (ℕ × ℕ)
-  pub says : Says topology edition rows
-  pub world_is : IsTopologyOf edition rows world
-  pub read : AreRead files journals cuts
-  pub fault_is : set.fault_of world journals ≡ Some fault
-
 -- the topology file is that of no topology
 pub record IsOfNoTopology (topology : List ℕ) (fault : TopologyFault) : Type 0 where
   pub edition : Edition
@@ -145,8 +112,9 @@ pub record IsOfNoTopology (topology : List ℕ) (fault : TopologyFault) : Type 0
 abbrev pub IsAuditFault : List ℕ → List (List ℕ) → faults.Fault → Type 0
 IsAuditFault topology files Json = IsFaultOfFile topology NoJson
 IsAuditFault topology files (NoTopology fault) = IsOfNoTopology topology fault
-IsAuditFault topology files (NoJournal place fault) = IsOfNoJournal topology files place fault
-IsAuditFault topology files (NoSet fault) = IsOfNoWorld topology files fault
+IsAuditFault topology files (NoJournal place fault) = OfTopology topology (λ world. IsFirstFaulty files place fault)
+IsAuditFault topology files (NoSet fault) = OfTopology topology (λ world.
+    (journals : List Journal) × (cuts : List (ℕ × ℕ)) × AreRead files journals cuts × (set.fault_of world journals ≡ Some fault))
 IsAuditFault topology files Memory = ⊤
 IsAuditFault topology files fault = ⊥
 

@@ -1,7 +1,6 @@
 -- An audit with the reasons for its stops.
 use Rattle.std.specs.Prelude.{◌≡◌, ℕ, true, ◌⊎◌, List, [], ◌++◌, Option}
 use Rattle.std.specs.Io.KnownBytes.{Appends}
-use Rattle.cmh_frames.specs.declared.edition.Edition.{Edition}
 use Rattle.cmh_frames.specs.Topology.{Topology}
 use Rattle.cmh_journal.specs.Journal.{Journal}
 use Rattle.cmh_audit.specs.declared.verdict.Verdict.{Verdict}
@@ -20,14 +19,15 @@ AreReasons t journals (Refused stops) text = AreReasonLines t journals stops.row
 -- the status is that of an audit whose lines were written, and its reasons after them
 pub record WroteExplained (topology : List ℕ) (files : List (List ℕ)) (old new : Option (List ℕ))
     (status : ℕ) : Type 0 where
-  pub edition : Edition
+  pub world : Topology
+  pub journals : List Journal
   pub cuts : List (ℕ × ℕ)
   pub verdict : Verdict
-  pub audits : Audits topology files edition cuts verdict
+  pub audits : Audits topology files world journals cuts verdict
   pub status_is : status ≡ status_of verdict
   pub reasons : List ℕ
-  pub are_reasons : AreReasons audits.world audits.journals verdict reasons
-  pub wrote : Appends old new (cuts_text cuts ++ verdict_text edition verdict ++ reasons)
+  pub are_reasons : AreReasons world journals verdict reasons
+  pub wrote : Appends old new (cuts_text cuts ++ verdict_text world.edition verdict ++ reasons)
 
 -- an audit wrote its lines with the reasons, flushed, and nothing else, or named why it couldn't
 abbrev pub ExplainEnds : {W E : Type 0} → List ℕ → List (List ℕ) → Writing W → Writing W → Writing E → Writing E → ℕ → Type 0

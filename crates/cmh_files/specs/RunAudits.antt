@@ -2,7 +2,6 @@
 use Rattle.std.specs.Prelude.{◌≡◌, ℕ, ◌+◌, true, ◌⊎◌, List, [], ◌++◌, Option, None, Some}
 use Rattle.std.specs.List.{flat_map}
 use Rattle.std.specs.Io.KnownBytes.{Appends}
-use Rattle.cmh_frames.specs.declared.edition.Edition.{Edition}
 use Rattle.cmh_frames.specs.Topology.{Topology}
 use Rattle.cmh_model.specs.declared.journal.WorldEvent.{WorldEvent}
 use Rattle.cmh_journal.specs.Journal.{Journal}
@@ -41,14 +40,15 @@ AreStepsToTell t journals (Refused stops) steps = steps ≡ []
 -- the status is that of an audit whose lines were written, and a line for each of these steps after them
 pub record WroteRun (topology : List ℕ) (files : List (List ℕ)) (old new : Option (List ℕ))
     (status : ℕ) : Type 0 where
-  pub edition : Edition
+  pub world : Topology
+  pub journals : List Journal
   pub cuts : List (ℕ × ℕ)
   pub verdict : Verdict
-  pub audits : Audits topology files edition cuts verdict
+  pub audits : Audits topology files world journals cuts verdict
   pub status_is : status ≡ status_of verdict
   pub steps : List Step
-  pub are_steps : AreStepsToTell audits.world audits.journals verdict steps
-  pub wrote : Appends old new (cuts_text cuts ++ verdict_text edition verdict ++ run_text audits.journals steps)
+  pub are_steps : AreStepsToTell world journals verdict steps
+  pub wrote : Appends old new (cuts_text cuts ++ verdict_text world.edition verdict ++ run_text journals steps)
 
 -- an audit wrote its lines with the run, flushed, and nothing else, or named why it couldn't
 abbrev pub RunEnds : {W E : Type 0} → List ℕ → List (List ℕ) → Writing W → Writing W → Writing E → Writing E → ℕ → Type 0

@@ -65,7 +65,7 @@ fn explained_text(alloc: Global, audited: &Audited<'_>) -> Result<String, AllocE
         (λ stops. AreStops audited.now.world audited.now.journals.items stops.rows) }
     ensures { IfOk result (λ text. (reasons : List ℕ)
         × AreReasons audited.now.world audited.now.journals.items audited.now.verdict reasons
-        × (string_bytes text ≡ cuts_text audited.now.cuts.items ++ verdict_text audited.now.edition audited.now.verdict
+        × (string_bytes text ≡ cuts_text audited.now.cuts.items ++ verdict_text audited.now.world.edition audited.now.verdict
         ++ reasons)) }
 {
     let reasons = reasons_of(alloc, audited)?;

@@ -42,25 +42,22 @@ journaled_at t site entries = record {
 
 refused_at : (t : Topology) (site : ℕ) (entries : List Entry) (event : Event) (reason : Refusal) → (length entries < entry_limit)
     → Refuses t site (value t site entries) event reason → WasRefused event (Rule reason)
-refused_at t site entries event reason room refused = record {
-  before = journaled_at t site entries;
-  after = journaled_at t site entries;
-  step = (refl, room, refused, refl);
-}
+refused_at t site entries event reason room refused =
+    (journaled_at t site entries, journaled_at t site entries, (refl, room, refused, refl))
 
 taken_one : (t : Topology) (site : ℕ) (entries : List Entry) (event : Event) (answer : Result Outcome StationRefusal) → IsAnswer t site entries event answer
     → WasStepped event (reply_of answer)
-taken_one t site entries event (Ok outcome) h = record {
-  before = journaled_at t site entries;
-  after = journaled_at t site (entries ++ entry_for event outcome ∷ []);
-  sent = outcome.sent;
-  step = (
+taken_one t site entries event (Ok outcome) h = (
+  journaled_at t site entries,
+  journaled_at t site (entries ++ entry_for event outcome ∷ []),
+  outcome.sent,
+  (
     record { was_open = refl; not_full = h.0; step = record { accepts = h.1; sends = h.2 }; event_is = refl },
     record { topology = refl; site = refl; entries = refl; links = tt; not_sealed = refl; failures = refl; known = refl; synced = tt },
-  );
-  counted = refl;
-}
-taken_one t site entries event (Err Full) h = record { before = journaled_at t site entries; after = journaled_at t site entries; step = (refl, h, refl) }
+  ),
+  refl,
+)
+taken_one t site entries event (Err Full) h = (journaled_at t site entries, journaled_at t site entries, (refl, h, refl))
 taken_one t site entries event (Err Sealed) h = absurd h
 taken_one t site entries event (Err Disk) h = absurd h
 taken_one t site entries event (Err (Rule Memory)) h = absurd h
@@ -87,15 +84,15 @@ taken_all a b events answers stepped = taken_each a.topology a.site a.entries ev
 -- the first event of a batch was accepted, and the sink failed
 failed_at : (a : Journaled) (event : Event) (answer : Result Outcome StationRefusal) → CanStep a event → IsAnswer a.topology a.site a.entries event answer
     → WasRefused event Disk
-failed_at a event (Ok outcome) can h = record {
-  before = journaled_at a.topology a.site a.entries;
-  after = record (journaled_at a.topology a.site a.entries) { sealed = true; failures = 1 };
-  step = (
+failed_at a event (Ok outcome) can h = (
+  journaled_at a.topology a.site a.entries,
+  record (journaled_at a.topology a.site a.entries) { sealed = true; failures = 1 },
+  (
     entry_for event outcome,
     record { was_open = refl; not_full = h.0; step = record { accepts = h.1; sends = h.2 }; event_is = refl },
     record { sealed = refl; failures = refl; topology = refl; site = refl; entries = refl; links = refl; known = record { part = []; begins = (_, refl); told = refl }; synced = omega arith },
-  );
-}
+  ),
+)
 failed_at a event (Err refusal) can h = absurd (excluded refusal h)
   where
     by_rule : (reason : Refusal) → (reason ≡ Memory → ⊥) → Refuses a.topology a.site (value a.topology a.site a.entries) event reason → ⊥

@@ -2,30 +2,22 @@
 use Rattle.std.specs.Prelude.{◌≡◌, ℕ, All, Contains, List, length, ⊤}
 use Rattle.cmh_frames.specs.declared.frame.Frame.{Frame}
 use Rattle.cmh_model.specs.declared.event.Event.{Event}
-use Rattle.cmh_model.specs.declared.done.Done.{Done}
 use Rattle.cmh_station.specs.Journaled.{Journaled}
 use Rattle.cmh_station.specs.Steps.{NotStepped, Stepped}
 use Rattle.cmh_station.specs.declared.refusal.StationRefusal.{StationRefusal}
 use Rattle.cmh_host.specs.declared.site_reply.SiteReply.{SiteReply}
 use Rattle.cmh_host.specs.declared.site_reply.SiteReply.TheVariants.{Taken, Refused, Declared, Links}
 
--- A station took the event, by the rules, and its entry was kept. Which station it was is not told: what comes out of a lock
--- is known by its type alone.
-pub record WasTaken (event : Event) (done : Done) : Type 0 where
-  pub before : Journaled
-  pub after : Journaled
-  pub sent : List (ℕ × Frame)
-  pub step : Stepped before event sent done.declared after
-  pub counted : done.sent ≡ length sent
+-- a station refused the event
+abbrev pub WasRefused : Event → StationRefusal → Type 0
+WasRefused event refusal = (before : Journaled) × (after : Journaled) × NotStepped before event refusal after
 
--- a station refused it
-pub record WasRefused (event : Event) (refusal : StationRefusal) : Type 0 where
-  pub before : Journaled
-  pub after : Journaled
-  pub step : NotStepped before event refusal after
-
+-- A station took the event, by the rules, and its entry was kept, or it refused the event. Which station it was is not told:
+-- what comes out of a lock is known by its type alone.
 abbrev pub WasStepped : Event → SiteReply → Type 0
-WasStepped event (Taken done) = WasTaken event done
+WasStepped event (Taken done) =
+    (before : Journaled) × (after : Journaled) × (sent : List (ℕ × Frame))
+    × Stepped before event sent done.declared after × (done.sent ≡ length sent)
 WasStepped event (Refused refusal) = WasRefused event refusal
 WasStepped event reply = ⊥
 

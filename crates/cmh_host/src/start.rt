@@ -2,7 +2,7 @@
 
 ghost use Rattle.std.specs.Prelude.{◌≡◌, ◌⊎◌, IfOk, IfErr};
 
-use crate::starting::{RunningSite, Speakers, fault_of, open_station, start_threads};
+use crate::starting::{Opened, RunningSite, Speakers, fault_of, open_station, start_threads};
 use crate::system::System;
 use cmh_carriers::{TcpDial, TcpListen};
 use cmh_console::Fault;
@@ -51,25 +51,74 @@ where
     ensures fault { IfErr result (λ fault. (fault ≡ Fault.Listen) ⊎ (fault ≡ Fault.JournalDisk)
         ⊎ (fault ≡ Fault.Memory)) }
 {
-    let pairs = setup.ports.pairs(alloc)?;
-    let speakers = Speakers {
-        handle: noting.speaker(Origin::Alone)?,
-        threads: noting.speaker(Origin::Alone)?,
-    };
+    let Ready {
+        listen,
+        dial,
+        speakers,
+    } = make_ready(rt, alloc, setup, noting)?;
+    let opened = open_own(rt, alloc, setup, speakers.handle.as_ref())?;
+    start_threads(rt, alloc, setup.topology, opened, listen, dial, speakers)
+}
+
+/// What the threads of a site need besides its station.
+#[derive(Drop)]
+struct Ready<R: System + 'static> {
+    listen: TcpListen<R>,
+    dial: TcpDial<R>,
+    speakers: Speakers,
+}
+
+/// Takes the site's port.
+fn make_ready<R>(
+    rt: R,
+    alloc: Global,
+    setup: &SiteSetup<'_>,
+    noting: &Noting,
+) -> Result<Ready<R>, Fault>
+where
+    R: System + Files<File = File> + Send + 'static,
+    ensures listens { IfOk result (λ ready. ready.listen.faults ≡ 0) }
+    ensures dials { IfOk result (λ ready. ready.dial.faults ≡ 0) }
+    ensures fault { IfErr result (λ fault. (fault ≡ Fault.Listen) ⊎ (fault ≡ Fault.JournalDisk)
+        ⊎ (fault ≡ Fault.Memory)) }
+{
     let Some(port) = setup.ports.of(setup.site) else {
         // Never so: each row has its port.
         return Err(Fault::Listen);
     };
-    let listen = listen_at(&rt, alloc, port, setup.journal)?;
+    let speakers = Speakers {
+        handle: noting.speaker(Origin::Alone)?,
+        threads: noting.speaker(Origin::Alone)?,
+    };
+    let pairs = setup.ports.pairs(alloc)?;
+    let dial = TcpDial::new(rt, pairs).with_patience(setup.patience);
+    Ok(Ready {
+        listen: listen_at(&rt, alloc, port, setup.journal)?,
+        dial,
+        speakers,
+    })
+}
+
+/// Makes the site's journal, and its station over it.
+fn open_own<R>(
+    rt: R,
+    alloc: Global,
+    setup: &SiteSetup<'_>,
+    speaker: Option<&Speaker>,
+) -> Result<Opened<R>, Fault>
+where
+    R: System + Files<File = File> + Send + 'static,
+    ensures site { IfOk result (λ opened. opened.site ≡ setup.now.site) }
+    ensures fault { IfErr result (λ fault. (fault ≡ Fault.JournalDisk) ⊎ (fault ≡ Fault.Memory)) }
+{
     let NewJournal { sink, kept } = match make_journal(&rt, alloc, setup.journal) {
         Ok(made) => made,
         Err(refused) => return Err(fault_of(refused, Fault::JournalDisk)),
     };
     let disk = Fault::JournalDisk;
     let opened = open_station(rt, alloc, setup.topology, setup.site, sink, disk)?;
-    note_kept(&rt, speakers.handle.as_ref(), kept);
-    let dial = TcpDial::new(rt, pairs).with_patience(setup.patience);
-    start_threads(rt, alloc, setup.topology, opened, listen, dial, speakers)
+    note_kept(&rt, speaker, kept);
+    Ok(opened)
 }
 
 /// Notes the number under which a journal of before was kept.

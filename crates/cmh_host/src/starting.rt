@@ -17,7 +17,7 @@ use cmh_model::{Done, Event};
 use cmh_notes::{Note, Speaker};
 use cmh_running::{JournalSink, NoFile};
 use cmh_station::{
-    BoardReader, KeptBoard, LinkTap, Listing, SharedStation, Station, StationRefusal,
+    BoardReader, KeptBoard, LinkTap, Listing, ParkingTap, SharedStation, Station, StationRefusal,
 };
 use std::alloc::{AllocError, Global};
 use std::sync::{Arc, Wait};
@@ -119,6 +119,32 @@ where
     pub threads: Running<R>,
 }
 
+/// A station with the lock round it, once for who asks it and once for its threads, and the taps of its links.
+#[derive(Drop)]
+struct Locked<R: Wait + Drop> {
+    station: Arc<FileStation<R>>,
+    shared: Arc<FileStation<R>>,
+    taps: Vec<ParkingTap>,
+}
+
+/// It stands apart from the start of the threads, so that a failure here has less to drop.
+fn lock_station<R: Wait + Drop>(
+    alloc: Global,
+    station: Station<JournalSink, KeptBoard<R>>,
+    taps: Vec<LinkTap>,
+) -> Result<Locked<R>, AllocError> {
+    let Ok((shared, taps)) = SharedStation::new(alloc, station, taps) else {
+        return Err(AllocError);
+    };
+    let station = Arc::new(alloc, shared)?;
+    let shared = Arc::try_clone(&station)?;
+    Ok(Locked {
+        station,
+        shared,
+        taps,
+    })
+}
+
 /// Starts the threads of a station, which listen.
 pub fn start_threads<R>(
     rt: R,
@@ -146,11 +172,11 @@ where
         handle: speaker,
         threads: theirs,
     } = speakers;
-    let Ok((shared, taps)) = SharedStation::new(alloc, station, taps) else {
-        return Err(Fault::Memory);
-    };
-    let station = Arc::new(alloc, shared)?;
-    let shared = Arc::try_clone(&station)?;
+    let Locked {
+        station,
+        shared,
+        taps,
+    } = lock_station(alloc, station, taps)?;
     match SiteThreads::start_noting(
         rt, alloc, topology, site, shared, taps, listen, dial, theirs,
     ) {

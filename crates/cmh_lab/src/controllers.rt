@@ -56,12 +56,12 @@ fn keep_driven(
 
 /// How a call gives an event, if it does. An event alone is a step.
 fn manner_of(call: &[u8]) -> Option<Manner> {
-    match call {
-        b"check" => Some(Manner::Check),
-        b"step" => Some(Manner::Step),
-        b"into" => Some(Manner::StepInto),
-        b"prepare" => Some(Manner::Prepare),
-        b"back" => Some(Manner::TakeBack),
+    match str::from_utf8(call) {
+        Ok("check") => Some(Manner::Check),
+        Ok("step") => Some(Manner::Step),
+        Ok("into") => Some(Manner::StepInto),
+        Ok("prepare") => Some(Manner::Prepare),
+        Ok("back") => Some(Manner::TakeBack),
         _ => None,
     }
 }
@@ -75,27 +75,27 @@ pub fn of_controller(
     answer: &mut Answer,
 ) -> Called {
     let call = word(words)?;
-    match call {
-        b"declared" => {
+    match str::from_utf8(call) {
+        Ok("declared") => {
             answer.word("declared")?;
             put_processes(&driven.controller.declared(objects.alloc)?, answer)
         }
-        b"waits" => put_list(
+        Ok("waits") => put_list(
             &driven.controller.waits_of(objects.alloc, process(words)?)?,
             answer,
         ),
-        b"owed" => put_list(
+        Ok("owed") => put_list(
             &driven.controller.owed_by(objects.alloc, process(words)?)?,
             answer,
         ),
-        b"site" => answer.word(driven.controller.site()),
-        b"home" => put_or_none(driven.controller.topology().home(process(words)?), answer),
-        b"copy" => {
+        Ok("site") => answer.word(driven.controller.site()),
+        Ok("home") => put_or_none(driven.controller.topology().home(process(words)?), answer),
+        Ok("copy") => {
             let name = word(words)?;
             let copy = driven.controller.copy(objects.alloc)?;
             keep_driven(objects, name, copy, answer)
         }
-        call => match manner_of(call) {
+        _ => match manner_of(call) {
             Some(manner) => given(driven, manner, word(words)?, objects, words, answer),
             None => given(driven, Manner::Step, call, objects, words, answer),
         },

@@ -51,23 +51,24 @@ pub fn of_topology(
     words: &mut Words<'_>,
     answer: &mut Answer,
 ) -> Called {
-    match word(words)? {
-        b"sites" => {
+    let call = word(words)?;
+    match str::from_utf8(call) {
+        Ok("sites") => {
             answer.word("sites")?;
             for site in topology.sites() {
                 answer.word(*site)?;
             }
             Ok(())
         }
-        b"edition" => answer.word(topology.edition()),
-        b"members" => {
+        Ok("edition") => answer.word(topology.edition()),
+        Ok("members") => {
             answer.word("members")?;
             put_processes(topology.members(site(words)?), answer)
         }
-        b"home" => put_or_none(topology.home(process(words)?), answer),
-        b"has" => answer.word(topology.has_site(site(words)?)),
-        b"place" => put_or_none(topology.known_place(site(words)?), answer),
-        b"copy" => {
+        Ok("home") => put_or_none(topology.home(process(words)?), answer),
+        Ok("has") => answer.word(topology.has_site(site(words)?)),
+        Ok("place") => put_or_none(topology.known_place(site(words)?), answer),
+        Ok("copy") => {
             let name = word(words)?;
             keep(
                 objects,
@@ -182,22 +183,23 @@ pub fn of_bytes(
     words: &mut Words<'_>,
     answer: &mut Answer,
 ) -> Called {
-    match word(words)? {
-        b"front" => return front(held, answer),
-        b"show" => return answer.bytes(held),
-        b"add" => {
+    let call = word(words)?;
+    match str::from_utf8(call) {
+        Ok("front") => return front(held, answer),
+        Ok("show") => return answer.bytes(held),
+        Ok("add") => {
             let bytes = bytes_of(alloc, words)?;
             held.extend_from_slice(&bytes)?;
         }
-        b"repeat" => {
+        Ok("repeat") => {
             let count = size(words)?;
             let bytes = bytes_of(alloc, words)?;
             for _ in 0..count {
                 held.extend_from_slice(&bytes)?;
             }
         }
-        b"cut" => held.truncate(size(words)?),
-        b"len" => {}
+        Ok("cut") => held.truncate(size(words)?),
+        Ok("len") => {}
         _ => return Err(Unanswered::BadLine),
     }
     answer.word(held.len())

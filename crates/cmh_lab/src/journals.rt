@@ -66,17 +66,18 @@ pub fn of_journal(
     words: &mut Words<'_>,
     answer: &mut Answer,
 ) -> Called {
-    match word(words)? {
-        b"entries" => put_entries(held, answer),
-        b"len" => answer.word(held.entries().len()),
-        b"full" => answer.word(held.is_full()),
-        b"encoded" => encode(objects.alloc, held, answer),
-        b"reserve" if words.is_empty() => put_done(held.reserve(), answer),
-        b"reserve" => {
+    let call = word(words)?;
+    match str::from_utf8(call) {
+        Ok("entries") => put_entries(held, answer),
+        Ok("len") => answer.word(held.entries().len()),
+        Ok("full") => answer.word(held.is_full()),
+        Ok("encoded") => encode(objects.alloc, held, answer),
+        Ok("reserve") if words.is_empty() => put_done(held.reserve(), answer),
+        Ok("reserve") => {
             held.reserve_for(size(words)?)?;
             answer.word("ok")
         }
-        b"push" => {
+        Ok("push") => {
             let source = journal(objects, words)?;
             let count = if words.is_empty() { 1 } else { size(words)? };
             let mut done = Ok(());

@@ -36,24 +36,25 @@ struct Core {
 impl Lab for Core {
     fn call(&mut self, words: &mut Words<'_>, answer: &mut Answer) -> Called {
         let objects = &mut self.objects;
-        match word(words)? {
-            b"forget" => {
+        let first = word(words)?;
+        match str::from_utf8(first) {
+            Ok("forget") => {
                 objects.named.clear();
                 answer.word("ok")
             }
-            b"topology" => frames::topology(objects, words, answer),
-            b"bytes" => frames::make_bytes(objects, words, answer),
-            b"text" => frames::make_text(objects, words, answer),
-            b"reader" => readers::make(objects, words, answer),
-            b"waits" => waits::make(objects, words, answer),
-            b"event" => controllers::make_event(objects, words, answer),
-            b"controller" => controllers::make(objects, words, answer),
-            b"journal" => journals::make(objects, words, answer),
-            b"read" => journals::read(objects, words, answer),
-            b"sink" => sinks::make_memory(objects, words, answer),
-            b"fuse" => sinks::make_fuse(objects, words, answer),
-            b"audit" => audits::make(objects, words, answer),
-            first => self.make_or_call(first, words, answer),
+            Ok("topology") => frames::topology(objects, words, answer),
+            Ok("bytes") => frames::make_bytes(objects, words, answer),
+            Ok("text") => frames::make_text(objects, words, answer),
+            Ok("reader") => readers::make(objects, words, answer),
+            Ok("waits") => waits::make(objects, words, answer),
+            Ok("event") => controllers::make_event(objects, words, answer),
+            Ok("controller") => controllers::make(objects, words, answer),
+            Ok("journal") => journals::make(objects, words, answer),
+            Ok("read") => journals::read(objects, words, answer),
+            Ok("sink") => sinks::make_memory(objects, words, answer),
+            Ok("fuse") => sinks::make_fuse(objects, words, answer),
+            Ok("audit") => audits::make(objects, words, answer),
+            _ => self.make_or_call(first, words, answer),
         }
     }
 }
@@ -61,41 +62,41 @@ impl Lab for Core {
 impl Core {
     /// Makes dependents or links, or a call that needs no object that is named.
     fn make_or_call(&mut self, first: &[u8], words: &mut Words<'_>, answer: &mut Answer) -> Called {
-        match first {
-            b"dependents" => waits::make_dependents(&mut self.objects, words, answer),
-            b"links" => readers::make_links(&mut self.objects, words, answer),
-            b"limits" => frames::limits(words, answer),
-            b"number" => frames::numbers(words, answer),
-            b"encode" => frames::encode(words, answer),
-            b"decode" => frames::decode(self.objects.alloc, words, answer),
-            b"hello" => frames::hello(words, answer),
-            b"header" => frames::header(words, answer),
-            b"greet" => frames::greet(&self.objects, words, answer),
-            first => self.call_over(first, words, answer),
+        match str::from_utf8(first) {
+            Ok("dependents") => waits::make_dependents(&mut self.objects, words, answer),
+            Ok("links") => readers::make_links(&mut self.objects, words, answer),
+            Ok("limits") => frames::limits(words, answer),
+            Ok("number") => frames::numbers(words, answer),
+            Ok("encode") => frames::encode(words, answer),
+            Ok("decode") => frames::decode(self.objects.alloc, words, answer),
+            Ok("hello") => frames::hello(words, answer),
+            Ok("header") => frames::header(words, answer),
+            Ok("greet") => frames::greet(&self.objects, words, answer),
+            _ => self.call_over(first, words, answer),
         }
     }
 
     /// Makes a call over objects that are named.
     fn call_over(&mut self, first: &[u8], words: &mut Words<'_>, answer: &mut Answer) -> Called {
         let objects = &self.objects;
-        match first {
-            b"replay" => controllers::replays(objects, words, answer),
-            b"stored" => journals::stored(objects, words, answer),
-            b"count" => journals::count(objects, words, answer),
-            b"rest" => journals::rest(objects, words, answer),
-            b"list" => journals::list(objects, words, answer),
-            b"set" => audits::set(objects, words, answer),
-            b"run" => audits::run(objects, words, answer),
-            b"totals" => audits::totals(objects, words, answer),
-            b"play" => plays::play(objects, words, answer),
-            b"flushes" => plays::flushes(objects, words, answer),
-            b"run_audit" => plays::run_command(Command::Audit, objects, words, answer),
-            b"run_why" => plays::run_command(Command::Why, objects, words, answer),
-            b"run_run" => plays::run_command(Command::Run, objects, words, answer),
-            b"run_show" => plays::run_command(Command::Show, objects, words, answer),
-            b"file" => plays::file(false, objects, words, answer),
-            b"ports" => plays::file(true, objects, words, answer),
-            name => self.call_object(name, words, answer),
+        match str::from_utf8(first) {
+            Ok("replay") => controllers::replays(objects, words, answer),
+            Ok("stored") => journals::stored(objects, words, answer),
+            Ok("count") => journals::count(objects, words, answer),
+            Ok("rest") => journals::rest(objects, words, answer),
+            Ok("list") => journals::list(objects, words, answer),
+            Ok("set") => audits::set(objects, words, answer),
+            Ok("run") => audits::run(objects, words, answer),
+            Ok("totals") => audits::totals(objects, words, answer),
+            Ok("play") => plays::play(objects, words, answer),
+            Ok("flushes") => plays::flushes(objects, words, answer),
+            Ok("run_audit") => plays::run_command(Command::Audit, objects, words, answer),
+            Ok("run_why") => plays::run_command(Command::Why, objects, words, answer),
+            Ok("run_run") => plays::run_command(Command::Run, objects, words, answer),
+            Ok("run_show") => plays::run_command(Command::Show, objects, words, answer),
+            Ok("file") => plays::file(false, objects, words, answer),
+            Ok("ports") => plays::file(true, objects, words, answer),
+            _ => self.call_object(first, words, answer),
         }
     }
 

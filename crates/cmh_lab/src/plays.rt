@@ -29,12 +29,13 @@ struct Ended {
 
 /// `none`, `fails CALL`, `interrupts CALL`, `stuck CALL`, `unflushed`.
 fn read_trouble(words: &mut Words<'_>) -> Result<Trouble, Unanswered> {
-    match word(words)? {
-        b"none" => Ok(Trouble::None),
-        b"fails" => Ok(Trouble::Fails(number(words)?)),
-        b"interrupts" => Ok(Trouble::Interrupts(number(words)?)),
-        b"stuck" => Ok(Trouble::TakesNothing(number(words)?)),
-        b"unflushed" => Ok(Trouble::Unflushed),
+    let call = word(words)?;
+    match str::from_utf8(call) {
+        Ok("none") => Ok(Trouble::None),
+        Ok("fails") => Ok(Trouble::Fails(number(words)?)),
+        Ok("interrupts") => Ok(Trouble::Interrupts(number(words)?)),
+        Ok("stuck") => Ok(Trouble::TakesNothing(number(words)?)),
+        Ok("unflushed") => Ok(Trouble::Unflushed),
         _ => Err(Unanswered::BadLine),
     }
 }
@@ -53,11 +54,12 @@ fn read_devices(words: &mut Words<'_>) -> Result<Devices, Unanswered> {
         err: Device::SOUND,
     };
     for _ in 0..4 {
-        match word(words)? {
-            b"in" => devices.input = Some(read_device(words)?),
-            b"out" => devices.out = read_device(words)?,
-            b"err" => devices.err = read_device(words)?,
-            b"of" => return Ok(devices),
+        let call = word(words)?;
+        match str::from_utf8(call) {
+            Ok("in") => devices.input = Some(read_device(words)?),
+            Ok("out") => devices.out = read_device(words)?,
+            Ok("err") => devices.err = read_device(words)?,
+            Ok("of") => return Ok(devices),
             _ => return Err(Unanswered::BadLine),
         }
     }

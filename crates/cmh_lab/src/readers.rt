@@ -31,15 +31,16 @@ pub fn of_reader(
     words: &mut Words<'_>,
     answer: &mut Answer,
 ) -> Called {
-    match word(words)? {
-        b"feed" => {
+    let call = word(words)?;
+    match str::from_utf8(call) {
+        Ok("feed") => {
             let piece = bytes_of(objects.alloc, words)?;
             feed(reader, &piece, answer)
         }
-        b"take" => feed(reader, bytes(objects, words)?, answer),
-        b"rest" => answer.bytes(reader.rest()),
-        b"sender" => put_or_none(reader.sender(), answer),
-        b"starved" => answer.word(reader.is_starved()),
+        Ok("take") => feed(reader, bytes(objects, words)?, answer),
+        Ok("rest") => answer.bytes(reader.rest()),
+        Ok("sender") => put_or_none(reader.sender(), answer),
+        Ok("starved") => answer.word(reader.is_starved()),
         _ => Err(Unanswered::BadLine),
     }
 }
@@ -65,19 +66,19 @@ pub fn of_links(links: &mut Links, words: &mut Words<'_>, answer: &mut Answer) -
     let call = word(words)?;
     let from = site(words)?;
     let to = site(words)?;
-    match call {
-        b"send" => {
+    match str::from_utf8(call) {
+        Ok("send") => {
             links.send(from, to, frame(words)?)?;
             answer.word("ok")
         }
-        b"front" => put_or_none(links.front(from, to), answer),
-        b"receive" if words.is_empty() => put_or_none(links.receive(from, to), answer),
-        b"receive" => {
+        Ok("front") => put_or_none(links.front(from, to), answer),
+        Ok("receive") if words.is_empty() => put_or_none(links.receive(from, to), answer),
+        Ok("receive") => {
             let frame = frame(words)?;
             answer.word(links.receive_this(from, to, &frame))
         }
-        b"len" => answer.word(links.len(from, to)),
-        b"clear" => {
+        Ok("len") => answer.word(links.len(from, to)),
+        Ok("clear") => {
             links.clear(from, to);
             answer.word("ok")
         }

@@ -36,13 +36,14 @@ pub fn of_memory(
     words: &mut Words<'_>,
     answer: &mut Answer,
 ) -> Called {
-    match word(words)? {
-        b"bytes" => answer.bytes(sink.as_slice()),
-        b"reserve" => {
+    let call = word(words)?;
+    match str::from_utf8(call) {
+        Ok("bytes") => answer.bytes(sink.as_slice()),
+        Ok("reserve") => {
             sink.reserve(size(words)?)?;
             answer.word("ok")
         }
-        call => of_sink(sink, call, objects, words, answer),
+        _ => of_sink(sink, call, objects, words, answer),
     }
 }
 
@@ -53,9 +54,10 @@ pub fn of_fuse(
     words: &mut Words<'_>,
     answer: &mut Answer,
 ) -> Called {
-    match word(words)? {
-        b"bytes" => answer.bytes(sink.as_slice()),
-        call => of_sink(sink, call, objects, words, answer),
+    let call = word(words)?;
+    match str::from_utf8(call) {
+        Ok("bytes") => answer.bytes(sink.as_slice()),
+        _ => of_sink(sink, call, objects, words, answer),
     }
 }
 
@@ -70,21 +72,21 @@ fn of_sink<S: Sink>(
     if sink.faults() == u64::MAX {
         return Err(Unanswered::BadLine);
     }
-    match call {
-        b"write" => {
+    match str::from_utf8(call) {
+        Ok("write") => {
             let bytes = bytes_of(objects.alloc, words)?;
             match sink.write(&bytes) {
                 Ok(count) => answer.word(count),
                 Err(SinkFault) => answer.word("fault"),
             }
         }
-        b"append" => {
+        Ok("append") => {
             let bytes = bytes_of(objects.alloc, words)?;
             put_done(append(sink, &bytes), answer)
         }
-        b"take" => put_done(append(sink, bytes(objects, words)?), answer),
-        b"sync" => put_done(sink.sync(), answer),
-        b"faults" => answer.word(sink.faults()),
+        Ok("take") => put_done(append(sink, bytes(objects, words)?), answer),
+        Ok("sync") => put_done(sink.sync(), answer),
+        Ok("faults") => answer.word(sink.faults()),
         _ => Err(Unanswered::BadLine),
     }
 }

@@ -39,14 +39,15 @@ pub fn of_waits(
     words: &mut Words<'_>,
     answer: &mut Answer,
 ) -> Called {
-    match word(words)? {
-        b"ask" => ask(objects.alloc, waits, words, answer),
-        b"reply" => reply(waits, words, answer),
-        b"got" => got(waits, words, answer),
-        b"back" => back(waits, words, answer),
-        b"round" => round(waits, process(words)?, process(words)?, answer),
-        b"turn" => turn(waits, process(words)?, process(words)?, answer),
-        b"copy" => {
+    let call = word(words)?;
+    match str::from_utf8(call) {
+        Ok("ask") => ask(objects.alloc, waits, words, answer),
+        Ok("reply") => reply(waits, words, answer),
+        Ok("got") => got(waits, words, answer),
+        Ok("back") => back(waits, words, answer),
+        Ok("round") => round(waits, process(words)?, process(words)?, answer),
+        Ok("turn") => turn(waits, process(words)?, process(words)?, answer),
+        Ok("copy") => {
             let name = word(words)?;
             keep(
                 objects,
@@ -55,11 +56,11 @@ pub fn of_waits(
                 answer,
             )
         }
-        b"waits" => answer.word(waits.waits(process(words)?, process(words)?)),
-        b"owes" => answer.word(waits.owes(process(words)?, process(words)?)),
-        b"member" => answer.word(waits.is_member(process(words)?)),
-        b"blocked" => answer.word(waits.is_blocked(process(words)?)),
-        call => told(waits, call, objects, words, answer),
+        Ok("waits") => answer.word(waits.waits(process(words)?, process(words)?)),
+        Ok("owes") => answer.word(waits.owes(process(words)?, process(words)?)),
+        Ok("member") => answer.word(waits.is_member(process(words)?)),
+        Ok("blocked") => answer.word(waits.is_blocked(process(words)?)),
+        _ => told(waits, call, objects, words, answer),
     }
 }
 
@@ -71,21 +72,21 @@ fn told(
     words: &mut Words<'_>,
     answer: &mut Answer,
 ) -> Called {
-    match call {
-        b"members" => put_list(waits.members(), answer),
-        b"local" => put_list(&waits.local_waits(objects.alloc, process(words)?)?, answer),
-        b"remote" => put_list(&waits.remote_waits(objects.alloc, process(words)?)?, answer),
-        b"owed" => {
+    match str::from_utf8(call) {
+        Ok("members") => put_list(waits.members(), answer),
+        Ok("local") => put_list(&waits.local_waits(objects.alloc, process(words)?)?, answer),
+        Ok("remote") => put_list(&waits.remote_waits(objects.alloc, process(words)?)?, answer),
+        Ok("owed") => {
             let holder = process(words)?;
             put_list(&waits.local_owed(objects.alloc, holder)?, answer)?;
             answer.word("remote")?;
             put_processes(&waits.remote_owed(objects.alloc, holder)?, answer)
         }
-        b"at" => at(waits, size(words)?, answer),
-        b"place" => put_or_none(waits.place(process(words)?), answer),
-        b"reach" => reach(objects.alloc, waits, process(words)?, answer),
-        b"start" => started(objects.alloc, waits, process(words)?, answer),
-        b"probe" => probed(waits, objects, words, answer),
+        Ok("at") => at(waits, size(words)?, answer),
+        Ok("place") => put_or_none(waits.place(process(words)?), answer),
+        Ok("reach") => reach(objects.alloc, waits, process(words)?, answer),
+        Ok("start") => started(objects.alloc, waits, process(words)?, answer),
+        Ok("probe") => probed(waits, objects, words, answer),
         _ => Err(Unanswered::BadLine),
     }
 }
@@ -251,21 +252,22 @@ pub fn of_dependents(
     words: &mut Words<'_>,
     answer: &mut Answer,
 ) -> Called {
-    match word(words)? {
-        b"add" => {
+    let call = word(words)?;
+    match str::from_utf8(call) {
+        Ok("add") => {
             dependents.add(process(words)?, process(words)?)?;
             answer.word("ok")
         }
-        b"has" => answer.word(dependents.has(process(words)?, process(words)?)),
-        b"back" => {
+        Ok("has") => answer.word(dependents.has(process(words)?, process(words)?)),
+        Ok("back") => {
             dependents.take_back(process(words)?, process(words)?);
             answer.word("ok")
         }
-        b"clear" => {
+        Ok("clear") => {
             dependents.clear(process(words)?);
             answer.word("ok")
         }
-        b"copy" => {
+        Ok("copy") => {
             let name = word(words)?;
             let copy = dependents.copy(objects.alloc)?;
             keep(objects, name, Object::Dependents(copy), answer)

@@ -46,10 +46,11 @@ pub fn fault_of(number: u64) -> Result<LinkFault, Unanswered> {
 
 /// `new`, `open` or `closed FAULT`.
 pub fn state_of(words: &mut Words<'_>) -> Result<LinkState, Unanswered> {
-    match word(words)? {
-        b"new" => Ok(LinkState::Fresh),
-        b"open" => Ok(LinkState::Running),
-        b"closed" => Ok(LinkState::Closed(fault_of(number(words)?)?)),
+    let call = word(words)?;
+    match str::from_utf8(call) {
+        Ok("new") => Ok(LinkState::Fresh),
+        Ok("open") => Ok(LinkState::Running),
+        Ok("closed") => Ok(LinkState::Closed(fault_of(number(words)?)?)),
         _ => Err(Unanswered::BadLine),
     }
 }
@@ -74,18 +75,18 @@ pub fn call_links<R: Wait>(
     let site = words.site().ok_or(Unanswered::BadLine)?;
     if closes {
         let fault = fault_of(number(words)?)?;
-        match what {
-            b"in" => links.lock(rt).close_in(site, fault),
-            b"out" => links.lock(rt).close_out(site, fault),
+        match str::from_utf8(what) {
+            Ok("in") => links.lock(rt).close_in(site, fault),
+            Ok("out") => links.lock(rt).close_out(site, fault),
             _ => return Err(Unanswered::BadLine),
         }
         return answer.word("ok");
     }
-    match what {
-        b"claim" => answer.word(links.lock(rt).claim(site)),
-        b"open" => answer.word(links.lock(rt).open_out(site)),
-        b"in" => put_state(links.lock(rt).state_in(site), answer),
-        b"out" => put_state(links.lock(rt).state_out(site), answer),
+    match str::from_utf8(what) {
+        Ok("claim") => answer.word(links.lock(rt).claim(site)),
+        Ok("open") => answer.word(links.lock(rt).open_out(site)),
+        Ok("in") => put_state(links.lock(rt).state_in(site), answer),
+        Ok("out") => put_state(links.lock(rt).state_out(site), answer),
         _ => Err(Unanswered::BadLine),
     }
 }

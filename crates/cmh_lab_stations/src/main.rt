@@ -24,7 +24,7 @@ mod telling;
 use crate::making::word;
 use crate::object::{Object, Objects};
 use cmh_console::{Input, Output, Words};
-use cmh_lab_lines::{Answer, Lab, Unanswered, bytes_of, number, run_lab};
+use cmh_lab_lines::{Answer, Lab, Unanswered, run_lab};
 use std::alloc::Global;
 use std::io::{BufReader, BufWriter};
 use std::process::ExitCode;
@@ -47,35 +47,27 @@ impl<R: Wait + Copy + Drop> Lab for Stations<R> {
     fn call(&mut self, words: &mut Words<'_>, answer: &mut Answer) -> Result<(), Unanswered> {
         let first = word(words)?;
         let (alloc, objects) = (self.alloc, &mut self.objects);
-        match first {
-            b"forget" => {
+        match str::from_utf8(first) {
+            Ok("forget") => {
                 objects.clear();
                 answer.word("ok")
             }
-            b"topology" => making::make_topology(alloc, objects, words, answer),
-            b"station" => making::make_station(self.rt, alloc, objects, words, answer),
-            b"core" => making::make_core(alloc, objects, words, answer),
-            b"bytes" => {
-                let name = word(words)?;
-                objects.put(name, Object::Bytes(bytes_of(alloc, words)?))?;
-                answer.word("ok")
-            }
-            b"audit" => auditing::audit_sinks(alloc, objects, words, answer),
-            b"incoming" => carriers::make_incoming(alloc, objects, words, answer),
-            b"outgoing" => carriers::make_outgoing(alloc, objects, words, answer),
-            b"hands" => hands::make_hands(alloc, objects, words, answer),
-            b"frames" => hands::make_frames(alloc, objects, words, answer),
-            b"links" => links::make_links(alloc, objects, words, answer),
-            b"reader" => links::read_link(self.rt, alloc, objects, words, answer),
-            b"writer" => links::write_link(self.rt, objects, words, answer),
-            b"note" => noting::tell_note(words, answer),
-            b"meter" => noting::make_meter(objects, words, answer),
-            b"refusal" => {
-                let refusal = telling::refusal_of(number(words)?)?;
-                answer.word(refusal.number())?;
-                answer.word(refusal)
-            }
-            name => self.call_object(name, words, answer),
+            Ok("topology") => making::make_topology(alloc, objects, words, answer),
+            Ok("station") => making::make_station(self.rt, alloc, objects, words, answer),
+            Ok("core") => making::make_core(alloc, objects, words, answer),
+            Ok("bytes") => making::make_bytes(alloc, objects, words, answer),
+            Ok("audit") => auditing::audit_sinks(alloc, objects, words, answer),
+            Ok("incoming") => carriers::make_incoming(alloc, objects, words, answer),
+            Ok("outgoing") => carriers::make_outgoing(alloc, objects, words, answer),
+            Ok("hands") => hands::make_hands(alloc, objects, words, answer),
+            Ok("frames") => hands::make_frames(alloc, objects, words, answer),
+            Ok("links") => links::make_links(alloc, objects, words, answer),
+            Ok("reader") => links::read_link(self.rt, alloc, objects, words, answer),
+            Ok("writer") => links::write_link(self.rt, objects, words, answer),
+            Ok("note") => noting::tell_note(words, answer),
+            Ok("meter") => noting::make_meter(objects, words, answer),
+            Ok("refusal") => telling::tell_refusal(words, answer),
+            _ => self.call_object(first, words, answer),
         }
     }
 }

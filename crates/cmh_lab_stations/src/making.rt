@@ -12,7 +12,7 @@ use crate::telling::put_refusal;
 use cmh_console::Words;
 use cmh_frames::Topology;
 use cmh_journal::{FuseSink, MemSink, Sink};
-use cmh_lab_lines::{Answer, Unanswered, edition, number, rows, size};
+use cmh_lab_lines::{Answer, Unanswered, bytes_of, edition, number, rows, size};
 use cmh_station::StationRefusal;
 use std::alloc::Global;
 use std::sync::Wait;
@@ -50,6 +50,18 @@ pub fn make_topology<R: Wait + Copy + Drop>(
             }
         }
     }
+}
+
+/// `bytes NAME BYTES`.
+pub fn make_bytes<R: Wait + Copy + Drop>(
+    alloc: Global,
+    objects: &mut Objects<R>,
+    words: &mut Words<'_>,
+    answer: &mut Answer,
+) -> Result<(), Unanswered> {
+    let name = word(words)?;
+    objects.put(name, Object::Bytes(bytes_of(alloc, words)?))?;
+    answer.word("ok")
 }
 
 /// `ample`, `room BYTES`, `fuse CALLS` or `once CALLS`.

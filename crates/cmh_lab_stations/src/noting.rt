@@ -37,9 +37,9 @@ fn note_of(words: &mut Words<'_>) -> Result<Note, Unanswered> {
 /// `note alone NOTE` or `note at SITE NOTE`: the line of a note. NOTE is `refused SITE STATE`, `strange`, `silent`,
 /// `full`, `out SITE FAULT`, `in SITE FAULT`, `deaf`, `thread`, `link SITE`, `sealed`, `kept NUMBER` or `left COUNT`.
 pub fn tell_note(words: &mut Words<'_>, answer: &mut Answer) -> Result<(), Unanswered> {
-    let origin = match word(words)? {
-        b"alone" => Origin::Alone,
-        b"at" => Origin::Site(site(words)?),
+    let origin = match str::from_utf8(word(words)?) {
+        Ok("alone") => Origin::Alone,
+        Ok("at") => Origin::Site(site(words)?),
         _ => return Err(Unanswered::BadLine),
     };
     let note = note_of(words)?;
@@ -64,14 +64,15 @@ pub fn call_meter(
     words: &mut Words<'_>,
     answer: &mut Answer,
 ) -> Result<(), Unanswered> {
-    match word(words)? {
-        b"admit" => answer.word(meter.admit()),
-        b"turn" => answer.word(meter.turn(number(words)?)),
-        b"leave" => {
+    let call = word(words)?;
+    match str::from_utf8(call) {
+        Ok("admit") => answer.word(meter.admit()),
+        Ok("turn") => answer.word(meter.turn(number(words)?)),
+        Ok("leave") => {
             meter.leave_out(number(words)?);
             answer.word("ok")
         }
-        b"left" => answer.word(meter.left_out()),
+        Ok("left") => answer.word(meter.left_out()),
         _ => Err(Unanswered::BadLine),
     }
 }

@@ -46,10 +46,10 @@ pub fn question<B: Listing>(
     words: &mut Words<'_>,
     answer: &mut Answer,
 ) -> Result<bool, Unanswered> {
-    match first {
-        b"check" => check(alloc, station, words, answer)?,
-        b"waits" => put_found(station.waits_of(process(words)?), answer)?,
-        b"owed" => put_found(station.owed_by(process(words)?), answer)?,
+    match str::from_utf8(first) {
+        Ok("check") => check(alloc, station, words, answer)?,
+        Ok("waits") => put_found(station.waits_of(process(words)?), answer)?,
+        Ok("owed") => put_found(station.owed_by(process(words)?), answer)?,
         _ => return Ok(false),
     }
     Ok(true)

@@ -143,14 +143,14 @@ impl<R: Wait + Copy + Drop> Shared<R> {
         words: &mut Words<'_>,
         answer: &mut Answer,
     ) -> Result<(), Unanswered> {
-        match first {
-            b"tell" => self.tell(answer),
-            b"read" => read_one(&mut self.first, &mut self.second, words, answer),
-            b"wake" => {
+        match str::from_utf8(first) {
+            Ok("tell") => self.tell(answer),
+            Ok("read") => read_one(&mut self.first, &mut self.second, words, answer),
+            Ok("wake") => {
                 self.wake(words)?;
                 answer.word("ok")
             }
-            b"park" => {
+            Ok("park") => {
                 let site = words.site().ok_or(Unanswered::BadLine)?;
                 match parking_to(&mut self.taps, site) {
                     Some(tap) => {

@@ -221,11 +221,11 @@ impl<R: Wait + Copy + Drop> Opened<R> {
         words: &mut Words<'_>,
         answer: &mut Answer,
     ) -> Result<(), Unanswered> {
-        match first {
-            b"tell" => self.tell(answer),
-            b"learn" => self.learn(words, answer),
-            b"read" => self.read(words, answer),
-            b"taps" => self.put_taps(answer),
+        match str::from_utf8(first) {
+            Ok("tell") => self.tell(answer),
+            Ok("learn") => self.learn(words, answer),
+            Ok("read") => self.read(words, answer),
+            Ok("taps") => self.put_taps(answer),
             _ => self.look_or_step(alloc, first, words, answer),
         }
     }
@@ -241,13 +241,13 @@ pub fn call_station<R: Wait + Copy + Drop>(
     let Some(first) = words.next_word() else {
         return (Object::Station(opened), Err(Unanswered::BadLine));
     };
-    match first {
-        b"close" => {
+    match str::from_utf8(first) {
+        Ok("close") => {
             let left = opened.close();
             let told = left.tell(answer);
             (Object::Left(left), told)
         }
-        b"drop" => {
+        Ok("drop") => {
             let left = Left {
                 journal: None,
                 disk: None,
@@ -256,7 +256,7 @@ pub fn call_station<R: Wait + Copy + Drop>(
             };
             (Object::Left(left), answer.word("ok"))
         }
-        b"share" => share(alloc, opened, answer),
+        Ok("share") => share(alloc, opened, answer),
         _ => {
             let mut opened = opened;
             let called = opened.call(alloc, first, words, answer);

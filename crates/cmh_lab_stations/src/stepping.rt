@@ -58,9 +58,9 @@ fn events(alloc: Global, words: &mut Words<'_>) -> Result<Vec<Event>, Unanswered
         let Some(first) = words.next_word() else {
             break;
         };
-        match first {
-            b"/" => {}
-            b"ask" => {
+        match str::from_utf8(first) {
+            Ok("/") => {}
+            Ok("ask") => {
                 let asker = words.process().ok_or(Unanswered::BadLine)?;
                 let targets = targets(alloc, words)?;
                 events.push(Event::Ask { asker, targets })?;
@@ -115,21 +115,21 @@ pub fn call_stepping<T: Stepping>(
     words: &mut Words<'_>,
     answer: &mut Answer,
 ) -> Result<(), Unanswered> {
-    match first {
-        b"all" => {
+    match str::from_utf8(first) {
+        Ok("all") => {
             let events = events(alloc, words)?;
             put_steps(&steps(stepping, &events, false)?, answer)
         }
-        b"until" => {
+        Ok("until") => {
             let events = events(alloc, words)?;
             put_steps(&steps(stepping, &events, true)?, answer)
         }
-        b"times" => step_times(alloc, stepping, words, answer),
-        b"release" => {
+        Ok("times") => step_times(alloc, stepping, words, answer),
+        Ok("release") => {
             stepping.release();
             answer.word("ok")
         }
-        b"take" => {
+        Ok("take") => {
             let site = words.site().ok_or(Unanswered::BadLine)?;
             match stepping.take(site) {
                 None => answer.word("no link"),
@@ -152,12 +152,12 @@ pub fn look(
     first: &[u8],
     answer: &mut Answer,
 ) -> Result<bool, Unanswered> {
-    match first {
-        b"journal" => put_entries(entries, answer)?,
-        b"entries" => answer.word(entries.len())?,
-        b"sealed" => answer.word(sealed)?,
-        b"bytes" => answer.bytes(disk.bytes())?,
-        b"faults" => answer.word(disk.faults())?,
+    match str::from_utf8(first) {
+        Ok("journal") => put_entries(entries, answer)?,
+        Ok("entries") => answer.word(entries.len())?,
+        Ok("sealed") => answer.word(sealed)?,
+        Ok("bytes") => answer.bytes(disk.bytes())?,
+        Ok("faults") => answer.word(disk.faults())?,
         _ => return Ok(false),
     }
     Ok(true)

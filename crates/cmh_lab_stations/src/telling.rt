@@ -1,8 +1,9 @@
 //! What calls of stations answer.
 
+use cmh_console::Words;
 use cmh_controller::Refusal;
 use cmh_frames::{Frame, ProcId, SiteId};
-use cmh_lab_lines::{Answer, Unanswered};
+use cmh_lab_lines::{Answer, Unanswered, number};
 use cmh_model::{Entry, Outcome};
 use cmh_show::EntryText;
 use cmh_station::StationRefusal;
@@ -109,6 +110,13 @@ pub fn put_lines(lines: &str, answer: &mut Answer) -> Result<(), Unanswered> {
         }
     }
     Ok(())
+}
+
+/// `refusal NUMBER`: its number and its text.
+pub fn tell_refusal(words: &mut Words<'_>, answer: &mut Answer) -> Result<(), Unanswered> {
+    let refusal = refusal_of(number(words)?)?;
+    answer.word(refusal.number())?;
+    answer.word(refusal)
 }
 
 /// The refusal of a number.

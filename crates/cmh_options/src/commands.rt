@@ -56,30 +56,31 @@ pub fn command<'a>(alloc: Global, help: &'a Help) -> Result<Command<'a>, Error> 
             "Plays or runs sites whose processes wait for each other and find their deadlocks by probes, and audits their \
              journals. Without a command it plays a script.",
         )
-        .after_help(Help::COMMANDS)
-        .subcommand(play_command(alloc, help)?)?
-        .subcommand(site_command(alloc, help)?)?
-        .subcommand(serve_command(alloc, help)?)?
-        .subcommand(cluster_command(alloc, help)?)?
-        .subcommand(audit_command(alloc, help)?)?
-        .subcommand(show_command(alloc, help)?)?
-        .subcommand(draw_command(alloc, help)?)?;
+        .after_help(Help::COMMANDS);
+    let cmh = with(cmh, play_command(alloc, help))?;
+    let cmh = with(cmh, site_command(alloc, help))?;
+    let cmh = with(cmh, serve_command(alloc, help))?;
+    let cmh = with(cmh, cluster_command(alloc, help))?;
+    let cmh = with(cmh, audit_command(alloc, help))?;
+    let cmh = with(cmh, show_command(alloc, help))?;
+    let cmh = with(cmh, draw_command(alloc, help))?;
     Ok(cmh)
 }
 
+/// The command line with one command more, if that could be made.
+fn with<'a>(line: Command<'a>, command: Result<Command<'a>, Error>) -> Result<Command<'a>, Error> {
+    let line = line.subcommand(command?)?;
+    Ok(line)
+}
+
 fn play_command<'a>(alloc: Global, help: &'a Help) -> Result<Command<'a>, Error> {
-    let journals = Arg::new(alloc, JOURNALS)
-        .long(JOURNALS)
-        .value_name("DIR")
-        .help("A folder, which has to be there, for the journals site-N.cmhj")
-        .action(ArgAction::Set);
     let play = Command::new(alloc, PLAY)
         .about(
             "Plays a script from standard input on a world of sites in memory, and answers each line",
         )
         .override_usage("cmh play < FILE [--journals DIR]")
         .after_help(help.play.as_str())
-        .arg(journals)?;
+        .arg(folder_arg(alloc))?;
     Ok(play)
 }
 
@@ -92,6 +93,7 @@ fn show_command<'a>(alloc: Global, help: &'a Help) -> Result<Command<'a>, Error>
 }
 
 fn audit_command<'a>(alloc: Global, help: &'a Help) -> Result<Command<'a>, Error> {
+    let run = run_arg(alloc)?;
     let audit = Command::new(alloc, AUDIT)
         .about(
             "Tells whether the journals of all sites come from one run, and who waits and is deadlocked at its end",
@@ -99,34 +101,23 @@ fn audit_command<'a>(alloc: Global, help: &'a Help) -> Result<Command<'a>, Error
         .after_help(help.audit.as_str())
         .arg(topology_arg(alloc))?
         .arg(why_arg(alloc))?
-        .arg(run_arg(alloc)?)?
+        .arg(run)?
         .arg(journals_arg(alloc).help("The journal files of all sites, in any order"))?;
     Ok(audit)
 }
 
 fn draw_command<'a>(alloc: Global, help: &'a Help) -> Result<Command<'a>, Error> {
-    let kind = word_arg(alloc, KIND, KINDS).default_value("waits").help(
-        "Who waits for whom at the end, or the run with its frames",
-    );
-    let format = word_arg(alloc, FORMAT, FORMATS)
-        .default_value("svg")
-        .help("A picture that a browser opens, or text for Graphviz");
     let draw = Command::new(alloc, DRAW)
         .about("Draws the journals of all sites: who waits for whom at their end, or what happened")
         .after_help(help.draw.as_str())
         .arg(topology_arg(alloc))?
-        .arg(kind)?
-        .arg(format)?
+        .arg(kind_arg(alloc))?
+        .arg(format_arg(alloc))?
         .arg(journals_arg(alloc).help("The journal files of all sites, in any order"))?;
     Ok(draw)
 }
 
 fn site_command<'a>(alloc: Global, help: &'a Help) -> Result<Command<'a>, Error> {
-    let patience = patience_arg(alloc)
-        .help(
-            "How long `connect` tries sites again that don't listen yet, for all together; 0 to 3600",
-        )
-        .default_value("0");
     let command = Command::new(alloc, SITE)
         .about(
             "Runs one site: answers lines from standard input, talks to the other sites over 127.0.0.1, and keeps a journal",
@@ -135,26 +126,12 @@ fn site_command<'a>(alloc: Global, help: &'a Help) -> Result<Command<'a>, Error>
         .arg(topology_arg(alloc))?
         .arg(site_arg(alloc))?
         .arg(journal_arg(alloc))?
-        .arg(patience)?
+        .arg(site_patience_arg(alloc))?
         .arg(notes_arg(alloc))?;
     Ok(command)
 }
 
 fn serve_command<'a>(alloc: Global, help: &'a Help) -> Result<Command<'a>, Error> {
-    let port = Arg::new(alloc, PORT)
-        .long(PORT)
-        .value_name("PORT")
-        .help("The port of 127.0.0.1 on which clients connect, 1 to 65535")
-        .required(true)
-        .value_parser(value_parser!(u16).range(1..=65535))
-        .action(ArgAction::Set);
-    let patience = patience_arg(alloc)
-        .help("How long sites are tried again that don't listen yet, for all together; 0 to 3600")
-        .default_value("30");
-    let quiet = Arg::new(alloc, QUIET)
-        .long(QUIET)
-        .help("Notes nothing on standard error")
-        .action(ArgAction::SetTrue);
     let command = Command::new(alloc, SERVE)
         .about(
             "Runs one site for clients, each a connection to a port of 127.0.0.1 that sends lines and gets their answers",
@@ -163,25 +140,21 @@ fn serve_command<'a>(alloc: Global, help: &'a Help) -> Result<Command<'a>, Error
         .arg(topology_arg(alloc))?
         .arg(site_arg(alloc))?
         .arg(journal_arg(alloc))?
-        .arg(port)?
-        .arg(patience)?
-        .arg(quiet)?;
+        .arg(port_arg(alloc))?
+        .arg(serve_patience_arg(alloc))?
+        .arg(quiet_arg(alloc))?;
     Ok(command)
 }
 
 fn cluster_command<'a>(alloc: Global, help: &'a Help) -> Result<Command<'a>, Error> {
-    let script = path_arg(alloc, SCRIPT, "FILE").help("The lines that the sites are given");
-    let out = path_arg(alloc, OUT, "DIR").help(
-        "The folder for the journals site-N.cmhj, which has to be there; journals of the run before are replaced",
-    );
     let command = Command::new(alloc, CLUSTER)
         .about(
             "Runs all sites as threads over 127.0.0.1, waits after each line until all frames have come, and audits the journals",
         )
         .after_help(help.cluster.as_str())
         .arg(topology_arg(alloc))?
-        .arg(script)?
-        .arg(out)?
+        .arg(script_arg(alloc))?
+        .arg(out_arg(alloc))?
         .arg(notes_arg(alloc))?;
     Ok(command)
 }
@@ -220,6 +193,68 @@ fn run_arg<'a>(alloc: Global) -> Result<Arg<'a>, Error> {
         .action(ArgAction::SetTrue)
         .conflicts_with(WHY)?;
     Ok(run)
+}
+
+/// The folder of a script that is played.
+fn folder_arg<'a>(alloc: Global) -> Arg<'a> {
+    Arg::new(alloc, JOURNALS)
+        .long(JOURNALS)
+        .value_name("DIR")
+        .help("A folder, which has to be there, for the journals site-N.cmhj")
+        .action(ArgAction::Set)
+}
+
+fn kind_arg<'a>(alloc: Global) -> Arg<'a> {
+    word_arg(alloc, KIND, KINDS).default_value("waits").help(
+        "Who waits for whom at the end, or the run with its frames",
+    )
+}
+
+fn format_arg<'a>(alloc: Global) -> Arg<'a> {
+    word_arg(alloc, FORMAT, FORMATS)
+        .default_value("svg")
+        .help("A picture that a browser opens, or text for Graphviz")
+}
+
+fn port_arg<'a>(alloc: Global) -> Arg<'a> {
+    Arg::new(alloc, PORT)
+        .long(PORT)
+        .value_name("PORT")
+        .help("The port of 127.0.0.1 on which clients connect, 1 to 65535")
+        .required(true)
+        .value_parser(value_parser!(u16).range(1..=65535))
+        .action(ArgAction::Set)
+}
+
+fn quiet_arg<'a>(alloc: Global) -> Arg<'a> {
+    Arg::new(alloc, QUIET)
+        .long(QUIET)
+        .help("Notes nothing on standard error")
+        .action(ArgAction::SetTrue)
+}
+
+fn script_arg<'a>(alloc: Global) -> Arg<'a> {
+    path_arg(alloc, SCRIPT, "FILE").help("The lines that the sites are given")
+}
+
+fn out_arg<'a>(alloc: Global) -> Arg<'a> {
+    path_arg(alloc, OUT, "DIR").help(
+        "The folder for the journals site-N.cmhj, which has to be there; journals of the run before are replaced",
+    )
+}
+
+fn site_patience_arg<'a>(alloc: Global) -> Arg<'a> {
+    patience_arg(alloc)
+        .help(
+            "How long `connect` tries sites again that don't listen yet, for all together; 0 to 3600",
+        )
+        .default_value("0")
+}
+
+fn serve_patience_arg<'a>(alloc: Global) -> Arg<'a> {
+    patience_arg(alloc)
+        .help("How long sites are tried again that don't listen yet, for all together; 0 to 3600")
+        .default_value("30")
 }
 
 fn patience_arg<'a>(alloc: Global) -> Arg<'a> {

@@ -1,7 +1,6 @@
 -- The command `draw`: from the bytes of its files to the text of their picture.
 use Rattle.std.specs.Prelude.{◌≡◌, ℕ, true, ◌⊎◌, List, Option}
 use Rattle.std.specs.Io.KnownBytes.{Appends}
-use Rattle.cmh_frames.specs.declared.edition.Edition.{Edition}
 use Rattle.cmh_frames.specs.Topology.{Topology}
 use Rattle.cmh_journal.specs.Journal.{Journal}
 use Rattle.cmh_audit.specs.declared.verdict.Verdict.{Verdict}
@@ -23,11 +22,12 @@ IsPictureOf Run t journals verdict picture = IsRunPicture t journals verdict pic
 
 -- the picture is that of what an audit of the files reads, and of its verdict
 pub record DrawsFiles (topology : List ℕ) (files : List (List ℕ)) (kind : Kind) (picture : Picture) : Type 0 where
-  pub edition : Edition
+  pub world : Topology
+  pub journals : List Journal
   pub cuts : List (ℕ × ℕ)
   pub verdict : Verdict
-  pub audits : Audits topology files edition cuts verdict
-  pub is_picture : IsPictureOf kind audits.world audits.journals verdict picture
+  pub audits : Audits topology files world journals cuts verdict
+  pub is_picture : IsPictureOf kind world journals verdict picture
 
 -- what was written is a text of the picture of the files
 pub record WroteDrawing (topology : List ℕ) (files : List (List ℕ)) (kind : Kind) (format : Format)

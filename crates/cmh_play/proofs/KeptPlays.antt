@@ -1,12 +1,12 @@
 -- A script that is played, and whose journals are kept.
-use Rattle.std.proofs.Common.{◌≡◌, ◌≢◌, ℕ, Bool, Box, List, [], Option, None, Some, refl, sym, subst, inl, inr, true≢false}
+use Rattle.std.proofs.Common.{◌≡◌, ◌≢◌, ℕ, zero, suc, Bool, Box, List, [], Option, None, Some, refl, sym, subst, inl, inr, true≢false}
 use Rattle.std.specs.Prelude.{◌⊎◌, IfErr, IfSome, IsErr, IsErrAnd, OnOk, Result, Ok, Err}
 use Rattle.std.specs.Global.{Global}
 use Rattle.std.specs.Io.KnownBytes.{Keeps}
 use Rattle.std.proofs.KnownBytes.{Appends-kept}
-use Rattle.cmh_console.specs.Faults.{IsAnswerFault, IsPlayFault, NamesFault, status_of}
+use Rattle.cmh_console.specs.Faults.{IsAnswerFault, IsPlayFault, NamesFault}
 use Rattle.cmh_console.specs.declared.faults.Fault.{Fault}
-use Rattle.cmh_console.specs.declared.faults.Fault.TheVariants.{Memory}
+use Rattle.cmh_console.specs.declared.faults.Fault.TheVariants.{Input, Memory}
 use Rattle.cmh_journal.specs.Journal.{Journal}
 use Rattle.cmh_console.proofs.LinesSeen.{if_some}
 use Rattle.cmh_console.specs.Device.{Writing}
@@ -14,9 +14,12 @@ use Rattle.cmh_console.specs.Lines.{IsNextLine}
 use Rattle.cmh_console.specs.declared.lines.NextLine.{NextLine}
 use Rattle.cmh_console.specs.declared.lines.NextLine.TheVariants.{End}
 use Rattle.cmh_console.proofs.LineLemmas.{at_some}
-use Rattle.cmh_play.proofs.Plays.{HasPlayed, answer_fault, answered_fault, answered_some, fault_not_0}
+use Rattle.cmh_console.proofs.Dialogues.{HasTalked, talked_fault, talked_some}
+use Rattle.cmh_console.specs.Dialogue.{Conversed, Dialogue}
+use Rattle.cmh_console.specs.declared.dialogue.Flow.TheVariants.{Awaits}
+use Rattle.cmh_play.proofs.Plays.{answer_fault, status_above_0}
 use Rattle.cmh_play.specs.Keeping.{AnsweredAndKept, IsKeptPlayFault, IsUnanswered, KeepsAt, KeepsWorld, PlayedToEnd}
-use Rattle.cmh_play.specs.Play.{Answered, Plays, status_after}
+use Rattle.cmh_play.specs.Play.{Answered, IsTurnOfScript, new_state, status_after}
 use Rattle.cmh_play.specs.PlayStates.{PlayState}
 use Rattle.cmh_play.specs.declared.reply.Reply.{Reply}
 use Rattle.cmh_play.specs.declared.reply.Reply.TheVariants.{Silent, Ok as OkReply, BadLine, Late, Topology, Step, Delivery, Severance, Report}
@@ -50,7 +53,7 @@ unkept_err Fails out has_failed (Err fault) lower is h = subst (IsUnanswered Fai
 
 -- ---- the lines so far
 
-module _ (start now old out : Option (List ℕ)) (state : PlayState) (n : ℕ) (so_far : HasPlayed start now old out state n) where
+module _ (start old now out : Option (List ℕ)) (state : PlayState) (n : ℕ) (so_far : HasTalked PlayState IsTurnOfScript new_state start now old out state n) where
   -- no line is left
   pub played_to_end : (next : NextLine) → IfSome now (λ bytes. IsNextLine bytes next) → next ≡ End
       → IfSome start (λ bytes. PlayedToEnd bytes old out state)
@@ -59,22 +62,17 @@ module _ (start now old out : Option (List ℕ)) (state : PlayState) (n : ℕ) (
       let none : s.rest ≡ [] = subst (IsNextLine s.rest) ends (at_some now (λ bytes. IsNextLine bytes next) s.rest s.now_is is) in
       record {
         text = s.text;
-        plays = subst (λ (rest : List ℕ). Plays bytes rest s.text state) none s.plays;
+        dialogue = subst (λ (rest : List ℕ). Dialogue PlayState IsTurnOfScript new_state bytes rest s.text state Awaits) none s.dialogue;
         wrote = s.wrote;
       })
 
   -- a line is not answered
-  unanswered : (Fails : Fault → Type 0) (after : Option (List ℕ)) (has_failed : Bool) (fault : Fault) → IsUnanswered Fails out after has_failed fault
-      → IfSome start (λ bytes. Answered bytes old after has_failed (status_of fault))
-  unanswered Fails after has_failed fault (inl why) = answered_fault start now old out state n so_far after has_failed fault why
+  pub unanswered : (Fails : Fault → Type 0) (after : Option (List ℕ)) (has_failed : Bool) (fault : Fault) → IsUnanswered Fails out after has_failed fault
+      → IfSome start (λ bytes. Conversed IsTurnOfScript new_state bytes old after has_failed (Err Input))
+  unanswered Fails after has_failed fault (inl why) = talked_fault _ _ _ _ _ _ _ state n so_far after has_failed Input fault why
   unanswered Fails after has_failed fault (inr why) =
-      subst (λ (o : Option (List ℕ)). IfSome start (λ bytes. Answered bytes old o has_failed (status_of fault))) (sym why.1)
-      (answered_some start now old out state n so_far has_failed fault)
-
-  pub unanswered_err : (Fails : Fault → Type 0) (after : Option (List ℕ)) (has_failed : Bool) (r : Result (Unit {0}) Fault) (lower : Fault) → IsErrAnd r (λ fault. fault ≡ lower)
-      → IsUnanswered Fails out after has_failed lower → IfSome start (λ bytes. Answered bytes old after has_failed (status_after r))
-  unanswered_err Fails after has_failed (Ok x) lower is h = absurd is
-  unanswered_err Fails after has_failed (Err fault) lower is h = unanswered Fails after has_failed fault (subst (IsUnanswered Fails out after has_failed) (sym is) h)
+      subst (λ (o : Option (List ℕ)). IfSome start (λ bytes. Conversed IsTurnOfScript new_state bytes old o has_failed (Err Input))) (sym why.1)
+      (talked_some _ _ _ _ _ _ _ state n so_far has_failed Input)
 
 -- ---- faults
 
@@ -98,50 +96,32 @@ unanswered_fault_err Fails start out after read_failed has_failed (Err fault) lo
 
 -- no journals are kept where the script ends by a fault
 pub kept_none : {K : Type 0} → (Kept : K → List Journal → K → Type 0) (start old new : Option (List ℕ)) (has_failed : Bool) (r : Result (Unit {0}) Fault) (keeper : K)
-    → IfSome start (λ bytes. Answered bytes old new has_failed (status_after r)) → IsErr r
+    → IfSome start (λ bytes. Conversed IsTurnOfScript new_state bytes old new has_failed (Err Input)) → IsErr r
     → IfSome start (λ bytes. AnsweredAndKept Kept bytes old new has_failed (status_after r) keeper)
-kept_none Kept None old new has_failed r keeper answered err = tt
-kept_none Kept (Some bytes) old new has_failed (Ok x) keeper answered err = absurd (true≢false (sym err))
-kept_none Kept (Some bytes) old new has_failed (Err fault) keeper answered err = record {
-  answered = answered;
-  kept = λ zero. absurd (fault_not_0 fault zero);
-}
+kept_none Kept start old new has_failed (Ok x) keeper answered err = absurd (true≢false (sym err))
+kept_none Kept start old new has_failed (Err fault) keeper answered err =
+    subst (λ (status : ℕ). IfSome start (λ bytes. AnsweredAndKept Kept bytes old new has_failed status keeper)) (sym (status_above_0 fault).1) answered
 
 -- the answers are flushed, and then the journals are kept, or are not
 pub kept_at_end : {K : Type 0} → (Kept : K → List Journal → K → Type 0) (start old out new : Option (List ℕ)) (has_failed : Bool) (state : PlayState) (before after : K) (r : Result (Unit {0}) Fault)
     → IfSome start (λ bytes. PlayedToEnd bytes old out state) → Keeps out new → OnOk r (KeepsWorld Kept state before after)
     → IfSome start (λ bytes. AnsweredAndKept Kept bytes old new has_failed (status_after r) after)
 kept_at_end Kept None old out new has_failed state before after r played flushed kept = tt
-kept_at_end Kept (Some bytes) old out new has_failed state before after (Ok x) played flushed kept = record {
-  answered = record {
-    rest = [];
-    text = played.text;
-    state = state;
-    plays = played.plays;
-    wrote = inr (Appends-kept old out new played.text played.wrote flushed);
-    all = λ _. refl;
-    all_written = λ _. Appends-kept old out new played.text played.wrote flushed;
-  };
-  kept = λ _. (before, kept);
-}
-kept_at_end Kept (Some bytes) old out new has_failed state before after (Err fault) played flushed kept = record {
-  answered = record {
-    rest = [];
-    text = played.text;
-    state = state;
-    plays = played.plays;
-    wrote = inr (Appends-kept old out new played.text played.wrote flushed);
-    all = λ _. refl;
-    all_written = λ _. Appends-kept old out new played.text played.wrote flushed;
-  };
-  kept = λ zero. absurd (fault_not_0 fault zero);
-}
+kept_at_end Kept (Some bytes) old out new has_failed state before after (Ok x) played flushed kept = (
+  state,
+  record { text = played.text; dialogue = played.dialogue; wrote = Appends-kept old out new played.text played.wrote flushed },
+  (before, kept),
+)
+kept_at_end Kept (Some bytes) old out new has_failed state before after (Err fault) played flushed kept =
+    subst (λ (status : ℕ). AnsweredAndKept Kept bytes old new has_failed status after) (sym (status_above_0 fault).1)
+    (record { text = played.text; is = ([], state, played.dialogue); wrote = inr (Appends-kept old out new played.text played.wrote flushed) })
 
 -- what is left of it where nobody looks at the journals
 pub answered_alone : {K : Type 0} → (Kept : K → List Journal → K → Type 0) (start old new : Option (List ℕ)) (has_failed : Bool) (status : ℕ) (keeper : K)
     → IfSome start (λ bytes. AnsweredAndKept Kept bytes old new has_failed status keeper) → IfSome start (λ bytes. Answered bytes old new has_failed status)
 answered_alone Kept None old new has_failed status keeper h = tt
-answered_alone Kept (Some bytes) old new has_failed status keeper h = h.answered
+answered_alone Kept (Some bytes) old new has_failed zero keeper h = record { text = h.1.text; is = (h.0, h.1.dialogue); wrote = h.1.wrote }
+answered_alone Kept (Some bytes) old new has_failed (suc status) keeper h = h
 
 -- a keeper that never fails adds no fault
 pub named_alone : {E : Type 0} (start : Option (List ℕ)) (read_failed write_failed : Bool) (status : ℕ) (err_old err_new : Writing E)

@@ -65,13 +65,13 @@ commands_first keeps draft t made new command reply topology fresh leads (Named 
     record {
       state = Played after.later;
       shows = after.shows;
-      holds = record {
-        before = fresh.world;
-        after = after.later;
-        stands = subst (λ (d : Draft). IsNewWorld d fresh.world) shown (new_world keeps draft t made topology fresh);
-        done = after.related;
-        kept = refl;
-      };
+      holds = (
+        fresh.world,
+        after.later,
+        subst (λ (d : Draft). IsNewWorld d fresh.world) shown (new_world keeps draft t made topology fresh),
+        after.related,
+        refl,
+      );
     }
 
 -- ---- each state has a world

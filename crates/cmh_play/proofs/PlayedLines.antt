@@ -1,5 +1,5 @@
 -- Each line of a script makes the run of the played world longer, or leaves it as it is.
-use Rattle.std.proofs.Common.{◌≡◌, ℕ, Bool, true, false, ◌==◌, [], inl, inr, length, refl, sym, subst}
+use Rattle.std.proofs.Common.{◌≡◌, ℕ, Bool, true, false, ◌==◌, List, [], Option, None, Some, inl, inr, length, refl, sym, subst}
 use Rattle.std.specs.Prelude.{MatchBool}
 use Rattle.cmh_frames.specs.declared.edition.Edition.{Edition}
 use Rattle.cmh_frames.specs.Rows.{Row}
@@ -16,21 +16,18 @@ use Rattle.cmh_console.specs.declared.script.Command.{Command}
 use Rattle.cmh_console.specs.declared.script.Command.TheVariants.{Act, Deliver, Cut, Report}
 use Rattle.cmh_console.specs.declared.script.Line.{Line}
 use Rattle.cmh_console.specs.declared.script.Line.TheVariants.{Silent, Bad, Edition as Edition_line, Site, Command as Command_line}
-use Rattle.cmh_console.specs.declared.lines.NextLine.{NextLine}
-use Rattle.cmh_console.specs.declared.lines.NextLine.TheVariants.{Line as Read, TooLong, End}
 use Rattle.cmh_play.specs.PlayStates.{PlayState, Named, Played}
 use Rattle.cmh_play.specs.declared.reply.Reply.{Reply as Reply_text}
 use Rattle.cmh_play.specs.declared.reply.Reply.TheVariants.{Silent as NoReply, Ok, BadLine, Late, Topology, Step as StepReply, Delivery as DeliveryReply, Severance as SeveranceReply, Report as ReportReply}
-use Rattle.cmh_play.specs.Play.{IsWorldOf, CarriesOut, Commands, SetsEdition, AddsSite, IsSaidBy, Replies, IsOfRun, IsOfHonestSites}
+use Rattle.cmh_play.specs.Play.{IsWorldOf, CarriesOut, Commands, SetsEdition, AddsSite, LineSays, Replies, IsOfRun, IsOfHonestSites}
 
 -- a script has no line by which a site gets a frame
 abbrev pub NoGot : Line → Type 0
 NoGot line = (process : ℕ) (event : Event) → line ≡ Command_line (Act process event) → is_delivery event ≡ false
 
-pub said_no_got : (next : NextLine) (line : Line) → IsSaidBy next line → NoGot line
-said_no_got (Read text) line says process event is = act_no_got text.now process event (subst (λ (l : Line). Says text.now l) is says)
-said_no_got TooLong line says process event is = absurd (cc (says, is))
-said_no_got End line says process event is = absurd (cc (says, is))
+pub said_no_got : (line : Option (List ℕ)) (said : Line) → LineSays line said → NoGot said
+said_no_got (Some text) said says process event is = act_no_got text process event (subst (λ (l : Line). Says text l) is says)
+said_no_got None said says process event is = absurd (cc (says, is))
 
 -- the world that a command finds is at the end of a run
 world_of : (state : PlayState) (world : World) → IsWorldOf state world → IsOfRun state → IsPlayed world
@@ -39,13 +36,7 @@ world_of (Played played) world is of = subst IsPlayed is of
 
 -- a command of a world that is played already
 pub commanded : (before after : World) (command : Command) (reply : Reply_text) → CarriesOut before after command reply → Commands (Played before) (Played after) command reply
-commanded before after command reply done = record {
-  before = before;
-  after = after;
-  stands = refl;
-  done = done;
-  kept = refl;
-}
+commanded before after command reply done = (before, after, refl, done, refl)
 
 -- what a command does to it, and what it answers
 carried_out : (old new : World) (command : Command) (reply : Reply_text) → NoGot (Command_line command) → CarriesOut old new command reply → IsPlayed old → IsOfHonestSites reply × IsPlayed new
@@ -116,6 +107,6 @@ replied old new Silent reply says is of = (subst IsOfHonestSites (sym is.1) tt, 
 replied old new Bad reply says is of = (subst IsOfHonestSites (sym is.1) tt, same_state old new is.0 of)
 replied old new (Edition_line edition) reply says is of = set_edition old new edition reply is of
 replied old new (Site row) reply says is of = add_site old new row reply is of
-replied old new (Command_line command) reply says is of =
-    let done = carried_out is.before is.after command reply says is.done (world_of old is.before is.stands of) in
-    (done.0, subst IsOfRun (sym is.kept) done.1)
+replied old new (Command_line command) reply says (before, after, stands, done, kept) of =
+    let played = carried_out before after command reply says done (world_of old before stands of) in
+    (played.0, subst IsOfRun (sym kept) played.1)

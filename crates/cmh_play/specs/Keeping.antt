@@ -1,12 +1,13 @@
 -- A script that is played, and whose journals are kept.
-use Rattle.std.specs.Prelude.{◌≡◌, ℕ, Bool, ◌⊎◌, List, [], Option, ⊤}
+use Rattle.std.specs.Prelude.{◌≡◌, ℕ, zero, suc, Bool, ◌⊎◌, List, [], Option, Err, ⊤}
 use Rattle.std.specs.Io.KnownBytes.{Appends}
 use Rattle.cmh_journal.specs.Journal.{Journal}
 use Rattle.cmh_playground.specs.World.{World}
-use Rattle.cmh_console.specs.declared.lines.NextLine.{NextLine}
+use Rattle.cmh_console.specs.Dialogue.{Conversed, Dialogue}
+use Rattle.cmh_console.specs.declared.dialogue.Flow.TheVariants.{Awaits}
 use Rattle.cmh_console.specs.declared.faults.Fault.{Fault}
-use Rattle.cmh_console.specs.declared.faults.Fault.TheVariants.{OutFile, Memory}
-use Rattle.cmh_play.specs.Play.{Answered, AnswersLine, IsWorldOf, Plays}
+use Rattle.cmh_console.specs.declared.faults.Fault.TheVariants.{OutFile, Input, Memory}
+use Rattle.cmh_play.specs.Play.{AnswersLine, IsTurnOfScript, IsWorldOf, new_state}
 use Rattle.cmh_console.specs.Faults.{IsAnswerFault, IsPlayFault}
 use Rattle.cmh_play.specs.PlayStates.{PlayState}
 use Rattle.cmh_play.specs.declared.reply.Reply.{Reply}
@@ -30,22 +31,23 @@ KeepsAt Keeps (Report edition verdict) state old new = KeepsWorld Keeps state ol
 KeepsAt Keeps reply state old new = new ≡ old
 
 -- a line was answered, and journals were kept where it asked for a report
-pub record AnswersAndKeeps {K : Type 0} (Keeps : K → List Journal → K → Type 0) (old new : PlayState) (next : NextLine)
+pub record AnswersAndKeeps {K : Type 0} (Keeps : K → List Journal → K → Type 0) (old new : PlayState) (line : Option (List ℕ))
     (out_old out_new : Option (List ℕ)) (keeper_old keeper_new : K) : Type 0 where
-  pub answers : AnswersLine old new next out_old out_new
+  pub answers : AnswersLine old new line out_old out_new
   pub keeps : KeepsAt Keeps answers.reply new keeper_old keeper_new
 
 -- all lines of the bytes were answered, and led to the state
 pub record PlayedToEnd (bytes : List ℕ) (old new : Option (List ℕ)) (state : PlayState) : Type 0 where
   pub text : List ℕ
-  pub plays : Plays bytes [] text state
+  pub dialogue : Dialogue PlayState IsTurnOfScript new_state bytes [] text state Awaits
   pub wrote : Appends old new text
 
 -- lines of a script were answered; at its end the journals of its world were kept
-pub record AnsweredAndKept {K : Type 0} (Keeps : K → List Journal → K → Type 0) (bytes : List ℕ)
-    (old new : Option (List ℕ)) (has_failed : Bool) (status : ℕ) (keeper : K) : Type 0 where
-  pub answered : Answered bytes old new has_failed status
-  pub kept : status ≡ 0 → (before : K) × KeepsWorld Keeps answered.state before keeper
+abbrev pub AnsweredAndKept : {K : Type 0} → (K → List Journal → K → Type 0) → List ℕ → Option (List ℕ) → Option (List ℕ) → Bool → ℕ → K → Type 0
+AnsweredAndKept {K} Keeps bytes old new has_failed zero keeper =
+    (state : PlayState) × PlayedToEnd bytes old new state × ((before : K) × KeepsWorld Keeps state before keeper)
+AnsweredAndKept Keeps bytes old new has_failed (suc status) keeper =
+    Conversed IsTurnOfScript new_state bytes old new has_failed (Err Input)
 
 -- why a line was not answered: before a report, also that the journals were not kept
 abbrev pub IsUnanswered : (Fault → Type 0) → Option (List ℕ) → Option (List ℕ) → Bool → Fault → Type 0

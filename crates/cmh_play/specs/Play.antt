@@ -1,6 +1,5 @@
 -- A script that is played: what each line does to the state, and what is written for it.
-use Rattle.std.specs.Prelude.{◌≡◌, ℕ, ◌<◌, Bool, ◌==◌, nat_lt, ◌⊎◌, List, [], ◌∷◌, ◌++◌, length, Option, None, Some, Result, Ok as Ok_result, Err, MatchBool, ⊤}
-use Rattle.std.specs.Io.BufRead.{first_line, drop_through}
+use Rattle.std.specs.Prelude.{◌≡◌, ℕ, zero, suc, Bool, ◌==◌, ◌⊎◌, List, [], ◌∷◌, ◌++◌, length, Option, None, Some, Result, Ok as Ok_result, Err, MatchBool, ⊤}
 use Rattle.std.specs.Io.KnownBytes.{Appends}
 use Rattle.cmh_frames.specs.declared.edition.Edition.{Edition}
 use Rattle.cmh_frames.specs.declared.edition.Edition.TheVariants.{One}
@@ -9,7 +8,9 @@ use Rattle.cmh_frames.specs.Rows.{Row, IsFaultOf, fault_of}
 use Rattle.cmh_frames.specs.Topology.{IsTopologyOf}
 use Rattle.cmh_play.specs.Replies.{reply_text}
 use Rattle.cmh_audit.specs.Verdicts.{IsAccepted, IsVerdictOn}
-use Rattle.cmh_console.specs.Device.{Tells}
+use Rattle.cmh_console.specs.Dialogue.{Conversed}
+use Rattle.cmh_console.specs.declared.dialogue.Flow.{Flow}
+use Rattle.cmh_console.specs.declared.dialogue.Flow.TheVariants.{Awaits}
 use Rattle.cmh_playground.specs.Draft.{Draft}
 use Rattle.cmh_playground.specs.World.{World, entries_at, link_at, IsStepOf, IsDelivery, IsSeverance}
 use Rattle.cmh_playground.specs.Runs.{IsPlayed, IsWantOfRoom}
@@ -17,8 +18,7 @@ use Rattle.cmh_playground.specs.declared.playground.Delivery.TheVariants.{Refuse
 use Rattle.cmh_console.specs.Script.{Says}
 use Rattle.cmh_console.specs.Faults.{status_of}
 use Rattle.cmh_console.specs.declared.faults.Fault.{Fault}
-use Rattle.cmh_console.specs.declared.lines.NextLine.{NextLine}
-use Rattle.cmh_console.specs.declared.lines.NextLine.TheVariants.{Line as Read, TooLong, End}
+use Rattle.cmh_console.specs.declared.faults.Fault.TheVariants.{Input}
 use Rattle.cmh_play.specs.PlayStates.{PlayState, Named, Played}
 use Rattle.cmh_play.specs.declared.reply.Reply.{Reply}
 use Rattle.cmh_play.specs.declared.reply.Reply.TheVariants.{Silent as NoReply, Ok, BadLine, Late, Topology, Step as StepReply, Delivery as DeliveryReply, Severance as SeveranceReply, Report as ReportReply}
@@ -50,12 +50,9 @@ CarriesOut old new Report (ReportReply edition verdict) =
 CarriesOut old new command reply = ⊥
 
 -- the first command makes the world of the draft
-pub record Commands (old new : PlayState) (command : Command) (reply : Reply) : Type 0 where
-  pub before : World
-  pub after : World
-  pub stands : IsWorldOf old before
-  pub done : CarriesOut before after command reply
-  pub kept : new ≡ Played after
+abbrev pub Commands : PlayState → PlayState → Command → Reply → Type 0
+Commands old new command reply =
+    (before : World) × (after : World) × IsWorldOf old before × CarriesOut before after command reply × (new ≡ Played after)
 
 -- nothing has changed, and this is answered
 abbrev pub OnlyAnswers : PlayState → PlayState → Reply → Reply → Type 0
@@ -90,27 +87,22 @@ Replies old new (Command_line command) reply = Commands old new command reply
 -- ---- a whole script
 
 -- neither sites nor commands
-abbrev pub IsNewState : PlayState → Type 0
-IsNewState state = state ≡ Named (record { edition = One; rows = [] })
+abbrev pub new_state : PlayState
+new_state = Named (record { edition = One; rows = [] })
 
--- what was read of a script says this; a line that is too long is a bad one
-abbrev pub IsSaidBy : NextLine → Line → Type 0
-IsSaidBy (Read line) said = Says line.now said
-IsSaidBy TooLong said = said ≡ Bad
-IsSaidBy End said = said ≡ Bad
+-- what a line says; one that is too long is a bad one
+abbrev pub LineSays : Option (List ℕ) → Line → Type 0
+LineSays None said = said ≡ Bad
+LineSays (Some line) said = Says line said
 
--- what was read of a script did this to the state, and its reply was written
-pub record AnswersLine (old new : PlayState) (next : NextLine)
+-- a line did this to the state, and its reply was written
+pub record AnswersLine (old new : PlayState) (line : Option (List ℕ))
     (out_old out_new : Option (List ℕ)) : Type 0 where
   pub said : Line
   pub reply : Reply
-  pub says : IsSaidBy next said
+  pub says : LineSays line said
   pub replies : Replies old new said reply
   pub wrote : Appends out_old out_new (reply_text reply)
-
--- what the first line of the bytes says; one of more than 1,024 bytes is a bad line
-abbrev pub FirstSays : List ℕ → Line → Type 0
-FirstSays bytes line = MatchBool (nat_lt 1024 (length (first_line bytes))) (line ≡ Bad) (Says (first_line bytes) line)
 
 -- a state whose world, if it has one, is at the end of a run
 abbrev pub IsOfRun : PlayState → Type 0
@@ -123,24 +115,21 @@ IsOfHonestSites (DeliveryReply (DeliveryRefused refused)) = IsWantOfRoom refused
 IsOfHonestSites (ReportReply edition verdict) = IsAccepted verdict.value
 IsOfHonestSites reply = ⊤
 
--- Of the bytes of a script the lines before the rest were answered by the text, and led to the state. The world of each
--- state is at the end of a run, so a frame is refused only where a journal has no room, and each report is
--- accepted.
-pub data Plays (bytes : List ℕ) : List ℕ → List ℕ → PlayState → Type 0 where
-  begin : (state : PlayState) → IsNewState state → Plays bytes bytes [] state
-  answer : (rest text : List ℕ) (old new : PlayState) (line : Line) (reply : Reply) → Plays bytes rest text old
-      → 0 < length rest → FirstSays rest line → Replies old new line reply
-      → IsOfHonestSites reply → IsOfRun new → Plays bytes (drop_through 10 rest) (text ++ reply_text reply) new
+-- A line did this to the state, and was answered by this text. The world of each state is at the end of a run, so a frame
+-- is refused only where a journal has no room, and each report is accepted.
+pub record IsTurnOfScript (old new : PlayState) (line : Option (List ℕ)) (text : List ℕ) (flow : Flow) : Type 0 where
+  pub said : Line
+  pub reply : Reply
+  pub says : LineSays line said
+  pub replies : Replies old new said reply
+  pub honest : IsOfHonestSites reply
+  pub of_run : IsOfRun new
+  pub text_is : text ≡ reply_text reply
 
 -- lines of a script were answered, where the reader tells its bytes: at status 0 all of them, and each answer was written
-pub record Answered (bytes : List ℕ) (old new : Option (List ℕ)) (has_failed : Bool) (status : ℕ) : Type 0 where
-  pub rest : List ℕ
-  pub text : List ℕ
-  pub state : PlayState
-  pub plays : Plays bytes rest text state
-  pub wrote : Tells old new has_failed text
-  pub all : status ≡ 0 → rest ≡ []
-  pub all_written : status ≡ 0 → Appends old new text
+abbrev pub Answered : List ℕ → Option (List ℕ) → Option (List ℕ) → Bool → ℕ → Type 0
+Answered bytes old new has_failed zero = Conversed IsTurnOfScript new_state bytes old new has_failed (Ok_result Awaits)
+Answered bytes old new has_failed (suc status) = Conversed IsTurnOfScript new_state bytes old new has_failed (Err Input)
 
 -- the status of a script's end, or of a fault
 abbrev pub status_after : Result (Unit {0}) Fault → ℕ

@@ -1,11 +1,12 @@
 //! The command `play`: all sites of a world in memory, driven by a script.
 
-ghost use Rattle.std.specs.Prelude.{◌≡◌, ◌≢◌, ◌⊎◌, Bool, true, false, IfOk, IfErr, IfSome, OnOk, OnErr, Some};
+ghost use Rattle.std.specs.Prelude.{◌≡◌, ◌≢◌, ◌⊎◌, Bool, true, false, IfOk, IfErr, IfSome, OnOk, OnErr, Some, Err};
 ghost use Rattle.std.specs.Io.KnownBytes.{Keeps};
+ghost use Rattle.cmh_console.specs.Dialogue.{Conversed, line_of};
 ghost use Rattle.cmh_console.specs.Faults.{IsPlayFault, NamesFault};
 ghost use Rattle.cmh_play.specs.PlayStates as states;
 ghost use Rattle.cmh_play.specs.Keeping.{AnsweredAndKept, AnswersAndKeeps, IsKeptPlayFault, IsUnanswered, KeepsAt, KeepsWorld, PlayedToEnd};
-ghost use Rattle.cmh_play.specs.Play.{AddsSite, Answered, CarriesOut, Commands, IsSaidBy, Replies, SetsEdition, status_after};
+ghost use Rattle.cmh_play.specs.Play.{AddsSite, Answered, CarriesOut, Commands, IsTurnOfScript, LineSays, Replies, SetsEdition, new_state, status_after};
 ghost use Rattle.cmh_play.specs.Showing.{HasWorld, IsNewHeld, IsShown, LeadsOn, LeadsPlayed, ShowsSome};
 ghost use Rattle.cmh_console.specs.Status.{IsStatus};
 
@@ -107,21 +108,21 @@ fn answer_all<R: BufRead + Ahead, W: Write, K: Keeper>(
     keeper: &mut K,
 ) -> Result<(), Fault>
     requires { IsNewHeld state.old }
-    ensures answers { IfSome input.old.left (λ bytes. Answered bytes out.old.written
-        out.new.written out.new.has_failed (status_after result)) }
+    ensures answers { IfSome input.old.left (λ bytes. Conversed IsTurnOfScript new_state bytes
+        out.old.written out.new.written out.new.has_failed (Err Fault.Input)) }
     ensures all { OnOk result (ShowsSome K.wants state.new (λ shown. IfSome input.old.left
         (λ bytes. PlayedToEnd bytes out.old.written out.new.written shown))) }
     ensures unfailed { OnOk result (out.new.has_failed ≡ out.old.has_failed) }
     ensures fault { IfErr result (IsKeptPlayFault K.fails input.old.left input.new.has_failed out.new.has_failed) }
 {
     let mut buffer = Vec::new(alloc);
-    let mut room = Vec::new(alloc);
+    let mut spare = Vec::new(alloc);
     for turn in 0..u64::MAX {
         let next = read_line(input, &mut buffer)?;
         if next.is_end() {
             return Ok(());
         }
-        state.answer_line(alloc, next, &mut room, input.has_line(), out, keeper)?;
+        state.answer_line(alloc, next, &mut spare, input.has_line(), out, keeper)?;
     }
     Err(Fault::Input)
 }
@@ -138,11 +139,11 @@ fn flush_awaited<W: Write>(out: &mut Output<W>, has_line: bool) -> Result<(), Wr
 
 /// What a line says; one that is too long is a bad one.
 #[inline(always)]
-fn said_by(alloc: Global, next: NextLine<'_>, room: &mut Vec<ProcId>) -> Result<Line, AllocError>
-    ensures { IfOk result (IsSaidBy next.entry) }
+fn said_by(alloc: Global, next: NextLine<'_>, spare: &mut Vec<ProcId>) -> Result<Line, AllocError>
+    ensures { IfOk result (LineSays (line_of next.entry)) }
 {
     match next {
-        NextLine::Line(line) => parse_into(alloc, line, room),
+        NextLine::Line(line) => parse_into(alloc, line, spare),
         NextLine::TooLong | NextLine::End => Ok(Line::Bad),
     }
 }
@@ -213,23 +214,23 @@ impl PlayState {
     }
 
     /// Answers what was read of a script, after which a whole line is at hand or not. The journals are kept before a
-    /// report is written. The targets of an ask take the memory of `room`, which has it back where nobody keeps them.
+    /// report is written. The targets of an ask take the memory of `spare`, which has it back where nobody keeps them.
     fn answer_line<W: Write, K: Keeper>(
         &mut self,
         alloc: Global,
         next: NextLine<'_>,
-        room: &mut Vec<ProcId>,
+        spare: &mut Vec<ProcId>,
         has_line: bool,
         out: &mut Output<W>,
         keeper: &mut K,
     ) -> Result<(), Fault>
-        ensures answers { OnOk result (LeadsOn K.wants (λ old new. AnswersAndKeeps K.keeps old new next.entry
+        ensures answers { OnOk result (LeadsOn K.wants (λ old new. AnswersAndKeeps K.keeps old new (line_of next.entry)
             out.old.written out.new.written keeper.old keeper.new) self.old self.new) }
         ensures unfailed { OnOk result (out.new.has_failed ≡ out.old.has_failed) }
         ensures fault { IfErr result (IsUnanswered K.fails out.old.written out.new.written out.new.has_failed) }
     {
-        let said = said_by(alloc, next, room)?;
-        let reply = self.answer(alloc, said, room, keeper.wants_journals())?;
+        let said = said_by(alloc, next, spare)?;
+        let reply = self.answer(alloc, said, spare, keeper.wants_journals())?;
         self.keep_for(alloc, &reply, keeper)?;
         write_reply(out, &reply)?;
         flush_awaited(out, has_line)?;
@@ -242,7 +243,7 @@ impl PlayState {
         &mut self,
         alloc: Global,
         line: Line,
-        room: &mut Vec<ProcId>,
+        spare: &mut Vec<ProcId>,
         keeps: bool,
     ) -> Result<Reply, AllocError>
         ensures { IfOk result (λ reply. LeadsOn keeps (λ old new. Replies old new line reply) self.old self.new) }
@@ -252,7 +253,7 @@ impl PlayState {
             Line::Bad => Ok(Reply::BadLine),
             Line::Edition(edition) => self.set_edition(edition),
             Line::Site(row) => self.add(row),
-            Line::Command(command) => self.command(alloc, command, room, keeps),
+            Line::Command(command) => self.command(alloc, command, spare, keeps),
         }
     }
 
@@ -291,14 +292,14 @@ impl PlayState {
         &mut self,
         alloc: Global,
         command: Command,
-        room: &mut Vec<ProcId>,
+        spare: &mut Vec<ProcId>,
         keeps: bool,
     ) -> Result<Reply, AllocError>
         ensures { IfOk result (λ reply. LeadsOn keeps (λ old new. Commands old new command reply) self.old self.new) }
     {
         match self {
-            PlayState::Played(world) => carry_out(alloc, world, command, room),
-            PlayState::Named(_) => self.first_command(alloc, command, room, keeps),
+            PlayState::Played(world) => carry_out(alloc, world, command, spare),
+            PlayState::Named(_) => self.first_command(alloc, command, spare, keeps),
         }
     }
 
@@ -309,16 +310,16 @@ impl PlayState {
         &mut self,
         alloc: Global,
         command: Command,
-        room: &mut Vec<ProcId>,
+        spare: &mut Vec<ProcId>,
         keeps: bool,
     ) -> Result<Reply, AllocError>
         ensures { IfOk result (λ reply. LeadsOn keeps (λ old new. Commands old new command reply) self.old self.new) }
     {
         match self {
-            PlayState::Played(world) => carry_out(alloc, world, command, room),
+            PlayState::Played(world) => carry_out(alloc, world, command, spare),
             PlayState::Named(draft) => {
                 let mut world = Playground::new(alloc, draft.topology(), keeps)?;
-                let reply = carry_out(alloc, &mut world, command, room)?;
+                let reply = carry_out(alloc, &mut world, command, spare)?;
                 *self = PlayState::Played(world);
                 Ok(reply)
             }
@@ -333,12 +334,12 @@ fn carry_out(
     alloc: Global,
     world: &mut Playground,
     command: Command,
-    room: &mut Vec<ProcId>,
+    spare: &mut Vec<ProcId>,
 ) -> Result<Reply, AllocError>
     ensures { IfOk result (λ reply. LeadsPlayed (λ old new. CarriesOut old new command reply) world.old world.new) }
 {
     match command {
-        Command::Act { process, event } => act(world, process, event, room),
+        Command::Act { process, event } => act(world, process, event, spare),
         Command::Deliver { from, to } => deliver(world, from, to),
         Command::Cut { from, to } => Ok(Reply::Severance(world.cut(from, to)?)),
         Command::Report => report(alloc, world),
@@ -350,13 +351,13 @@ fn act(
     world: &mut Playground,
     process: ProcId,
     event: Event,
-    room: &mut Vec<ProcId>,
+    spare: &mut Vec<ProcId>,
 ) -> Result<Reply, AllocError>
     ensures { IfOk result (λ reply. LeadsPlayed (λ old new. CarriesOut old new (Command.Act process event) reply)
         world.old world.new) }
 {
     let step = world.act(process, event)?;
-    world.give_room(room);
+    world.give_spare(spare);
     Ok(Reply::Step(step))
 }
 

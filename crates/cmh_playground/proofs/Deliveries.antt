@@ -9,9 +9,9 @@ use Rattle.cmh_model.specs.Journals.{frames_to}
 use Rattle.cmh_audit.specs.Journals.{journal_of}
 use Rattle.cmh_model.specs.declared.done.Done.{Done}
 use Rattle.cmh_playground.specs.Links.{link_of, with_all, goes, without_first, ChangesLink}
-use Rattle.cmh_playground.specs.World.{World, is_link, WorldSteps, Delivers}
+use Rattle.cmh_playground.specs.World.{World, joins, WorldSteps, Delivers}
 
-pub ends_differ : (world : World) (a b : ℕ) → is_link world a b ≡ true → a ≢ b
+pub ends_differ : (world : World) (a b : ℕ) → joins world.topology a b ≡ true → a ≢ b
 ends_differ world a b link same =
     let no : false ≡ true = (λ i. not (sym (eq-eqb a b same) i) && (is_site world.topology a && is_site world.topology b)) ∙ link in
     true≢false (sym no)

@@ -10,7 +10,7 @@ use Rattle.cmh_model.specs.declared.done.Done.{Done}
 use Rattle.cmh_playground.specs.declared.site.Step.TheVariants.{Taken}
 use Rattle.cmh_playground.specs.Held.{Held, Leads, Shows}
 use Rattle.cmh_playground.specs.Links.{Links, is_cut, link_of, next_of, without_first, ChangesLink}
-use Rattle.cmh_playground.specs.World.{World, is_link, joins, link_at, IsDelivery, IsSeverance, IsWorldStep}
+use Rattle.cmh_playground.specs.World.{World, joins, link_at, IsDelivery, IsSeverance, IsWorldStep}
 use Rattle.cmh_playground.proofs.Deliveries.{delivered, ends_differ}
 
 abbrev with_links : Held → Links → Held
@@ -30,7 +30,7 @@ shows_relinked keeps world held links shows = record {
   journals = shows.journals;
 }
 
-is_link_of : (keeps : Bool) (world : World) (held : Held) (a b : ℕ) (joined : Bool) → Shows keeps world held → joins held.topology a b ≡ joined → is_link world a b ≡ joined
+is_link_of : (keeps : Bool) (world : World) (held : Held) (a b : ℕ) (joined : Bool) → Shows keeps world held → joins held.topology a b ≡ joined → joins world.topology a b ≡ joined
 is_link_of keeps world held a b joined shows is = ap (λ (t : Topology). joins t a b) (sym shows.topology) ∙ is
 
 link_is : (keeps : Bool) (world : World) (held : Held) (a b : ℕ) → Shows keeps world held → link_of held.links a b ≡ link_at world a b

@@ -45,9 +45,6 @@ link_at world a b = link_of world.links a b
 abbrev pub joins : Topology → ℕ → ℕ → Bool
 joins t a b = not (a == b) && (is_site t a && is_site t b)
 
-abbrev pub is_link : World → ℕ → ℕ → Bool
-is_link world a b = joins world.topology a b
-
 -- The site s took the event by the rules of its controller: its journal has the entry after the others, and that of no
 -- other site changed.
 pub record Moves (old new : World) (s : ℕ) (event : Event) (sent : List (ℕ × Frame))
@@ -97,20 +94,20 @@ IsStepOf old new process event step =
 
 -- what came of handing over the oldest frame from a to b
 abbrev pub IsDelivery : World → World → ℕ → ℕ → Delivery → Type 0
-IsDelivery old new a b BadLink = (is_link old a b ≡ false) × IsUntouched old new
-IsDelivery old new a b Closed = (is_link old a b ≡ true) × (link_at old a b ≡ None) × IsUntouched old new
-IsDelivery old new a b Empty = (is_link old a b ≡ true) × (link_at old a b ≡ Some []) × IsUntouched old new
+IsDelivery old new a b BadLink = (joins old.topology a b ≡ false) × IsUntouched old new
+IsDelivery old new a b Closed = (joins old.topology a b ≡ true) × (link_at old a b ≡ None) × IsUntouched old new
+IsDelivery old new a b Empty = (joins old.topology a b ≡ true) × (link_at old a b ≡ Some []) × IsUntouched old new
 IsDelivery old new a b (DeliveryRefused refused) =
-    (is_link old a b ≡ true) × IsUntouched old new
+    (joins old.topology a b ≡ true) × IsUntouched old new
     × ((frame : Frame) × (next_of (link_at old a b) ≡ Some frame) × IsReason old b (Got a frame) refused)
 IsDelivery old new a b (Got_frame frame done) =
-    (is_link old a b ≡ true) × (next_of (link_at old a b) ≡ Some frame) × Delivers old new a b frame done
+    (joins old.topology a b ≡ true) × (next_of (link_at old a b) ≡ Some frame) × Delivers old new a b frame done
 
 -- what came of cutting the link from a to b
 abbrev pub IsSeverance : World → World → ℕ → ℕ → Severance → Type 0
-IsSeverance old new a b NoLink = (is_link old a b ≡ false) × IsUntouched old new
-IsSeverance old new a b CutBefore = (is_link old a b ≡ true) × (link_at old a b ≡ None) × IsUntouched old new
+IsSeverance old new a b NoLink = (joins old.topology a b ≡ false) × IsUntouched old new
+IsSeverance old new a b CutBefore = (joins old.topology a b ≡ true) × (link_at old a b ≡ None) × IsUntouched old new
 IsSeverance old new a b (Lost lost) =
-    (is_link old a b ≡ true) × MatchOption (link_at old a b) ⊥ (λ frames. lost ≡ length frames)
+    (joins old.topology a b ≡ true) × MatchOption (link_at old a b) ⊥ (λ frames. lost ≡ length frames)
     × ((s : ℕ) → entries_at new s ≡ entries_at old s) × (new.topology ≡ old.topology)
     × ((c d : ℕ) → link_at new c d ≡ (if goes a b (record { from = c; to = d }) then None else link_at old c d))

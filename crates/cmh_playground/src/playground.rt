@@ -149,10 +149,10 @@ impl Playground {
 
     /// Gives memory of targets that nobody keeps to a list that has none, for those of a later ask.
     #[inline(always)]
-    pub fn give_room(&mut self, room: &mut Vec<ProcId>)
+    pub fn give_spare(&mut self, spare: &mut Vec<ProcId>)
         ensures { self.new ≡ self.old }
     {
-        self.history.give_room(room);
+        self.history.give_spare(spare);
     }
 
     /// Hands over the oldest frame of a link. Where the receiver refuses it, it stays there. An error is as in `act`.

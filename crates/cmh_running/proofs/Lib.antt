@@ -1,4 +1,3 @@
-pub mod Dialogues
 mod Named
 mod Porting
 mod Tallies

@@ -1,4 +1,3 @@
-pub mod Dialogue
 pub mod Ports
 pub mod Settling
 pub mod Shelves

@@ -2,7 +2,6 @@
 //! and whether all frames have come.
 #![tactic(auto)]
 
-mod dialogue;
 mod journal_file;
 mod journal_place;
 mod journal_write;
@@ -11,7 +10,6 @@ mod settling;
 mod shelf;
 mod site_script;
 
-pub use crate::dialogue::Flow;
 pub use crate::journal_file::{NoFile, can_be_made, keep_old};
 pub use crate::journal_place::{JournalFolder, JournalSink, NewJournal, make_journal};
 pub use crate::journal_write::JournalFile;

@@ -8,8 +8,8 @@ use Rattle.memchr.specs.Find.{IsFirstByte, Nowhere, Passes, is_byte}
 use Rattle.cmh_console.specs.Lines.{IsNextLine}
 use Rattle.cmh_console.specs.declared.lines.NextLine.{NextLine}
 use Rattle.cmh_console.specs.declared.lines.NextLine.TheVariants.{End}
-use Rattle.cmh_running.specs.Dialogue.{line_of}
-use Rattle.cmh_running.proofs.Dialogues.{first_is}
+use Rattle.cmh_console.specs.Dialogue.{line_of}
+use Rattle.cmh_console.proofs.Dialogues.{first_is}
 use Rattle.cmh_service.specs.Clients.{IsNext}
 use Rattle.cmh_service.specs.Said.{WasSaid}
 use Rattle.cmh_service.specs.declared.said.Said.{Said}

@@ -1,7 +1,7 @@
 -- What a client said, and what it is to be sent.
 use Rattle.std.specs.Prelude.{◌≡◌, ℕ, List, drop}
 use Rattle.std.specs.Io.BufRead.{drop_through}
-use Rattle.cmh_running.specs.Dialogue.{line_in}
+use Rattle.cmh_console.specs.Dialogue.{line_in}
 use Rattle.cmh_service.specs.Said.{WasSaid}
 use Rattle.cmh_service.specs.declared.client.Client.{Client}
 use Rattle.cmh_service.specs.declared.said.Said.{Said}

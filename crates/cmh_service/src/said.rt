@@ -2,7 +2,7 @@
 
 ghost use Rattle.std.specs.Prelude.{◌≡◌, ◌↔◌, ◌∷◌, [], ℕ, IfOk, IsTrue, MatchOption};
 ghost use Rattle.cmh_console.specs.Words.{words_of};
-ghost use Rattle.cmh_running.specs.Dialogue.{line_of};
+ghost use Rattle.cmh_console.specs.Dialogue.{line_of};
 ghost use Rattle.cmh_service.specs.Said.{AsksNoService, AsksService, NamesProcess, SaysToService, WasSaid};
 
 use cmh_console::{NextLine, Words};

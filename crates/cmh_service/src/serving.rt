@@ -81,12 +81,7 @@ fn serve_into<R, W: Write>(
 where
     R: System + Files<File = File> + Send + 'static,
 {
-    let (file, ports) = read_topology_file_with_ports(alloc, start.topology)?;
-    let world = Topology::new(alloc, file.edition, &file.rows)?;
-    if !world.has_site(start.site) {
-        return Err(Fault::Site);
-    }
-    let ports = Ports::new(alloc, &file.rows, &ports)?;
+    let Setting { world, ports } = read_setting(alloc, start)?;
     let doors = Doors::open(&rt, port)?;
     let setup = SiteSetup {
         topology: &world,
@@ -111,6 +106,23 @@ where
         return ended(threads, fault);
     }
     serve_beside(rt, alloc, host, doors, threads)
+}
+
+/// The sites of the topology file, and their ports.
+#[derive(Drop)]
+struct Setting {
+    world: Topology,
+    ports: Ports,
+}
+
+fn read_setting(alloc: Global, start: &SiteStart<'_>) -> Result<Setting, Fault> {
+    let (file, ports) = read_topology_file_with_ports(alloc, start.topology)?;
+    let world = Topology::new(alloc, file.edition, &file.rows)?;
+    if !world.has_site(start.site) {
+        return Err(Fault::Site);
+    }
+    let ports = Ports::new(alloc, &file.rows, &ports)?;
+    Ok(Setting { world, ports })
 }
 
 fn say_listening<W: Write>(out: &mut Output<W>) -> Result<(), Fault> {
@@ -159,7 +171,8 @@ where
     ended(threads, fault)
 }
 
-/// Starts the threads that serve clients, and one that wakes them at each declaration.
+/// Starts the threads that serve clients, and one that wakes them at each declaration. Each thing that can fail stands in a
+/// function of its own, which has less to drop then.
 fn start_servers<R>(
     rt: R,
     alloc: Global,
@@ -169,39 +182,93 @@ fn start_servers<R>(
 where
     R: Wait + Threads + Net + Copy + Send + Drop + 'static,
 {
-    let Ok(waker) = Waker::new(doors.poll.registry(), ENDED) else {
-        return Err(Fault::Listen);
-    };
+    let Polled { mailboxes, polls } = make_polls(&rt, alloc)?;
+    let parker = watch(alloc, &host)?;
+    let rounds = make_rounds(alloc, host, mailboxes, doors)?;
+    start_passing(rt, parker, &rounds)?;
+    for (number, poll) in polls.into_iter().enumerate() {
+        start_server(rt, alloc, number, poll, &rounds)?;
+    }
+    Ok(rounds)
+}
+
+/// What each thread that serves clients waits on, and where it is told something.
+#[derive(Drop)]
+struct Polled {
+    mailboxes: Vec<Mailbox>,
+    polls: Vec<Poll>,
+}
+
+fn make_polls<R: Net>(rt: &R, alloc: Global) -> Result<Polled, Fault> {
     let mut mailboxes = Vec::with_capacity(alloc, SERVERS)?;
     let mut polls = Vec::with_capacity(alloc, SERVERS)?;
     for _ in 0..SERVERS {
-        let Ok(poll) = Poll::new(&rt) else {
+        let Ok(poll) = Poll::new(rt) else {
             return Err(Fault::Listen);
         };
-        let Ok(waker) = Waker::new(poll.registry(), MAIL) else {
-            return Err(Fault::Listen);
-        };
-        mailboxes.push(Mailbox::new(alloc, waker)?)?;
+        mailboxes.push(mailbox_of(alloc, &poll)?)?;
         polls.push(poll)?;
     }
+    Ok(Polled { mailboxes, polls })
+}
+
+/// The mailbox of the thread that waits on this.
+fn mailbox_of(alloc: Global, poll: &Poll) -> Result<Mailbox, Fault> {
+    let Ok(waker) = Waker::new(poll.registry(), MAIL) else {
+        return Err(Fault::Listen);
+    };
+    Ok(Mailbox::new(alloc, waker)?)
+}
+
+/// What is woken at each declaration of the site.
+fn watch<R: Wait + Drop>(alloc: Global, host: &Host<R>) -> Result<Parker, Fault> {
     let parker = Parker::new(alloc)?;
     host.handle.station.watch(parker.unparker().clone()?);
+    Ok(parker)
+}
+
+fn make_rounds<R: Wait + Drop>(
+    alloc: Global,
+    host: Host<R>,
+    mailboxes: Vec<Mailbox>,
+    doors: &Doors,
+) -> Result<Arc<Rounds<R>>, Fault> {
+    let Ok(waker) = Waker::new(doors.poll.registry(), ENDED) else {
+        return Err(Fault::Listen);
+    };
     let mailboxes = Arc::new(alloc, mailboxes)?;
-    let rounds = Arc::new(
-        alloc,
-        Rounds::new(host, Desk::new(alloc)?, mailboxes, waker),
-    )?;
-    let theirs = Arc::try_clone(&rounds)?;
-    if thread::spawn(&rt, move || pass_on(rt, &parker, &theirs)).is_err() {
-        return Err(Fault::Memory);
+    let rounds = Rounds::new(host, Desk::new(alloc)?, mailboxes, waker);
+    Ok(Arc::new(alloc, rounds)?)
+}
+
+/// Starts the thread that tells the others each declaration.
+fn start_passing<R>(rt: R, parker: Parker, rounds: &Arc<Rounds<R>>) -> Result<(), Fault>
+where
+    R: Wait + Threads + Net + Copy + Send + Drop + 'static,
+{
+    let theirs = Arc::try_clone(rounds)?;
+    match thread::spawn(&rt, move || pass_on(rt, &parker, &theirs)) {
+        Ok(_) => Ok(()),
+        Err(_) => Err(Fault::Memory),
     }
-    for (number, poll) in polls.into_iter().enumerate() {
-        let mut server = Server::new(rt, alloc, number, poll, Arc::try_clone(&rounds)?)?;
-        if thread::spawn(&rt, move || server.serve_all()).is_err() {
-            return Err(Fault::Memory);
-        }
+}
+
+/// Starts a thread that serves clients.
+fn start_server<R>(
+    rt: R,
+    alloc: Global,
+    number: usize,
+    poll: Poll,
+    rounds: &Arc<Rounds<R>>,
+) -> Result<(), Fault>
+where
+    R: Wait + Threads + Net + Copy + Send + Drop + 'static,
+{
+    let mut server = Server::new(rt, alloc, number, poll, Arc::try_clone(rounds)?)?;
+    match thread::spawn(&rt, move || server.serve_all()) {
+        Ok(_) => Ok(()),
+        Err(_) => Err(Fault::Memory),
     }
-    Ok(rounds)
 }
 
 /// Tells the threads that serve clients each declaration.

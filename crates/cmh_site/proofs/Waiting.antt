@@ -14,9 +14,10 @@ use Rattle.cmh_console.specs.Faults.{IsPlayFault, of_line}
 use Rattle.cmh_console.specs.declared.faults.Fault.{Fault}
 use Rattle.cmh_console.proofs.LineLemmas.{HasLeft, at_some, endless_input, length-drop_through, unread_err}
 use Rattle.std.proofs.KnownBytes.{Appends-trans}
-use Rattle.cmh_running.proofs.Dialogues.{HasTalked, begun, first_is}
-use Rattle.cmh_running.specs.Dialogue.{Conversed, Dialogue, HasAnswered, line_in, line_of, turn}
-use Rattle.cmh_running.specs.declared.dialogue.Flow.{Flow}
+use Rattle.cmh_console.proofs.Dialogues.{HasTalked, begun, first_is}
+use Rattle.cmh_console.specs.Dialogue.{Conversed, Dialogue, HasAnswered, line_in, line_of, turn}
+use Rattle.cmh_console.specs.declared.dialogue.Flow.{Flow}
+use Rattle.cmh_console.specs.declared.dialogue.Flow.TheVariants.{Awaits}
 use Rattle.cmh_running.specs.declared.site_script.EventLine.TheVariants.{Act as ActEvent}
 use Rattle.cmh_running.specs.declared.site_script.SiteLine.{SiteLine}
 use Rattle.cmh_running.specs.declared.site_script.SiteLine.TheVariants.{Event as SiteEvent}
@@ -36,16 +37,16 @@ said_more bytes now process event _ (more _ _ p e es first said others) some say
 module _ (site : ℕ) (first : Bool) (bytes : List ℕ) where
   -- the events of lines were answered in their order
   all_answered : (rest now text : List ℕ) (last : Bool) (events : List Event) (replies : List SiteReply)
-      → Dialogue Bool (IsTurnOfSite site) first bytes rest text last → LinesSay rest events now → AreStepped events replies
-      → Dialogue Bool (IsTurnOfSite site) first bytes now (text ++ flat_map reply_text replies) last
+      → Dialogue Bool (IsTurnOfSite site) first bytes rest text last Awaits → LinesSay rest events now → AreStepped events replies
+      → Dialogue Bool (IsTurnOfSite site) first bytes now (text ++ flat_map reply_text replies) last Awaits
   all_answered rest _ text last _ [] dialogue (none _) are =
-      subst (λ (t : List ℕ). Dialogue Bool (IsTurnOfSite site) first bytes rest t last) (sym (append-nil text)) dialogue
+      subst (λ (t : List ℕ). Dialogue Bool (IsTurnOfSite site) first bytes rest t last Awaits) (sym (append-nil text)) dialogue
   all_answered rest _ text last _ (reply ∷ replies) dialogue (none _) are = absurd are
   all_answered rest now text last _ [] dialogue (more _ _ process event others some says lines) are = absurd are
   all_answered rest now text last _ (reply ∷ replies) dialogue (more _ _ process event others some says lines) are =
-      subst (λ (t : List ℕ). Dialogue Bool (IsTurnOfSite site) first bytes now t last) (append_assoc text (reply_text reply) (flat_map reply_text replies))
+      subst (λ (t : List ℕ). Dialogue Bool (IsTurnOfSite site) first bytes now t last Awaits) (append_assoc text (reply_text reply) (flat_map reply_text replies))
       (all_answered (drop_through 10 rest) now (text ++ reply_text reply) last others replies
-      (turn rest text (reply_text reply) last last dialogue some
+      (turn rest text (reply_text reply) last last Awaits dialogue some
       (record { said = SiteEvent (ActEvent process event); reply = reply; says = says; answers = (are.0, refl, refl); text_is = refl }))
       lines are.1)
 
@@ -56,7 +57,7 @@ module _ (site : ℕ) (first : Bool) (bytes : List ℕ) where
     pub text : List ℕ
     pub now_is : now ≡ Some left
     pub says : LinesSay rest events left
-    pub dialogue : Dialogue Bool (IsTurnOfSite site) first bytes rest text last
+    pub dialogue : Dialogue Bool (IsTurnOfSite site) first bytes rest text last Awaits
     pub wrote : Appends old out text
     pub counted : n + length left ≤ length bytes
 
@@ -112,18 +113,18 @@ module _ (site : ℕ) (first : Bool) (start old now out : Option (List ℕ)) (la
   pub waited_some : (has_failed : Bool) (fault : Fault) → IfSome start (λ bytes. Conversed (IsTurnOfSite site) first bytes old out has_failed (Err fault))
   waited_some has_failed fault = if_some start _ (λ bytes e.
       let s = so_far bytes e in
-      record { text = s.text; is = record { rest = s.rest; last = last; dialogue = s.dialogue }; wrote = inr s.wrote })
+      record { text = s.text; is = (s.rest, last, s.dialogue); wrote = inr s.wrote })
 
-  pub waited_err : (has_failed : Bool) (r : Result (Unit {0}) Fault) → IsErr r → IfSome start (λ bytes. Conversed (IsTurnOfSite site) first bytes old out has_failed r)
+  pub waited_err : (has_failed : Bool) (r : Result Flow Fault) → IsErr r → IfSome start (λ bytes. Conversed (IsTurnOfSite site) first bytes old out has_failed r)
   waited_err has_failed (Ok x) err = absurd (true≢false (sym err))
   waited_err has_failed (Err fault) err = waited_some has_failed fault
 
-  pub waited_failed : (after : Option (List ℕ)) (has_failed : Bool) (r : Result (Unit {0}) Fault) → IsErr r → has_failed ≡ true
+  pub waited_failed : (after : Option (List ℕ)) (has_failed : Bool) (r : Result Flow Fault) → IsErr r → has_failed ≡ true
       → IfSome start (λ bytes. Conversed (IsTurnOfSite site) first bytes old after has_failed r)
   waited_failed after has_failed (Ok x) err failed = absurd (true≢false (sym err))
   waited_failed after has_failed (Err fault) err failed = if_some start _ (λ bytes e.
       let s = so_far bytes e in
-      record { text = s.text; is = record { rest = s.rest; last = last; dialogue = s.dialogue }; wrote = inl failed })
+      record { text = s.text; is = (s.rest, last, s.dialogue); wrote = inl failed })
 
   has_left : (bytes : List ℕ) → start ≡ Some bytes → HasLeft bytes now n
   has_left bytes e = let s = so_far bytes e in record { left = s.left; now_is = s.now_is; counted = s.counted }
@@ -131,7 +132,7 @@ module _ (site : ℕ) (first : Bool) (start old now out : Option (List ℕ)) (la
   pub endless_wait : 2 ^ 64 - 1 ≤ n → IsEndless start
   endless_wait = endless_input start now n has_left
 
-  pub unread_waiting : (read_failed write_failed : Bool) (r : Result (Unit {0}) Fault) (lower : LineFault) → IsErrAnd r (λ fault. fault ≡ of_line lower) → IsLineFault now read_failed lower
+  pub unread_waiting : (read_failed write_failed : Bool) (r : Result Flow Fault) (lower : LineFault) → IsErrAnd r (λ fault. fault ≡ of_line lower) → IsLineFault now read_failed lower
       → IfErr r (IsPlayFault start read_failed write_failed)
   unread_waiting = unread_err start now n has_left
 

@@ -1,18 +1,17 @@
 -- How a cluster ends: what it wrote, or why it did not get so far.
-use Rattle.std.specs.Prelude.{◌≡◌, ℕ, Bool, true, ◌⊎◌, List, [], ◌∷◌, ◌++◌, length, map, codes, Option, Result, Ok, Err, ⊤, flat_map}
+use Rattle.std.specs.Prelude.{◌≡◌, ℕ, Bool, true, false, ◌⊎◌, List, [], ◌∷◌, ◌++◌, length, map, codes, Option, Result, Ok, Err, ⊤, flat_map}
 use Rattle.std.specs.Io.KnownBytes.{Appends}
 use Rattle.cmh_frames.specs.Topology.{Topology, sites_of}
-use Rattle.cmh_console.specs.Device.{Tells, Writing}
+use Rattle.cmh_console.specs.Device.{Writing}
 use Rattle.cmh_files.specs.Audits.{AuditEnds, IsOfNoTopology}
 use Rattle.cmh_console.specs.Faults.{NamesFault}
-use Rattle.cmh_console.specs.TopologyFile.{IsFaultOfFileWithPorts}
+use Rattle.cmh_console.specs.TopologyFile.{IsFaultOfFileWithPorts, OfTopology}
 use Rattle.cmh_console.specs.declared.faults.Fault.{Fault}
 use Rattle.cmh_console.specs.declared.faults.Fault.TheVariants.{ScriptFile, OutFile, Json, Topology as NoTopology, Listen, Input, Output, Memory}
 use Rattle.cmh_console.specs.declared.topology_file.TopologyFileFault.TheVariants.{Json as NoJson}
-use Rattle.cmh_running.specs.Dialogue.{IsAll, EndsBy, IsPart, WroteBefore}
-use Rattle.cmh_running.specs.declared.dialogue.Flow.{Flow}
-use Rattle.cmh_running.specs.declared.dialogue.Flow.TheVariants.{Awaits, Ends}
-use Rattle.cmh_site.specs.Endings.{IsWorldOf}
+use Rattle.cmh_console.specs.Dialogue.{Conversed, IsTextOf}
+use Rattle.cmh_console.specs.declared.dialogue.Flow.{Flow}
+use Rattle.cmh_console.specs.declared.dialogue.Flow.TheVariants.{Awaits, Ends}
 use Rattle.cmh_host.specs.SiteReplies.{closed_text}
 use Rattle.cmh_site.specs.SiteTalk.{IsTurnOfCluster}
 use Rattle.cmh_site.specs.declared.cluster.Played.{Played}
@@ -25,25 +24,9 @@ use Rattle.cmh_host.specs.declared.site_reply.ClosedLink.{ClosedLink}
 abbrev pub IsTurn : Topology → Unit {0} → Unit {0} → Option (List ℕ) → List ℕ → Flow → Type 0
 IsTurn t was is line text flow = IsTurnOfCluster t line text
 
--- the text answers the lines of the script: all of them where the next is awaited, else those up to one behind which frames
--- did not come; at a fault some of them
-abbrev pub IsTextOfScript : Topology → List ℕ → List ℕ → Result Flow Fault → Type 0
-IsTextOfScript t script text (Ok Awaits) = IsAll (Unit {0}) (IsTurn t) tt script text
-IsTextOfScript t script text (Ok Ends) = EndsBy (Unit {0}) (IsTurn t) tt script text
-IsTextOfScript t script text (Err fault) = IsPart (Unit {0}) (IsTurn t) tt script text
-
--- lines of the script were answered, up to a fault if there is one
-pub record Replied (t : Topology) (script : List ℕ) (old new : Option (List ℕ)) (has_failed : Bool)
-    (result : Result Flow Fault) : Type 0 where
-  pub text : List ℕ
-  pub is : IsTextOfScript t script text result
-  pub wrote : WroteBefore result old new has_failed text
-
 -- some first lines of the script were answered, or none
-pub record Begun (t : Topology) (script : List ℕ) (old new : Option (List ℕ)) (has_failed : Bool) : Type 0 where
-  pub text : List ℕ
-  pub is : IsPart (Unit {0}) (IsTurn t) tt script text
-  pub wrote : Tells old new has_failed text
+abbrev pub Begun : Topology → List ℕ → Option (List ℕ) → Option (List ℕ) → Bool → Type 0
+Begun t script old new has_failed = Conversed (IsTurn t) tt script old new has_failed (Err ScriptFile)
 
 abbrev pub closed_line : ClosedLink → List ℕ
 closed_line link = closed_text link ++ 10 ∷ []
@@ -53,23 +36,20 @@ pub record NamesClosed (old new : Option (List ℕ)) : Type 0 where
   pub links : List ClosedLink
   pub wrote : Appends old new (flat_map closed_line links)
 
--- all lines of the script were answered, and then links were named that had closed
-pub record Answered (t : Topology) (script : List ℕ) (old new : Option (List ℕ)) : Type 0 where
+-- the lines of the script were answered, all of them or up to one, and then this was written
+pub record AnsweredThen (t : Topology) (script : List ℕ) (flow : Flow) (more : List ℕ) (old new : Option (List ℕ)) : Type 0 where
   pub text : List ℕ
-  pub links : List ClosedLink
-  pub is : IsTextOfScript t script text (Ok Awaits)
-  pub wrote : Appends old new (text ++ flat_map closed_line links)
+  pub is : IsTextOf (Unit {0}) (IsTurn t) tt script text (Ok flow)
+  pub wrote : Appends old new (text ++ more)
 
--- the lines of the script were answered up to one behind which frames did not come
-pub record AnsweredUpToOne (t : Topology) (script : List ℕ) (old new : Option (List ℕ)) : Type 0 where
-  pub text : List ℕ
-  pub is : IsTextOfScript t script text (Ok Ends)
-  pub wrote : Appends old new text
+-- all lines of the script were answered, and then links were named that had closed
+abbrev pub Answered : Topology → List ℕ → Option (List ℕ) → Option (List ℕ) → Type 0
+Answered t script old new = (links : List ClosedLink) × AnsweredThen t script Awaits (flat_map closed_line links) old new
 
 -- the lines of the script were answered, all of them or up to one, and nothing else was written but names of links
 abbrev pub HasPlayed : Topology → List ℕ → Option (List ℕ) → Option (List ℕ) → Flow → Type 0
 HasPlayed t script old new Awaits = Answered t script old new
-HasPlayed t script old new Ends = AnsweredUpToOne t script old new
+HasPlayed t script old new Ends = Conversed (IsTurn t) tt script old new false (Ok Ends)
 
 -- ---- why all sites end early
 
@@ -101,46 +81,37 @@ IsWorldFault topology (NoTopology fault) = IsOfNoTopology topology fault
 IsWorldFault topology Memory = ⊤
 IsWorldFault topology fault = ⊥
 
--- the topology file is that of a topology, and this holds of it
-abbrev pub OfWorld : List ℕ → (Topology → Type 0) → Type 0
-OfWorld topology Holds = (world : Topology) × IsWorldOf topology world × Holds world
-
 -- Why a cluster ends without an audit, and what was written then. What a disk or a port refuses comes only where the file
 -- is that of a topology: a journal's file is refused before all lines, or behind them, when it is read back.
 abbrev pub IsClusterFault : List ℕ → List ℕ → Option (List ℕ) → Option (List ℕ) → Bool → Fault → Type 0
-IsClusterFault topology script old new write_failed Json = IsWorldFault topology Json × (new ≡ old)
-IsClusterFault topology script old new write_failed (NoTopology fault) = IsWorldFault topology (NoTopology fault) × (new ≡ old)
-IsClusterFault topology script old new write_failed Listen = OfWorld topology (λ world. new ≡ old)
-IsClusterFault topology script old new write_failed OutFile = OfWorld topology (λ world. (new ≡ old) ⊎ Answered world script old new)
-IsClusterFault topology script old new write_failed ScriptFile = OfWorld topology (λ world. Begun world script old new write_failed)
+IsClusterFault topology script old new write_failed Json = IsFaultOfFileWithPorts topology NoJson × (new ≡ old)
+IsClusterFault topology script old new write_failed (NoTopology fault) = IsOfNoTopology topology fault × (new ≡ old)
+IsClusterFault topology script old new write_failed Listen = OfTopology topology (λ world. new ≡ old)
+IsClusterFault topology script old new write_failed OutFile = OfTopology topology (λ world. (new ≡ old) ⊎ Answered world script old new)
+IsClusterFault topology script old new write_failed ScriptFile = OfTopology topology (λ world. Begun world script old new write_failed)
 IsClusterFault topology script old new write_failed Memory =
-    (new ≡ old) ⊎ OfWorld topology (λ world. Begun world script old new write_failed ⊎ Answered world script old new)
+    (new ≡ old) ⊎ OfTopology topology (λ world. Begun world script old new write_failed ⊎ Answered world script old new)
 IsClusterFault topology script old new write_failed Output = write_failed ≡ true
 IsClusterFault topology script old new write_failed fault = ⊥
 
 -- ---- how a cluster ends
 
 -- all lines of the script were answered, and a file for each site was read back
-pub record ReadsBack (topology script : List ℕ) (old new : Option (List ℕ)) (files : List (List ℕ)) : Type 0 where
-  pub world : Topology
-  pub world_is : IsWorldOf topology world
-  pub answered : Answered world script old new
-  pub one_each : length files ≡ length (sites_of world)
+abbrev pub ReadsBack : List ℕ → List ℕ → Option (List ℕ) → Option (List ℕ) → List (List ℕ) → Type 0
+ReadsBack topology script old new files =
+    OfTopology topology (λ world. Answered world script old new × (length files ≡ length (sites_of world)))
 
--- the lines of the script were answered up to one behind which frames did not come, and that was said
-pub record SaysNotSettled (topology script : List ℕ) (old new : Option (List ℕ)) : Type 0 where
-  pub world : Topology
-  pub before : Option (List ℕ)
-  pub world_is : IsWorldOf topology world
-  pub answered : AnsweredUpToOne world script old before
-  pub said : Appends before new (codes "not settled\n")
+-- the lines of the script were answered up to one after which frames did not come, and that was said
+abbrev pub SaysNotSettled : List ℕ → List ℕ → Option (List ℕ) → Option (List ℕ) → Type 0
+SaysNotSettled topology script old new =
+    OfTopology topology (λ world. AnsweredThen world script Ends (codes "not settled\n") old new)
 
 -- what the play of a script comes to
 abbrev pub ComesTo : List ℕ → List ℕ → Option (List ℕ) → Option (List ℕ) → Bool → Played → Type 0
 ComesTo topology script old new is_flushed (Read files) = ReadsBack topology script old new (map (λ file. file.items) files.items)
 ComesTo topology script old new is_flushed NotSettled = SaysNotSettled topology script old new × (is_flushed ≡ true)
 
--- The sites settled behind each line, and the files that were read back were audited: the audit stands behind the answers,
+-- The sites settled after each line, and the files that were read back were audited: the audit stands after the answers,
 -- and its status is that of the command.
 pub record EndsInAudit {W E : Type 0} (topology script : List ℕ) (old new : Writing W) (err_old err_new : Writing E)
     (status : ℕ) : Type 0 where
@@ -149,19 +120,12 @@ pub record EndsInAudit {W E : Type 0} (topology script : List ℕ) (old new : Wr
   pub reads : ReadsBack topology script old.written before.written files
   pub ends : AuditEnds topology files before new err_old err_new status
 
--- they did not settle, which was flushed, and the status is 1
-pub record EndsUnsettled {W E : Type 0} (topology script : List ℕ) (old new : Writing W) (err_old err_new : Writing E)
-    (status : ℕ) : Type 0 where
-  pub says : SaysNotSettled topology script old.written new.written
-  pub flushed : new.is_flushed ≡ true
-  pub silent : err_new ≡ err_old
-  pub status_is : status ≡ 1
-
--- a cluster ended in an audit, or did not settle, or named a fault that has its cause
+-- A cluster ended in an audit; or the sites did not settle, which was flushed, and the status is 1; or a fault was named
+-- that has its cause.
 abbrev pub ClusterEnds : {W E : Type 0} → List ℕ → List ℕ → Writing W → Writing W → Writing E → Writing E → ℕ → Type 0
 ClusterEnds topology script old new err_old err_new status =
     EndsInAudit topology script old new err_old err_new status
-    ⊎ EndsUnsettled topology script old new err_old err_new status
+    ⊎ (SaysNotSettled topology script old.written new.written × (new.is_flushed ≡ true) × (err_new ≡ err_old) × (status ≡ 1))
     ⊎ NamesFault (IsClusterFault topology script old.written new.written new.has_failed) status err_old err_new
 
 -- some files were audited, behind what was written before: its text, or why there is none

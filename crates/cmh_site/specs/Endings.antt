@@ -1,32 +1,22 @@
 -- How a running site ends: what it wrote, or why it did not get so far.
 use Rattle.std.specs.Prelude.{◌≡◌, ℕ, Bool, true, false, List, ◌++◌, codes, Option, Result, Ok, ⊤}
 use Rattle.std.specs.Io.KnownBytes.{Appends}
-use Rattle.cmh_frames.specs.Rows.{Row}
-use Rattle.cmh_frames.specs.Topology.{Topology, IsTopologyOf, is_site}
-use Rattle.cmh_frames.specs.declared.edition.Edition.{Edition}
+use Rattle.cmh_frames.specs.Topology.{is_site}
 use Rattle.cmh_files.specs.Audits.{IsOfNoTopology}
-use Rattle.cmh_console.specs.TopologyFile.{Says, IsFaultOfFileWithPorts}
+use Rattle.cmh_console.specs.TopologyFile.{IsFaultOfFileWithPorts, OfTopology}
 use Rattle.cmh_console.specs.declared.faults.Fault.{Fault}
 use Rattle.cmh_console.specs.declared.faults.Fault.TheVariants.{Json, Topology as NoTopology, Site, JournalDisk, Listen, Input, Output, Memory}
 use Rattle.cmh_console.specs.declared.topology_file.TopologyFileFault.TheVariants.{Json as NoJson}
-use Rattle.cmh_running.specs.Dialogue.{IsTextOf, WroteBefore}
+use Rattle.cmh_console.specs.Dialogue.{IsTextOf, WroteBefore}
 use Rattle.cmh_console.specs.Faults.{IsPlayFault}
+use Rattle.cmh_console.specs.declared.dialogue.Flow.{Flow}
 use Rattle.cmh_site.specs.SiteTalk.{IsTurnOfSite}
 
 -- ---- the start
 
--- the topology file is that of this topology
-pub record IsWorldOf (topology : List ℕ) (world : Topology) : Type 0 where
-  pub edition : Edition
-  pub rows : List Row
-  pub says : Says topology edition rows
-  pub world_is : IsTopologyOf edition rows world
-
 -- the topology file is that of a topology which has the site, or which doesn't
-pub record Knows (topology : List ℕ) (site : ℕ) (is_known : Bool) : Type 0 where
-  pub world : Topology
-  pub world_is : IsWorldOf topology world
-  pub known : is_site world site ≡ is_known
+abbrev pub Knows : List ℕ → ℕ → Bool → Type 0
+Knows topology site is_known = OfTopology topology (λ t. is_site t site ≡ is_known)
 
 -- ---- one site
 
@@ -44,7 +34,7 @@ IsSiteFault topology site bytes read_failed write_failed fault = ⊥
 
 -- a site said that it listens, and then answered its lines, up to a fault if there is one
 pub record Welcomed (site : ℕ) (was : Bool) (bytes : List ℕ) (old new : Option (List ℕ)) (has_failed : Bool)
-    (result : Result (Unit {0}) Fault) : Type 0 where
+    (result : Result Flow Fault) : Type 0 where
   pub text : List ℕ
   pub is : IsTextOf Bool (IsTurnOfSite site) was bytes text result
   pub wrote : WroteBefore result old new has_failed (codes "listening\n" ++ text)
@@ -52,5 +42,6 @@ pub record Welcomed (site : ℕ) (was : Bool) (bytes : List ℕ) (old new : Opti
 -- a site said that it listens, answered all lines, or those up to `quit`, and said that it stopped
 pub record Served (site : ℕ) (bytes : List ℕ) (old new : Option (List ℕ)) : Type 0 where
   pub text : List ℕ
-  pub is : IsTextOf Bool (IsTurnOfSite site) false bytes text (Ok tt)
+  pub flow : Flow
+  pub is : IsTextOf Bool (IsTurnOfSite site) false bytes text (Ok flow)
   pub wrote : Appends old new (codes "listening\n" ++ text ++ codes "stopped\n")

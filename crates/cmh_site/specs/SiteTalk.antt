@@ -7,8 +7,8 @@ use Rattle.cmh_station.specs.declared.refusal.StationRefusal.TheVariants.{Rule}
 use Rattle.cmh_host.specs.SiteReplies.{reply_text}
 use Rattle.cmh_host.specs.Steps.{IsDeclared, IsLinks, WasStepped}
 use Rattle.cmh_running.specs.SiteScript.{SaysToCluster, SaysToSite}
-use Rattle.cmh_running.specs.declared.dialogue.Flow.{Flow}
-use Rattle.cmh_running.specs.declared.dialogue.Flow.TheVariants.{Awaits, Ends}
+use Rattle.cmh_console.specs.declared.dialogue.Flow.{Flow}
+use Rattle.cmh_console.specs.declared.dialogue.Flow.TheVariants.{Awaits, Ends}
 use Rattle.cmh_host.specs.declared.site_reply.SiteReply.{SiteReply}
 use Rattle.cmh_host.specs.declared.site_reply.SiteReply.TheVariants.{Silent, BadLine, BadLink, Late, Refused, Connected}
 use Rattle.cmh_running.specs.declared.site_script.ClusterLine.{ClusterLine}

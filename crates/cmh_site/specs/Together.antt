@@ -3,8 +3,8 @@ use Rattle.std.specs.Prelude.{◌≡◌, ℕ, ◌<◌, Bool, List, [], ◌∷◌
 use Rattle.std.specs.Io.BufRead.{drop_through}
 use Rattle.std.specs.Io.KnownBytes.{Appends}
 use Rattle.cmh_model.specs.declared.event.Event.{Event}
-use Rattle.cmh_running.specs.Dialogue.{line_in}
-use Rattle.cmh_running.specs.declared.dialogue.Flow.{Flow}
+use Rattle.cmh_console.specs.Dialogue.{line_in}
+use Rattle.cmh_console.specs.declared.dialogue.Flow.{Flow}
 use Rattle.cmh_running.specs.declared.site_script.EventLine.TheVariants.{Act as ActEvent}
 use Rattle.cmh_running.specs.declared.site_script.SiteLine.{SiteLine}
 use Rattle.cmh_running.specs.declared.site_script.SiteLine.TheVariants.{Event as SiteEvent}

@@ -5,10 +5,10 @@ ghost use Rattle.std.specs.Io.KnownBytes.{Appends};
 ghost use Rattle.cmh_controller.specs.declared.refusal.Refusal.TheVariants.{UnknownProcess};
 ghost use Rattle.cmh_console.specs.Status.{IsStatus};
 ghost use Rattle.cmh_frames.specs.Topology.{home, sites_of};
-ghost use Rattle.cmh_running.specs.Dialogue.{HasAnswered, line_of};
+ghost use Rattle.cmh_console.specs.Dialogue.{Conversed, HasAnswered, line_of};
 ghost use Rattle.cmh_site.specs.ClusterEndings as spec;
-ghost use Rattle.cmh_site.specs.ClusterEndings.{AuditsSome, ClusterEnds, ComesTo, HasPlayed, IsClusterFault, IsRunFault, IsStartFault, IsWorldFault, NamesClosed, Replied};
-ghost use Rattle.cmh_site.specs.Endings.{IsWorldOf};
+ghost use Rattle.cmh_site.specs.ClusterEndings.{AuditsSome, ClusterEnds, ComesTo, HasPlayed, IsClusterFault, IsRunFault, IsStartFault, IsTurn, IsWorldFault, NamesClosed};
+ghost use Rattle.cmh_console.specs.TopologyFile.{SaysTopology};
 ghost use Rattle.cmh_console.specs.Faults.{IsAnswerFault, IsPlayFault};
 ghost use Rattle.cmh_host.specs.declared.site_reply.SiteReply.TheVariants.{Refused};
 ghost use Rattle.cmh_station.specs.declared.refusal.StationRefusal.TheVariants.{Rule};
@@ -17,7 +17,7 @@ ghost use Rattle.cmh_site.specs.SiteTalk.{AnswersCluster, IsTurnOfCluster, WasSa
 
 use cmh_carriers::{Dial, Listen, TcpDial, TcpListen};
 use cmh_console::{
-    Fault, Input, NextLine, Output, path_in, read_line, read_topology_file_with_ports,
+    Fault, Flow, Input, NextLine, Output, path_in, read_line, read_topology_file_with_ports,
 };
 use cmh_controller::Refusal;
 use cmh_files::run_audit;
@@ -31,8 +31,8 @@ use cmh_links::LinkFault;
 use cmh_model::Event;
 use cmh_notes::{NoVoice, Noting, Origin, Voice};
 use cmh_running::{
-    ClusterLine, Disk, EventLine, Flow, JournalFolder, JournalSink, Ports, ReceiptLook,
-    SendingLook, Silence, Tally, can_be_made, parse_for_cluster,
+    ClusterLine, Disk, EventLine, JournalFolder, JournalSink, Ports, ReceiptLook, SendingLook,
+    Silence, Tally, can_be_made, parse_for_cluster,
 };
 use cmh_station::{KeptBoard, Listing, StationRefusal};
 use std::alloc::{AllocError, Global};
@@ -179,7 +179,7 @@ struct Setting {
 }
 
 fn read_setting(alloc: Global, topology: &[u8]) -> Result<Setting, Fault>
-    ensures world { IfOk result (λ setting. IsWorldOf topology.now setting.world) }
+    ensures world { IfOk result (λ setting. SaysTopology topology.now setting.world) }
     ensures fault { IfErr result (IsWorldFault topology.now) }
 {
     let (file, ports) = read_topology_file_with_ports(alloc, topology)?;
@@ -475,7 +475,7 @@ where
         input: &mut Input<I>,
         out: &mut Output<W>,
     ) -> Result<Flow, Fault>
-        ensures answers { IfSome input.old.left (λ bytes. Replied self.old.topology.now bytes
+        ensures answers { IfSome input.old.left (λ bytes. Conversed (IsTurn self.old.topology.now) tt bytes
             out.old.written out.new.written out.new.has_failed result) }
         ensures fault { IfErr result (IsPlayFault input.old.left input.new.has_failed out.new.has_failed) }
     {

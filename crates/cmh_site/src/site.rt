@@ -3,7 +3,7 @@
 ghost use Rattle.std.specs.Prelude.{◌≡◌, ◌≢◌, ◌≤◌, ◌⊎◌, [], length, true, false, IfOk, IfErr, IfSome, MatchBool, OnOk};
 ghost use Rattle.cmh_console.specs.Faults.{IsAnswerFault, IsPlayFault, NamesFault};
 ghost use Rattle.cmh_console.specs.Status.{IsStatus};
-ghost use Rattle.cmh_running.specs.Dialogue.{Conversed, line_of};
+ghost use Rattle.cmh_console.specs.Dialogue.{Conversed, line_of};
 ghost use Rattle.cmh_links.specs.Threads.{connected_in, failed_in};
 ghost use Rattle.cmh_site.specs.Endings.{IsSiteFault, Served, Welcomed};
 ghost use Rattle.cmh_site.specs.SiteTalk.{AnswersSite, CountsLinks, IsConnected, IsTurnOfSite, WasSaidToSite};
@@ -13,7 +13,7 @@ ghost use Rattle.cmh_station.specs.Journaled.{batch_limit};
 
 use cmh_carriers::{Dial, TcpDial};
 use cmh_console::{
-    Ahead, Fault, Input, NextLine, Output, read_line, read_topology_file_with_ports,
+    Ahead, Fault, Flow, Input, NextLine, Output, read_line, read_topology_file_with_ports,
 };
 use cmh_frames::{SiteId, Topology};
 use cmh_host::{
@@ -23,7 +23,7 @@ use cmh_host::{
 use cmh_journal::Sink;
 use cmh_model::Event;
 use cmh_notes::{NoVoice, Noting, Voice};
-use cmh_running::{EventLine, Flow, JournalSink, Order, Ports, SiteLine, parse_for_site};
+use cmh_running::{EventLine, JournalSink, Order, Ports, SiteLine, parse_for_site};
 use cmh_station::{BATCH_LIMIT, KeptBoard, Listing};
 use std::alloc::{AllocError, Global};
 use std::fs::File;
@@ -215,7 +215,7 @@ where
         &mut self,
         input: &mut Input<I>,
         out: &mut Output<W>,
-    ) -> Result<(), Fault>
+    ) -> Result<Flow, Fault>
         ensures served { IfSome input.old.left (λ bytes.
             Welcomed self.old.handle.site self.old.has_connected bytes
             out.old.written out.new.written out.new.has_failed result) }
@@ -232,7 +232,7 @@ where
         &mut self,
         input: &mut Input<I>,
         out: &mut Output<W>,
-    ) -> Result<(), Fault>
+    ) -> Result<Flow, Fault>
         ensures answers { IfSome input.old.left (λ bytes.
             Conversed (IsTurnOfSite self.old.handle.site) self.old.has_connected bytes
             out.old.written out.new.written out.new.has_failed result) }
@@ -244,7 +244,7 @@ where
             let next = read_line(input, &mut buffer)?;
             if next.is_end() {
                 self.answer_waiting(&mut events, out)?;
-                return Ok(());
+                return Ok(Flow::Awaits);
             }
             let said = said_by(self.alloc, next)?;
             match event_of(said) {
@@ -258,7 +258,7 @@ where
                     self.answer_waiting(&mut events, out)?;
                     match self.answer(said, out)? {
                         Flow::Awaits => {}
-                        Flow::Ends => return Ok(()),
+                        Flow::Ends => return Ok(Flow::Ends),
                     }
                 }
             }

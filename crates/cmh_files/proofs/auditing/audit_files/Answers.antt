@@ -24,17 +24,14 @@ returns-clause-audits c =
     }) in
     let read = c.in_ok-journals.ensures.read in
     record {
-      audits = record {
+      says = record {
+        edition = c.in_ok-file.file.edition;
         rows = c.in_ok-file.file.rows.items;
-        world = world;
-        journals = journals;
         says = c.in_ok-file.ensures.says;
-        world_is = subst (λ (rows : List Row). IsTopologyOf c.in_ok-file.file.edition rows world) c.deref.ensures.value c.in_ok-world.ensures.ok;
-        read = read;
-        set = set;
-        verdict_is = verdict_is;
-        headline = c.headline_law.ensures.headline _ journals read.tails c.in-Ok.verdict read.are_files set verdict_is;
+        topology_is = subst (λ (rows : List Row). IsTopologyOf c.in_ok-file.file.edition rows world) c.deref.ensures.value c.in_ok-world.ensures.ok;
       };
-      world_is = refl;
-      journals_are = refl;
+      read = read;
+      set = set;
+      verdict_is = verdict_is;
+      headline = c.headline_law.ensures.headline _ journals read.tails c.in-Ok.verdict read.are_files set verdict_is;
     }

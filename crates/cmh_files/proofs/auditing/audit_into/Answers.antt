@@ -7,10 +7,11 @@ pub returns-clause-wrote : goal.returns-clause-wrote
 returns-clause-wrote g c = (
   _,
   record {
-    edition = c.in_ok-audited.audited.edition;
+    world = c.in_ok-audited.audited.world;
+    journals = c.in_ok-audited.audited.journals.items;
     cuts = c.in_ok-audited.audited.cuts.items;
     verdict = c.in_ok-audited.audited.verdict;
-    audits = c.in_ok-audited.ensures.audits.audits;
+    audits = c.in_ok-audited.ensures.audits;
     text_is = refl;
     status_is = c.status-status.ensures;
   },

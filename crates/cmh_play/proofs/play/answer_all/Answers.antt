@@ -1,7 +1,8 @@
 use Rattle.std.proofs.Common.{inl, inr, refl, ◌∙◌}
-use Rattle.cmh_play.proofs.KeptPlays.{kept_fault, played_to_end, unanswered_err, unanswered_fault_err}
+use Rattle.cmh_console.proofs.Dialogues.{endless_talk, has_left, talked_some}
+use Rattle.cmh_console.proofs.LineLemmas.{unread_err}
+use Rattle.cmh_play.proofs.KeptPlays.{kept_fault, played_to_end, unanswered, unanswered_fault_err}
 use Rattle.cmh_play.proofs.LinesLed.{led_begun, led_more}
-use Rattle.cmh_play.proofs.Plays.{answered_all, answered_err, answered_some, endless_lines, read_err}
 use Rattle.cmh_console.specs.declared.faults.Fault.TheVariants.{Input}
 use Rattle.cmh_play.proofs.play.answer_all.Goals as goal
 
@@ -18,8 +19,7 @@ loop-turn-preserved g c = record {
 
 pub returns-then-is_end-clause-answers : goal.returns-then-is_end-clause-answers
 returns-then-is_end-clause-answers g c =
-    answered_all _ _ _ _ c.loop-turn.invariant.led.state c.loop-turn.turn c.loop-turn.invariant.led.played c.in_ok-next.next _
-    c.in_ok-next.ensures.line (c.is_end.ensures.yes c.if-is_end.true)
+    talked_some _ _ _ _ _ _ _ c.loop-turn.invariant.led.state c.loop-turn.turn c.loop-turn.invariant.led.played _ Input
 
 pub returns-then-is_end-clause-all : goal.returns-then-is_end-clause-all
 returns-then-is_end-clause-all g c = record {
@@ -30,16 +30,19 @@ returns-then-is_end-clause-all g c = record {
 }
 
 pub returns-in_err-next-clause-answers : goal.returns-in_err-next-clause-answers
-returns-in_err-next-clause-answers g c = answered_err _ _ _ _ c.loop-turn.invariant.led.state c.loop-turn.turn c.loop-turn.invariant.led.played _ _ c.from_residual.ensures.0
+returns-in_err-next-clause-answers g c =
+    talked_some _ _ _ _ _ _ _ c.loop-turn.invariant.led.state c.loop-turn.turn c.loop-turn.invariant.led.played _ Input
 
 pub returns-in_err-next-clause-fault : goal.returns-in_err-next-clause-fault
 returns-in_err-next-clause-fault g c =
-    kept_fault _ _ _ _ _ (read_err _ _ _ _ c.loop-turn.invariant.led.state c.loop-turn.turn c.loop-turn.invariant.led.played _ _ c.from_residual.result c.in_err-next.field-0.0 c.from_residual.ensures.1 c.in_err-next.ensures.fault)
+    let so_far = c.loop-turn.invariant.led in
+    kept_fault _ _ _ _ _ (unread_err _ _ c.loop-turn.turn (has_left _ _ _ _ _ _ _ so_far.state c.loop-turn.turn so_far.played) _ _ c.from_residual.result c.in_err-next.field-0.0
+    c.from_residual.ensures.1 c.in_err-next.ensures.fault)
 
 pub returns-in_err-answer_line-clause-answers : goal.returns-in_err-answer_line-clause-answers
 returns-in_err-answer_line-clause-answers g c =
-    unanswered_err _ _ _ _ c.loop-turn.invariant.led.state c.loop-turn.turn c.loop-turn.invariant.led.played g.K.Keeper.fails _ _ c.from_residual-in_err-answer_line.result c.in_err-answer_line.field-0.0
-    c.from_residual-in_err-answer_line.ensures.1 c.in_err-answer_line.ensures.fault
+    unanswered _ _ _ _ c.loop-turn.invariant.led.state c.loop-turn.turn c.loop-turn.invariant.led.played g.K.Keeper.fails _ _ c.in_err-answer_line.field-0.0
+    c.in_err-answer_line.ensures.fault
 
 pub returns-in_err-answer_line-clause-fault : goal.returns-in_err-answer_line-clause-fault
 returns-in_err-answer_line-clause-fault g c =
@@ -47,7 +50,9 @@ returns-in_err-answer_line-clause-fault g c =
     c.from_residual-in_err-answer_line.ensures.1 c.in_err-answer_line.ensures.fault
 
 pub returns-clause-answers : goal.returns-clause-answers
-returns-clause-answers g c = answered_some _ _ _ _ c.loop-turn.invariant.led.state c.loop-turn.turn c.loop-turn.invariant.led.played _ Input
+returns-clause-answers g c =
+    talked_some _ _ _ _ _ _ _ c.loop-turn.invariant.led.state c.loop-turn.turn c.loop-turn.invariant.led.played _ Input
 
 pub returns-clause-fault : goal.returns-clause-fault
-returns-clause-fault g c = inl (inr (endless_lines _ _ _ _ c.loop-turn.invariant.led.state c.loop-turn.turn c.loop-turn.invariant.led.played c.loop-turn-test.false))
+returns-clause-fault g c =
+    inl (inr (endless_talk _ _ _ _ _ _ _ c.loop-turn.invariant.led.state c.loop-turn.turn c.loop-turn.invariant.led.played c.loop-turn-test.false))

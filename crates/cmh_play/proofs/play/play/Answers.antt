@@ -1,24 +1,24 @@
 use Rattle.std.proofs.lemmas.Result.{on_ok_weaker}
 use Rattle.cmh_play.proofs.KeptPlays.{kept_at_end, kept_none}
-use Rattle.cmh_play.proofs.Plays.{answered_none_err, answered_ended}
+use Rattle.cmh_play.proofs.Plays.{none_answered, some_flushed}
 use Rattle.cmh_play.proofs.play.play.Goals as goal
 
 pub returns-in_err-state-clause-answers : goal.returns-in_err-state-clause-answers
 returns-in_err-state-clause-answers g c =
-    kept_none _ _ _ _ _ c.from_residual.result _ (answered_none_err _ _ c.args.alloc _ _ c.from_residual.ensures.0) c.from_residual.ensures.0
+    kept_none _ _ _ _ _ c.from_residual.result _ (none_answered _ _ _) c.from_residual.ensures.0
 
 pub returns-in_err-played-clause-answers : goal.returns-in_err-played-clause-answers
 returns-in_err-played-clause-answers g c =
     kept_none _ _ _ _ _ c.from_residual-in_err-played.result _
-    (answered_ended _ _ _ _ _ _ _ c.flush-flushed.result c.from_residual-in_err-played.result c.answer_all-played.ensures.answers c.flush-flushed.ensures.bytes
-    c.flush-flushed.ensures.ok c.flush-flushed.ensures.err c.from_residual-in_err-played.ensures.0)
+    (some_flushed _ _ _ _ _ _ c.flush-flushed.result c.answer_all-played.ensures.answers c.flush-flushed.ensures.bytes
+    c.flush-flushed.ensures.ok c.flush-flushed.ensures.err)
     c.from_residual-in_err-played.ensures.0
 
 pub returns-in_err-flushed-clause-answers : goal.returns-in_err-flushed-clause-answers
 returns-in_err-flushed-clause-answers g c =
     kept_none _ _ _ _ _ c.from_residual-in_err-flushed.result _
-    (answered_ended _ _ _ _ _ _ _ c.flush-flushed.result c.from_residual-in_err-flushed.result c.answer_all-played.ensures.answers c.flush-flushed.ensures.bytes
-    c.flush-flushed.ensures.ok c.flush-flushed.ensures.err c.from_residual-in_err-flushed.ensures.0)
+    (some_flushed _ _ _ _ _ _ c.flush-flushed.result c.answer_all-played.ensures.answers c.flush-flushed.ensures.bytes
+    c.flush-flushed.ensures.ok c.flush-flushed.ensures.err)
     c.from_residual-in_err-flushed.ensures.0
 
 pub returns-clause-answers : goal.returns-clause-answers

@@ -1,8 +1,7 @@
 use Rattle.std.proofs.Common.{inr, refl, subst, ◌∙◌}
 use Rattle.cmh_console.specs.declared.faults.Fault.TheVariants.{Input}
-use Rattle.cmh_running.proofs.Dialogues.{begun, endless_talk, talked_more}
-use Rattle.cmh_running.specs.Dialogue.{HasAnswered, line_of}
-use Rattle.cmh_site.proofs.ClusterEndings.{replied_all, replied_err, replied_fault_err, replied_some, replied_to_end, unread_err}
+use Rattle.cmh_console.proofs.Dialogues.{begun, endless_talk, read_err, talked_all, talked_err, talked_fault_err, talked_more, talked_some, talked_to_end}
+use Rattle.cmh_console.specs.Dialogue.{HasAnswered, line_of}
 use Rattle.cmh_site.proofs.cluster.Cluster.answer_all.Goals as goal
 use Rattle.cmh_site.specs.SiteTalk.{IsTurnOfCluster}
 
@@ -19,31 +18,31 @@ loop-turn-preserved g c = (
 
 pub returns-in-Ends-clause-answers : goal.returns-in-Ends-clause-answers
 returns-in-Ends-clause-answers g c =
-    replied_to_end _ _ _ _ _ c.loop-turn.turn c.loop-turn.invariant.0 _ c.in_ok-next.next
-    _ c.in_ok-next.ensures.line (c.is_end.ensures.no c.if-is_end.false)
+    talked_to_end _ _ _ _ _ _ _ tt c.loop-turn.turn c.loop-turn.invariant.0 _ c.in_ok-next.next tt c.in_ok-flow.flow
+    _ c.in_ok-next.ensures.line (c.is_end.ensures.no c.if-is_end.false) c.in-Ends.is
     (subst (λ t. HasAnswered (λ said text. IsTurnOfCluster t.now said text) (line_of c.in_ok-next.next) c.loop-turn.out.written c.answer.new.out.written) c.loop-turn.invariant.1 c.in_ok-flow.ensures.answers)
 
 pub returns-then-is_end-clause-answers : goal.returns-then-is_end-clause-answers
 returns-then-is_end-clause-answers g c =
-    replied_all _ _ _ _ _ c.loop-turn.turn c.loop-turn.invariant.0 c.in_ok-next.next _
+    talked_all _ _ _ _ _ _ _ tt c.loop-turn.turn c.loop-turn.invariant.0 c.in_ok-next.next _
     c.in_ok-next.ensures.line (c.is_end.ensures.yes c.if-is_end.true)
 
 pub returns-in_err-next-clause-answers : goal.returns-in_err-next-clause-answers
 returns-in_err-next-clause-answers g c =
-    replied_err _ _ _ _ _ c.loop-turn.turn c.loop-turn.invariant.0 _ _ c.from_residual.ensures.0
+    talked_err _ _ _ _ _ _ _ tt c.loop-turn.turn c.loop-turn.invariant.0 _ _ c.from_residual.ensures.0
 
 pub returns-in_err-next-clause-fault : goal.returns-in_err-next-clause-fault
 returns-in_err-next-clause-fault g c =
-    unread_err _ _ _ _ _ c.loop-turn.turn c.loop-turn.invariant.0 _ _ c.from_residual.result c.in_err-next.field-0.0
+    read_err _ _ _ _ _ _ _ tt c.loop-turn.turn c.loop-turn.invariant.0 _ _ c.from_residual.result c.in_err-next.field-0.0
     c.from_residual.ensures.1 c.in_err-next.ensures.fault
 
 pub returns-in_err-flow-clause-answers : goal.returns-in_err-flow-clause-answers
 returns-in_err-flow-clause-answers g c =
-    replied_fault_err _ _ _ _ _ c.loop-turn.turn c.loop-turn.invariant.0 _ _ c.from_residual-in_err-flow.result c.in_err-flow.field-0.0
+    talked_fault_err _ _ _ _ _ _ _ tt c.loop-turn.turn c.loop-turn.invariant.0 _ _ c.from_residual-in_err-flow.result c.in_err-flow.field-0.0
     c.from_residual-in_err-flow.ensures.1 c.in_err-flow.ensures.fault
 
 pub returns-clause-answers : goal.returns-clause-answers
-returns-clause-answers g c = replied_some _ _ _ _ _ c.loop-turn.turn c.loop-turn.invariant.0 _ Input
+returns-clause-answers g c = talked_some _ _ _ _ _ _ _ tt c.loop-turn.turn c.loop-turn.invariant.0 _ Input
 
 pub returns-clause-fault : goal.returns-clause-fault
 returns-clause-fault g c =

@@ -1,5 +1,5 @@
 use Rattle.std.specs.Prelude.{◌≡◌}
-use Rattle.cmh_running.proofs.Dialogues.{HasTalked}
+use Rattle.cmh_console.proofs.Dialogues.{HasTalked}
 use Rattle.cmh_site.proofs.cluster.Cluster.answer_all.Given as goal
 use Rattle.cmh_site.specs.ClusterEndings.{IsTurn}
 

@@ -1,6 +1,6 @@
 use Rattle.std.proofs.Common.{inr, refl, rules, sym, ◌∙◌}
 use Rattle.cmh_console.specs.declared.faults.Fault.TheVariants.{Input}
-use Rattle.cmh_running.proofs.Dialogues.{talked_all, talked_fault_err, talked_more, talked_to_end}
+use Rattle.cmh_console.proofs.Dialogues.{talked_all, talked_fault_err, talked_more, talked_to_end}
 use Rattle.cmh_site.proofs.Waiting.{all_told, answered_line, endless_wait, turn_anew, unread_waiting, waited_err, waited_failed, waited_some, waits_begin, waits_on}
 use Rattle.cmh_site.proofs.site.SiteHost.answer_all.Goals as goal
 use Rattle.cmh_site.proofs.site.SiteHost.answer_all.Goals.{in-Ok+in_ok-push-in-Ok+then-len-ge-BATCH_LIMIT+in_ok-answer_waiting-in-Ok, then-len-ge-BATCH_LIMIT-via-then-len-ge-BATCH_LIMIT, then-len-ge-BATCH_LIMIT-via-else-len-ge-BATCH_LIMIT+then-not-has_line, in-Ok+in_ok-push-in-Ok+else-len-ge-BATCH_LIMIT+else-not-has_line, in-Err+in_ok-answer_waiting-in-Err+in_ok-answer-in-Err+in-Awaits}
@@ -21,7 +21,7 @@ returns-in_err-answer_waiting-clause-answers g c =
 
 pub returns-then-is_end-clause-answers : goal.returns-then-is_end-clause-answers
 returns-then-is_end-clause-answers g c =
-    talked_all _ _ _ _ _ _ _ c.loop-turn.self.has_connected c.loop-turn.turn (all_told _ _ _ _ _ _ c.loop-turn.self.has_connected c.loop-turn.events.items c.loop-turn.turn c.loop-turn.invariant.2 _ c.in_ok-answer_waiting.ensures.answered) c.in_ok-next.next _ _
+    talked_all _ _ _ _ _ _ _ c.loop-turn.self.has_connected c.loop-turn.turn (all_told _ _ _ _ _ _ c.loop-turn.self.has_connected c.loop-turn.events.items c.loop-turn.turn c.loop-turn.invariant.2 _ c.in_ok-answer_waiting.ensures.answered) c.in_ok-next.next _
     c.in_ok-next.ensures.line (c.is_end.ensures.yes c.if-is_end.true)
 
 pub returns-in_err-said-clause-answers : goal.returns-in_err-said-clause-answers
@@ -47,7 +47,7 @@ returns-in_err-answer-in-Err-clause-answers g c =
 
 pub returns-in-Ends-clause-answers : goal.returns-in-Ends-clause-answers
 returns-in-Ends-clause-answers g c =
-    talked_to_end _ _ _ _ _ _ _ c.loop-turn.self.has_connected c.loop-turn.turn (all_told _ _ _ _ _ _ c.loop-turn.self.has_connected c.loop-turn.events.items c.loop-turn.turn c.loop-turn.invariant.2 _ c.in_ok-answer_waiting-in-Err.ensures.answered) _ c.in_ok-next.next c.answer.new.self.has_connected c.in_ok-answer-in-Err.field-0 _ _
+    talked_to_end _ _ _ _ _ _ _ c.loop-turn.self.has_connected c.loop-turn.turn (all_told _ _ _ _ _ _ c.loop-turn.self.has_connected c.loop-turn.events.items c.loop-turn.turn c.loop-turn.invariant.2 _ c.in_ok-answer_waiting-in-Err.ensures.answered) _ c.in_ok-next.next c.answer.new.self.has_connected c.in_ok-answer-in-Err.field-0 _
     c.in_ok-next.ensures.line (c.is_end.ensures.no c.if-is_end.false) c.in-Ends.is
     (answered_line _ _ _ _ _ _ _ _ c.in-Err.said c.loop-turn.invariant.0 (rw (sym c.in-Err.ensures.other) at c.in_ok-said.ensures) c.in_ok-answer-in-Err.ensures.answers)
 

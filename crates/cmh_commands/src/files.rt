@@ -1,11 +1,11 @@
 //! The files that the words of a command line name.
 
 ghost use Rattle.std.specs.Prelude.{◌≡◌, ◌⊎◌, IfErr};
-ghost use Rattle.cmh.specs.CommandLine.{IsUnread};
+ghost use Rattle.cmh_commands.specs.Files.{IsUnread};
 
 use clap::ArgMatches;
+use cmh_console::Fault;
 use cmh_options::{JOURNALS, SCRIPT, TOPOLOGY};
-use cmh_site::Fault;
 use cmh_stored::stop_of;
 use std::fs;
 use std::io::ErrorKind;

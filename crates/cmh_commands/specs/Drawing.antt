@@ -5,7 +5,7 @@ use Rattle.cmh_console.specs.Device.{Writing}
 use Rattle.cmh_console.specs.Faults.{NamesFault}
 use Rattle.cmh_picture.specs.Draws.{DrawEnds}
 use Rattle.cmh_picture.specs.declared.format.Format.{Format}
-use Rattle.cmh.specs.CommandLine.{IsUnread}
+use Rattle.cmh_commands.specs.Files.{IsUnread}
 
 -- some files were drawn, or nothing is written and the fault of one that could not be read is named
 abbrev pub DrawsFiles : {W E : Type 0} → Kind → Format → Writing W → Writing W → Writing E → Writing E → ℕ → Type 0

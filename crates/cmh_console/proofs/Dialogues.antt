@@ -14,9 +14,9 @@ use Rattle.cmh_console.specs.declared.faults.Fault.{Fault}
 use Rattle.cmh_console.specs.declared.faults.Fault.TheVariants.{TopologyFile, ScriptFile, OutFile, JournalFile, Json, Topology, Journal, Set, Site, JournalDisk, Listen, Input, Output, Memory}
 use Rattle.cmh_console.proofs.LineLemmas.{HasLeft, at_some, endless_input, length-drop_through, long_some, unread_err}
 use Rattle.std.proofs.KnownBytes.{Appends-nil, Appends-trans}
-use Rattle.cmh_running.specs.Dialogue.{line_of, line_in, HasAnswered, Dialogue, begin, turn, Conversed}
-use Rattle.cmh_running.specs.declared.dialogue.Flow.{Flow}
-use Rattle.cmh_running.specs.declared.dialogue.Flow.TheVariants.{Awaits, Ends}
+use Rattle.cmh_console.specs.Dialogue.{line_of, line_in, HasAnswered, Dialogue, begin, turn, Conversed}
+use Rattle.cmh_console.specs.declared.dialogue.Flow.{Flow}
+use Rattle.cmh_console.specs.declared.dialogue.Flow.TheVariants.{Awaits, Ends}
 
 -- what was read is the first line, and there is one
 pub first_is : (bytes : List ℕ) (next : NextLine) → IsNextLine bytes next → next ≢ End → (0 < length bytes) × (line_of next ≡ line_in bytes)
@@ -33,7 +33,7 @@ pub record TalkedSoFar (S : Type 0) (answers : S → S → Option (List ℕ) →
   pub rest : List ℕ
   pub text : List ℕ
   pub now_is : now ≡ Some rest
-  pub dialogue : Dialogue S answers first bytes rest text last
+  pub dialogue : Dialogue S answers first bytes rest text last Awaits
   pub wrote : Appends old out text
   pub counted : n + length rest ≤ length bytes
 
@@ -67,45 +67,39 @@ module _ (S : Type 0) (answers : S → S → Option (List ℕ) → List ℕ → 
           rest = drop_through 10 s.rest;
           text = s.text ++ said.text;
           now_is = at_some now (λ bytes. after ≡ Some (drop_through 10 bytes)) s.rest s.now_is left;
-          dialogue = turn s.rest s.text said.text last later s.dialogue one.0 (subst (λ (l : Option (List ℕ)). answers last later l said.text Awaits) one.1 answered);
+          dialogue = turn s.rest s.text said.text last later Awaits s.dialogue one.0 (subst (λ (l : Option (List ℕ)). answers last later l said.text Awaits) one.1 answered);
           wrote = Appends-trans old out wrote s.text said.text s.wrote said.wrote;
           counted = omega (arith, shorter, counted);
         }
 
     -- no line is left
-    pub talked_all : (next : NextLine) (has_failed : Bool) (done : Unit {0}) → IfSome now (λ bytes. IsNextLine bytes next) → next ≡ End
-        → IfSome start (λ bytes. Conversed answers first bytes old out has_failed (Ok done))
-    talked_all next has_failed done is ends = if_some start _ (λ bytes e.
+    pub talked_all : (next : NextLine) (has_failed : Bool) → IfSome now (λ bytes. IsNextLine bytes next) → next ≡ End
+        → IfSome start (λ bytes. Conversed answers first bytes old out has_failed (Ok Awaits))
+    talked_all next has_failed is ends = if_some start _ (λ bytes e.
         let s = so_far bytes e in
         let none : s.rest ≡ [] = subst (IsNextLine s.rest) ends (at_some now (λ bytes. IsNextLine bytes next) s.rest s.now_is is) in
         record {
           text = s.text;
-          is = inl (record { last = last; dialogue = subst (λ (r : List ℕ). Dialogue S answers first bytes r s.text last) none s.dialogue });
+          is = (last, subst (λ (r : List ℕ). Dialogue S answers first bytes r s.text last Awaits) none s.dialogue);
           wrote = s.wrote;
         })
 
     -- a line ends it
-    pub talked_to_end : (wrote : Option (List ℕ)) (next : NextLine) (later : S) (flow : Flow) (has_failed : Bool) (done : Unit {0})
+    pub talked_to_end : (wrote : Option (List ℕ)) (next : NextLine) (later : S) (flow : Flow) (has_failed : Bool)
         → IfSome now (λ bytes. IsNextLine bytes next) → next ≢ End → flow ≡ Ends
         → HasAnswered (λ said text. answers last later said text flow) (line_of next) out wrote
-        → IfSome start (λ bytes. Conversed answers first bytes old wrote has_failed (Ok done))
-    talked_to_end wrote next later flow has_failed done is more over said = if_some start _ (λ bytes e.
+        → IfSome start (λ bytes. Conversed answers first bytes old wrote has_failed (Ok Ends))
+    talked_to_end wrote next later flow has_failed is more over said = if_some start _ (λ bytes e.
         let s = so_far bytes e in
         let answered = subst (λ (f : Flow). answers last later (line_of next) said.text f) over said.answered in
         let one = first_is s.rest next (at_some now (λ bytes. IsNextLine bytes next) s.rest s.now_is is) more in
         record {
           text = s.text ++ said.text;
-          is = inr (record {
-            rest = s.rest;
-            before = s.text;
-            said = said.text;
-            old = last;
-            new = later;
-            dialogue = s.dialogue;
-            more = one.0;
-            ends = subst (λ (l : Option (List ℕ)). answers last later l said.text Ends) one.1 answered;
-            text_is = refl;
-          });
+          is = (
+            drop_through 10 s.rest,
+            later,
+            turn s.rest s.text said.text last later Ends s.dialogue one.0 (subst (λ (l : Option (List ℕ)). answers last later l said.text Ends) one.1 answered),
+          );
           wrote = Appends-trans old out wrote s.text said.text s.wrote said.wrote;
         })
 
@@ -113,9 +107,9 @@ module _ (S : Type 0) (answers : S → S → Option (List ℕ) → List ℕ → 
     pub talked_some : (has_failed : Bool) (fault : Fault) → IfSome start (λ bytes. Conversed answers first bytes old out has_failed (Err fault))
     talked_some has_failed fault = if_some start _ (λ bytes e.
         let s = so_far bytes e in
-        record { text = s.text; is = record { rest = s.rest; last = last; dialogue = s.dialogue }; wrote = inr s.wrote })
+        record { text = s.text; is = (s.rest, last, s.dialogue); wrote = inr s.wrote })
 
-    pub talked_err : (has_failed : Bool) (r : Result (Unit {0}) Fault) → IsErr r → IfSome start (λ bytes. Conversed answers first bytes old out has_failed r)
+    pub talked_err : (has_failed : Bool) (r : Result Flow Fault) → IsErr r → IfSome start (λ bytes. Conversed answers first bytes old out has_failed r)
     talked_err has_failed (Ok x) err = absurd (true≢false (sym err))
     talked_err has_failed (Err fault) err = talked_some has_failed fault
 
@@ -123,38 +117,39 @@ module _ (S : Type 0) (answers : S → S → Option (List ℕ) → List ℕ → 
         → IfSome start (λ bytes. Conversed answers first bytes old after has_failed (Err fault))
     talked_failed after has_failed fault failed = if_some start _ (λ bytes e.
         let s = so_far bytes e in
-        record { text = s.text; is = record { rest = s.rest; last = last; dialogue = s.dialogue }; wrote = inl failed })
+        record { text = s.text; is = (s.rest, last, s.dialogue); wrote = inl failed })
 
-    -- a line is not answered
-    talked_fault : (after : Option (List ℕ)) (has_failed : Bool) (fault : Fault) → IsAnswerFault out after has_failed fault
-        → IfSome start (λ bytes. Conversed answers first bytes old after has_failed (Err fault))
-    talked_fault after has_failed Output failed = talked_failed after has_failed Output failed
-    talked_fault after has_failed Memory same =
-        subst (λ (o : Option (List ℕ)). IfSome start (λ bytes. Conversed answers first bytes old o has_failed (Err Memory))) (sym same) (talked_some has_failed Memory)
-    talked_fault after has_failed TopologyFile none = absurd none
-    talked_fault after has_failed ScriptFile none = absurd none
-    talked_fault after has_failed OutFile none = absurd none
-    talked_fault after has_failed (JournalFile place) none = absurd none
-    talked_fault after has_failed Json none = absurd none
-    talked_fault after has_failed (Topology fault) none = absurd none
-    talked_fault after has_failed (Journal place fault) none = absurd none
-    talked_fault after has_failed (Set fault) none = absurd none
-    talked_fault after has_failed Site none = absurd none
-    talked_fault after has_failed JournalDisk none = absurd none
-    talked_fault after has_failed Listen none = absurd none
-    talked_fault after has_failed Input none = absurd none
+    -- a line is not answered, and this fault is named
+    pub talked_fault : (after : Option (List ℕ)) (has_failed : Bool) (named fault : Fault) → IsAnswerFault out after has_failed fault
+        → IfSome start (λ bytes. Conversed answers first bytes old after has_failed (Err named))
+    talked_fault after has_failed named Output failed = talked_failed after has_failed named failed
+    talked_fault after has_failed named Memory same =
+        subst (λ (o : Option (List ℕ)). IfSome start (λ bytes. Conversed answers first bytes old o has_failed (Err named))) (sym same) (talked_some has_failed named)
+    talked_fault after has_failed named TopologyFile none = absurd none
+    talked_fault after has_failed named ScriptFile none = absurd none
+    talked_fault after has_failed named OutFile none = absurd none
+    talked_fault after has_failed named (JournalFile place) none = absurd none
+    talked_fault after has_failed named Json none = absurd none
+    talked_fault after has_failed named (Topology fault) none = absurd none
+    talked_fault after has_failed named (Journal place fault) none = absurd none
+    talked_fault after has_failed named (Set fault) none = absurd none
+    talked_fault after has_failed named Site none = absurd none
+    talked_fault after has_failed named JournalDisk none = absurd none
+    talked_fault after has_failed named Listen none = absurd none
+    talked_fault after has_failed named Input none = absurd none
 
-    pub talked_fault_err : (after : Option (List ℕ)) (has_failed : Bool) (r : Result (Unit {0}) Fault) (lower : Fault) → IsErrAnd r (λ fault. fault ≡ lower)
+    pub talked_fault_err : (after : Option (List ℕ)) (has_failed : Bool) (r : Result Flow Fault) (lower : Fault) → IsErrAnd r (λ fault. fault ≡ lower)
         → IsAnswerFault out after has_failed lower → IfSome start (λ bytes. Conversed answers first bytes old after has_failed r)
     talked_fault_err after has_failed (Ok x) lower is h = absurd is
-    talked_fault_err after has_failed (Err fault) lower is h = talked_fault after has_failed fault (subst (IsAnswerFault out after has_failed) (sym is) h)
+    talked_fault_err after has_failed (Err fault) lower is h = talked_fault after has_failed fault lower h
 
-    has_left : (bytes : List ℕ) → start ≡ Some bytes → HasLeft bytes now n
+    -- what is left of the input
+    pub has_left : (bytes : List ℕ) → start ≡ Some bytes → HasLeft bytes now n
     has_left bytes e = let s = so_far bytes e in record { left = s.rest; now_is = s.now_is; counted = s.counted }
 
     pub endless_talk : 2 ^ 64 - 1 ≤ n → IsEndless start
     endless_talk = endless_input start now n has_left
 
-    pub read_err : (read_failed write_failed : Bool) (r : Result (Unit {0}) Fault) (lower : LineFault) → IsErrAnd r (λ fault. fault ≡ of_line lower) → IsLineFault now read_failed lower
+    pub read_err : (read_failed write_failed : Bool) (r : Result Flow Fault) (lower : LineFault) → IsErrAnd r (λ fault. fault ≡ of_line lower) → IsLineFault now read_failed lower
         → IfErr r (IsPlayFault start read_failed write_failed)
-    read_err = unread_err start now n has_left
+    read_err read_failed write_failed r lower is h = unread_err start now n has_left read_failed write_failed r lower is h

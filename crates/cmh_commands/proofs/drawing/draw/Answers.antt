@@ -1,8 +1,8 @@
 use Rattle.std.proofs.Common.{inl, subst}
-use Rattle.cmh.specs.Drawing.{DrawsFiles}
+use Rattle.cmh_commands.specs.Drawing.{DrawsFiles}
 use Rattle.cmh_draw.specs.declared.picture.Kind.{Kind as AKind}
 use Rattle.cmh_picture.specs.declared.format.Format.{Format as AFormat}
-use Rattle.cmh.proofs.drawing.draw.Goals as goal
+use Rattle.cmh_commands.proofs.drawing.draw.Goals as goal
 
 pub returns-in-Ok-clause-draws : goal.returns-in-Ok-clause-draws
 returns-in-Ok-clause-draws g c = λ kind format told how.

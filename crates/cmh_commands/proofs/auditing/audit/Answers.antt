@@ -1,5 +1,5 @@
 use Rattle.std.proofs.Common.{inl, inr}
-use Rattle.cmh.proofs.audit_files.Goals as goal
+use Rattle.cmh_commands.proofs.auditing.audit.Goals as goal
 
 pub returns-then-get_flag-clause-explains : goal.returns-then-get_flag-clause-explains
 returns-then-get_flag-clause-explains g c = λ named. inl (_, _, c.run_audit_why.ensures.ends)

@@ -2,7 +2,7 @@
 
 ghost use Rattle.std.specs.Prelude.{◌≡◌, Some, codes};
 ghost use Rattle.clap.specs.Matches.{found_of, one_text};
-ghost use Rattle.cmh.specs.Drawing.{DrawsFiles, DrawsSome};
+ghost use Rattle.cmh_commands.specs.Drawing.{DrawsFiles, DrawsSome};
 ghost use Rattle.cmh_draw.specs.Kinds.{kind_word};
 ghost use Rattle.cmh_draw.specs.declared.picture.Kind as kinds;
 ghost use Rattle.cmh_console.specs.Status.{IsStatus};
@@ -11,9 +11,9 @@ ghost use Rattle.cmh_picture.specs.declared.format.Format as formats;
 
 use crate::files::files_of;
 use clap::ArgMatches;
+use cmh_console::Output;
 use cmh_options::{FORMAT, KIND};
 use cmh_picture::{Format, Kind, run_draw};
-use cmh_site::Output;
 use std::io::Write;
 use std::rt::Files;
 

@@ -1,0 +1,52 @@
+-- Lines of an input that are answered one after the other, each by what it does to a state.
+use Rattle.std.specs.Prelude.{◌≡◌, ℕ, ◌<◌, nat_lt, Bool, List, [], ◌++◌, length, Option, None, Some, Result, Ok, Err, if◌then◌else◌}
+use Rattle.std.specs.Io.BufRead.{first_line, drop_through}
+use Rattle.std.specs.Io.KnownBytes.{Appends}
+use Rattle.cmh_console.specs.Device.{Tells}
+use Rattle.cmh_console.specs.declared.lines.NextLine.{NextLine}
+use Rattle.cmh_console.specs.declared.lines.NextLine.TheVariants.{Line as Read, TooLong, End}
+use Rattle.cmh_console.specs.declared.faults.Fault.{Fault}
+use Rattle.cmh_console.specs.declared.dialogue.Flow.{Flow}
+use Rattle.cmh_console.specs.declared.dialogue.Flow.TheVariants.{Awaits, Ends}
+
+-- what was read, unless it was too long
+abbrev pub line_of : NextLine → Option (List ℕ)
+line_of (Read line) = Some line.now
+line_of TooLong = None
+line_of End = None
+
+-- the first line of the bytes, unless it has more than 1,024 of them
+abbrev pub line_in : List ℕ → Option (List ℕ)
+line_in bytes = if nat_lt 1024 (length (first_line bytes)) then None else Some (first_line bytes)
+
+-- a text was written that answers what was said
+pub record HasAnswered (answers : Option (List ℕ) → List ℕ → Type 0) (said : Option (List ℕ)) (out_old out_new : Option (List ℕ)) : Type 0 where
+  pub text : List ℕ
+  pub answered : answers said text
+  pub wrote : Appends out_old out_new text
+
+-- Of the bytes the lines before the rest were answered in their order by the text, and led from the first state to the
+-- last. After them the next line is awaited, or none.
+pub data Dialogue (S : Type 0) (answers : S → S → Option (List ℕ) → List ℕ → Flow → Type 0) (first : S) (bytes : List ℕ) : List ℕ → List ℕ → S → Flow → Type 0 where
+  begin : Dialogue S answers first bytes bytes [] first Awaits
+  turn : (rest text said : List ℕ) (old new : S) (flow : Flow) → Dialogue S answers first bytes rest text old Awaits → 0 < length rest
+      → answers old new (line_in rest) said flow → Dialogue S answers first bytes (drop_through 10 rest) (text ++ said) new flow
+
+-- The text answers the lines of the bytes: all of them where the next is awaited, else those up to one after which none is;
+-- at a fault some of them.
+abbrev pub IsTextOf : (S : Type 0) → (S → S → Option (List ℕ) → List ℕ → Flow → Type 0) → S → List ℕ → List ℕ → Result Flow Fault → Type 0
+IsTextOf S answers first bytes text (Ok Awaits) = (last : S) × Dialogue S answers first bytes [] text last Awaits
+IsTextOf S answers first bytes text (Ok Ends) = (rest : List ℕ) × (last : S) × Dialogue S answers first bytes rest text last Ends
+IsTextOf S answers first bytes text (Err fault) = (rest : List ℕ) × (last : S) × Dialogue S answers first bytes rest text last Awaits
+
+-- the text was written; at a fault, unless the writer failed
+abbrev pub WroteBefore : Result Flow Fault → Option (List ℕ) → Option (List ℕ) → Bool → List ℕ → Type 0
+WroteBefore (Ok flow) old new has_failed text = Appends old new text
+WroteBefore (Err fault) old new has_failed text = Tells old new has_failed text
+
+-- lines of the bytes were answered, up to a fault if there is one
+pub record Conversed {S : Type 0} (answers : S → S → Option (List ℕ) → List ℕ → Flow → Type 0) (first : S) (bytes : List ℕ) (out_old out_new : Option (List ℕ))
+    (has_failed : Bool) (result : Result Flow Fault) : Type 0 where
+  pub text : List ℕ
+  pub is : IsTextOf S answers first bytes text result
+  pub wrote : WroteBefore result out_old out_new has_failed text
