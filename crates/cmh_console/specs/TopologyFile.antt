@@ -1,5 +1,5 @@
 -- What the bytes of a topology file say.
-use Rattle.std.specs.Prelude.{◌≡◌, ℕ, ◌==◌, nat_lt, Bool, true, false, ◌||◌, if◌then◌else◌, List, [], ◌∷◌, Option, None, Some, option_and_then, codes, IsUtf8, ⊤, ◌⊎◌}
+use Rattle.std.specs.Prelude.{◌≡◌, ℕ, ◌==◌, nat_lt, Bool, true, false, ◌||◌, if◌then◌else◌, List, [], ◌∷◌, Option, None, Some, option_and_then, codes, IsUtf8, MatchOption, ⊤, ◌⊎◌}
 use Rattle.std.specs.List.{list_any}
 use Rattle.std.specs.Option.{option_map, option_zip}
 use Rattle.serde_json.specs.Data.{Num, unsigned, negative, float, Data, Items, no_items, item}
@@ -7,7 +7,8 @@ use Rattle.serde_json.specs.Find.{get, as_array, as_number, as_u64}
 use Rattle.serde_json.specs.Read.{read}
 use Rattle.cmh_frames.specs.declared.edition.Edition.{Edition}
 use Rattle.cmh_frames.specs.declared.edition.Edition.TheVariants.{One, Two}
-use Rattle.cmh_frames.specs.Rows.{Row}
+use Rattle.cmh_frames.specs.Rows.{Row, IsFaultOf as IsFaultOfRows}
+use Rattle.cmh_frames.specs.declared.rows.TopologyFault.{TopologyFault}
 use Rattle.cmh_frames.specs.Topology.{Topology, IsTopologyOf}
 use Rattle.cmh_console.specs.declared.topology_file.TopologyFileFault.{TopologyFileFault}
 use Rattle.cmh_console.specs.declared.topology_file.TopologyFileFault.TheVariants.{Json, Memory}
@@ -82,6 +83,13 @@ pub record SaysTopology (file : List ℕ) (t : Topology) : Type 0 where
 abbrev pub OfTopology : List ℕ → (Topology → Type 0) → Type 0
 OfTopology file Holds = (t : Topology) × SaysTopology file t × Holds t
 
+-- the file says rows that are those of no topology
+pub record IsOfNoTopology (file : List ℕ) (fault : TopologyFault) : Type 0 where
+  pub edition : Edition
+  pub rows : List Row
+  pub says : Says file edition rows
+  pub fault_is : IsFaultOfRows edition rows fault
+
 -- a number stands twice
 abbrev pub has_repeats : List ℕ → Bool
 has_repeats [] = false
@@ -111,13 +119,9 @@ abbrev pub IsFaultOfFile : List ℕ → TopologyFileFault → Type 0
 IsFaultOfFile bytes Json = (value : Data) → IsJsonOf bytes value → topology_in value ≡ None
 IsFaultOfFile bytes Memory = ⊤
 
--- the sites have no ports, or two of them one
-abbrev pub LackPorts : Option (List ℕ) → Type 0
-LackPorts None = ⊤
-LackPorts (Some ports) = has_repeats ports ≡ true
-
--- they are not the JSON of a topology with ports
+-- they are not the JSON of a topology, or the sites have no ports, or two of them one
 abbrev pub IsFaultOfFileWithPorts : List ℕ → TopologyFileFault → Type 0
 IsFaultOfFileWithPorts bytes Json =
-    (value : Data) → IsJsonOf bytes value → (topology_in value ≡ None) ⊎ LackPorts (ports_in value)
+    (value : Data) → IsJsonOf bytes value
+    → (topology_in value ≡ None) ⊎ MatchOption (ports_in value) ⊤ (λ ports. has_repeats ports ≡ true)
 IsFaultOfFileWithPorts bytes Memory = ⊤

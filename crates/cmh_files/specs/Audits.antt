@@ -2,9 +2,6 @@
 use Rattle.std.specs.Prelude.{◌≡◌, ℕ, ◌+◌, Bool, true, ◌⊎◌, List, [], ◌∷◌, ◌++◌, length, ⊤, Option, Some}
 use Rattle.std.specs.List.Sorted.{IsPermutation, IsSorted}
 use Rattle.std.specs.Io.KnownBytes.{Appends}
-use Rattle.cmh_frames.specs.declared.edition.Edition.{Edition}
-use Rattle.cmh_frames.specs.Rows.{Row, IsFaultOf}
-use Rattle.cmh_frames.specs.declared.rows.TopologyFault.{TopologyFault}
 use Rattle.cmh_frames.specs.Topology.{Topology}
 use Rattle.cmh_model.specs.Relation.{pair_cmp}
 use Rattle.cmh_journal.specs.declared.journal.JournalFault.{JournalFault}
@@ -21,7 +18,7 @@ use Rattle.cmh_console.specs.Device.{Writing}
 use Rattle.cmh_show.specs.AuditTexts.{cuts_text, verdict_text}
 use Rattle.cmh_console.specs.Faults.{NamesFault}
 use Rattle.cmh_files.specs.Headline.{Headline}
-use Rattle.cmh_console.specs.TopologyFile.{Says, SaysTopology, OfTopology, IsFaultOfFile}
+use Rattle.cmh_console.specs.TopologyFile.{SaysTopology, OfTopology, IsFaultOfFile, IsOfNoTopology}
 use Rattle.cmh_console.specs.declared.faults.Fault as faults
 use Rattle.cmh_console.specs.declared.faults.Fault.TheVariants.{Json, Topology as NoTopology, Journal as NoJournal, Set as NoSet, Output, Memory}
 use Rattle.cmh_console.specs.declared.topology_file.TopologyFileFault.TheVariants.{Json as NoJson}
@@ -100,13 +97,6 @@ abbrev pub IsFaultOfFiles : List (List ℕ) → faults.Fault → Type 0
 IsFaultOfFiles files (NoJournal place fault) = IsFirstFaulty files place fault
 IsFaultOfFiles files Memory = ⊤
 IsFaultOfFiles files fault = ⊥
-
--- the topology file is that of no topology
-pub record IsOfNoTopology (topology : List ℕ) (fault : TopologyFault) : Type 0 where
-  pub edition : Edition
-  pub rows : List Row
-  pub says : Says topology edition rows
-  pub fault_is : IsFaultOf edition rows fault
 
 -- the first fault of an audit's files
 abbrev pub IsAuditFault : List ℕ → List (List ℕ) → faults.Fault → Type 0

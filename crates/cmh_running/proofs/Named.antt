@@ -9,7 +9,7 @@ second [] = []
 second (a ∷ []) = []
 second (a ∷ b ∷ words) = b
 
--- the word behind the name spells a number, or it doesn't
+-- the word after the name spells a number, or it doesn't
 pub named : (words : List (List ℕ)) (word : List ℕ) (r : Option ℕ) → words ≡ codes "declared" ∷ word ∷ []
     → SomeIff r (IsNumeral word) (decimal word) → MatchOption r (NamesNoSite words) (NamesSite words)
 named words word None is not = λ site n. not (subst IsNumeral (ap second (sym n.words_are ∙ is)) n.spells)

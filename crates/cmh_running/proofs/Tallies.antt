@@ -54,7 +54,7 @@ frame_elsewhere to xs x count so_far is =
     let all : length (frames_to to (xs ++ x ∷ [])) ≡ length (frames_to to xs) + 0 = frames_more to xs x ∙ ap (λ c. length (frames_to to xs) + one_if c) is in
     omega (arith, so_far, all)
 
--- behind a beginning stands the rest
+-- after a beginning stands the rest
 drop_beginning : (before rest : List Entry) → drop (length before) (before ++ rest) ≡ rest
 drop_beginning [] rest = refl
 drop_beginning (x ∷ xs) rest = drop_beginning xs rest

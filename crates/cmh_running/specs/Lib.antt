@@ -1,4 +1,5 @@
 pub mod Ports
+pub mod Setting
 pub mod Settling
 pub mod Shelves
 pub mod SiteScript

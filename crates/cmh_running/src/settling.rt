@@ -79,7 +79,7 @@ impl Sendings {
     }
 }
 
-/// The entries behind the first so many.
+/// The entries after the first so many.
 fn behind(entries: &[Entry], first: usize) -> &[Entry]
     ensures { result.now ≡ drop first entries.now }
 {

@@ -14,7 +14,7 @@ use Rattle.cmh_service.specs.Clients.{IsNext}
 use Rattle.cmh_service.specs.Said.{WasSaid}
 use Rattle.cmh_service.specs.declared.said.Said.{Said}
 
--- what is behind the first line feed
+-- what is after the first line feed
 behind_feed : (bytes : List ℕ) (end : ℕ) → end < length bytes → (slice_index bytes end == 10) ≡ true
     → Nowhere (Passes (is_byte 10) bytes) 0 end → drop (suc end) bytes ≡ drop_through 10 bytes
 behind_feed [] end within is before = absurd (omega arith)

@@ -9,7 +9,7 @@ abbrev rest : List (List ℕ) → List (List ℕ)
 rest [] = []
 rest (a ∷ words) = words
 
--- no number is behind the first word
+-- no number is after the first word
 pub no_number : (name word : List ℕ) (behind words : List (List ℕ)) (process : ℕ) → words ≡ word ∷ behind → BeginsNone behind
     → NamesProcess name words process → ⊥
 no_number name word behind words process is none names =

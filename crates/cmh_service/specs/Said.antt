@@ -10,7 +10,7 @@ use Rattle.cmh_running.specs.declared.site_script.SiteLine.TheVariants.{Order as
 use Rattle.cmh_service.specs.declared.said.Said.{Said}
 use Rattle.cmh_service.specs.declared.said.Said.TheVariants.{Event, Declared, Links, Waits, Owed, Watch, Status, Quit}
 
--- this word, and behind it the number of this process
+-- this word, and after it the number of this process
 pub record NamesProcess (name : List ℕ) (words : List (List ℕ)) (process : ℕ) : Type 0 where
   pub behind : List (List ℕ)
   pub words_are : words ≡ name ∷ behind

@@ -76,7 +76,7 @@ impl Client {
         Ok(())
     }
 
-    /// Whether it said a line that was not taken yet. What stands behind the last line feed is none: it may be a part of
+    /// Whether it said a line that was not taken yet. What stands after the last line feed is none: it may be a part of
     /// one.
     pub fn has_line(&self) -> bool {
         !self.is_leaving && memchr(b'\n', self.heard()).is_some()

@@ -87,7 +87,7 @@ fn is_word(line: &[u8], word: &[u8]) -> bool
     }
 }
 
-/// The process that a line names behind this word.
+/// The process that a line names after this word.
 fn process_behind(line: &[u8], name: &[u8]) -> Option<ProcId>
     ensures { MatchOption result ((process : ℕ) → NamesProcess name.now (words_of line.now) process → ⊥)
         (NamesProcess name.now (words_of line.now)) }

@@ -8,11 +8,10 @@ use crate::host::Host;
 use crate::mailbox::Mailbox;
 use crate::rounds::Rounds;
 use crate::server::{MAIL, PAUSE_MILLISECONDS, Server};
-use cmh_console::{Fault, Output, read_topology_file_with_ports};
-use cmh_frames::Topology;
+use cmh_console::{Fault, Output};
 use cmh_host::{Running, RunningSite, SiteSetup, SiteStart, System, start_site};
 use cmh_notes::{Noting, Voice};
-use cmh_running::Ports;
+use cmh_running::{Setting, read_setting};
 use cmh_station::BATCH_LIMIT;
 use crossbeam_utils::sync::Parker;
 use mio::net::TcpListener as Listener;
@@ -81,7 +80,10 @@ fn serve_into<R, W: Write>(
 where
     R: System + Files<File = File> + Send + 'static,
 {
-    let Setting { world, ports } = read_setting(alloc, start)?;
+    let Setting { world, ports } = read_setting(alloc, start.topology)?;
+    if !world.has_site(start.site) {
+        return Err(Fault::Site);
+    }
     let doors = Doors::open(&rt, port)?;
     let setup = SiteSetup {
         topology: &world,
@@ -106,23 +108,6 @@ where
         return ended(threads, fault);
     }
     serve_beside(rt, alloc, host, doors, threads)
-}
-
-/// The sites of the topology file, and their ports.
-#[derive(Drop)]
-struct Setting {
-    world: Topology,
-    ports: Ports,
-}
-
-fn read_setting(alloc: Global, start: &SiteStart<'_>) -> Result<Setting, Fault> {
-    let (file, ports) = read_topology_file_with_ports(alloc, start.topology)?;
-    let world = Topology::new(alloc, file.edition, &file.rows)?;
-    if !world.has_site(start.site) {
-        return Err(Fault::Site);
-    }
-    let ports = Ports::new(alloc, &file.rows, &ports)?;
-    Ok(Setting { world, ports })
 }
 
 fn say_listening<W: Write>(out: &mut Output<W>) -> Result<(), Fault> {

@@ -1,3 +1,0 @@
-pub mod ClusterEndings
-pub mod Endings
-mod Waiting

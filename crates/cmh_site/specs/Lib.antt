@@ -1,4 +1,0 @@
-pub mod ClusterEndings
-pub mod Endings
-pub mod SiteTalk
-pub mod Together

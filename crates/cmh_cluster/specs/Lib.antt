@@ -1,0 +1,2 @@
+pub mod ClusterEndings
+pub mod ClusterTalk
