@@ -16,17 +16,19 @@ ghost use Rattle.cmh_picture.specs.declared.format.Format as formats;
 ghost use Rattle.cmh_console.specs.Status.{IsStatus};
 
 use clap::{ArgMatches, Error, error};
+use cmh_cluster::run_cluster_noting;
 use cmh_commands::{audit, cluster_files_of, draw, play_into, read_file, show};
+use cmh_console::{Ahead, Fault, Input, Output};
 use cmh_frames::SiteId;
+use cmh_host::{SiteStart, System};
+use cmh_notes::{Noted, Voice};
 use cmh_options::{
     AUDIT, CLUSTER, DRAW, Help, JOURNAL, JOURNALS, NOTES, OUT, PATIENCE, PLAY, PORT, QUIET, SERVE,
     SHOW, SITE, TOPOLOGY, command,
 };
+use cmh_play::run_play;
 use cmh_service::run_service;
-use cmh_site::{
-    Ahead, Fault, Input, Noted, Output, SiteStart, System, Voice, run_cluster_noting, run_play,
-    run_site_noting,
-};
+use cmh_single::run_site_noting;
 use std::fs::File;
 use std::io::{BufRead, BufReader, BufWriter, ErrorKind, Write};
 use std::net::{Net, TcpListener, TcpStream};
