@@ -70,22 +70,36 @@ where
         + 'static,
     ensures { IsEnd result }
 {
-    let alloc = rt.alloc();
-    let words = match words(rt) {
-        Ok(words) => words,
-        Err(error) if error.kind() == ErrorKind::OutOfMemory => return Fault::Memory.name_on(err),
+    match words(rt) {
+        Ok(words) => run_words(rt, words.as_slice(), input, out, err),
+        Err(error) if error.kind() == ErrorKind::OutOfMemory => Fault::Memory.name_on(err),
         Err(_) => {
             let _ = eprintln!(rt; "error: a word of the command line is not UTF-8");
-            return 2;
+            2
         }
-    };
+    }
+}
+
+/// Runs the command that the words of a command line name; answers the status.
+fn run_words<R, I: BufRead + Ahead, W: Write, E: Write>(
+    rt: &R,
+    words: &[String],
+    input: &mut Input<I>,
+    out: &mut Output<W>,
+    err: &mut Output<E>,
+) -> u8
+where
+    R: System + AllocGlobal + Env + Print + Eprint + Files<File = File> + Send + 'static,
+    ensures { IsEnd result }
+{
+    let alloc = rt.alloc();
     let Ok(help) = Help::new(alloc) else {
         return Fault::Memory.name_on(err);
     };
     let Ok(command) = command(alloc, &help) else {
         return Fault::Memory.name_on(err);
     };
-    match command.try_get_matches_from(words.as_slice()) {
+    match command.try_get_matches_from(words) {
         Ok(matches) => carry_out(rt, &matches, input, out, err),
         Err(error) if error.kind() == error::ErrorKind::OutOfMemory => Fault::Memory.name_on(err),
         Err(error) => print_words(rt, &error, err),

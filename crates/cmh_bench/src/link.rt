@@ -14,7 +14,7 @@ use cmh_station::{KeptBoard, SharedStation, Station, StationRefusal};
 use std::alloc::Global;
 use std::net::{Net, TcpListener, TcpStream};
 use std::sync::{Arc, Wait};
-use std::thread::Threads;
+use std::thread::{JoinHandle, Threads};
 use std::time::{Clock, Instant};
 use std::{io, thread};
 
@@ -86,6 +86,63 @@ fn send_all<R: Wait + Drop>(rt: &R, station: &Sending<R>, of: ProcId, ask: &Even
     }
 }
 
+/// Counts the frames of the connection that comes next, until it ends.
+fn count_frames<R>(
+    rt: &R,
+    alloc: Global,
+    listen: &mut TcpListen<R>,
+    senders: Vec<SiteId>,
+    links: &SharedLinks,
+) -> u64
+where
+    R: Net<Listener = TcpListener, Stream = TcpStream> + Wait + Clock + Copy + Drop,
+    requires { listen.old.faults ≡ 0 }
+{
+    let mut reader = FrameReader::new(alloc, Edition::Two, senders);
+    let mut counting = Counting { frames: 0 };
+    if let Ok(mut incoming) = listen.accept() {
+        let _ = run_reader(rt, &mut incoming, &mut reader, links, &mut counting);
+    }
+    counting.frames
+}
+
+/// Starts the thread that receives at the other site: the port at which it listens, and what counts there.
+fn start_receiving<R>(rt: R, alloc: Global, world: &World) -> io::Result<(u16, JoinHandle<u64>)>
+where
+    R: Wait + Threads + Clock + Copy + Send + Drop + 'static,
+    R: Net<Listener = TcpListener, Stream = TcpStream>,
+{
+    let mut listen = TcpListen::bind(&rt, alloc, 0).map_err(refused)?;
+    let port = listen.port().map_err(refused)?;
+    let links = SharedLinks::new(LinkTable::new(alloc, &world.topology, world.there)?);
+    let senders = vec![in alloc; world.here]?;
+    let counting = thread::spawn(
+        &rt,
+        move || -> u64
+            requires { listen.faults ≡ 0 }
+        { count_frames(&rt, alloc, &mut listen, senders, &links) },
+    )?;
+    Ok((port, counting))
+}
+
+/// Connects the sending site to the port and sends so many frames; whether it connected.
+fn send<R>(rt: R, alloc: Global, world: &World, port: u16, frames: u64) -> io::Result<bool>
+where
+    R: Wait + Threads + Clock + Copy + Send + Drop + 'static,
+    R: Net<Listener = TcpListener, Stream = TcpStream>,
+{
+    let asker = world.asker;
+    let targets = Targets::new(world.topology.members(world.there).to_vec(alloc)?);
+    let own = TcpListen::bind(&rt, alloc, 0).map_err(refused)?;
+    let (mut threads, station) = start_sending(rt, alloc, world, own, port)?;
+    let connected = threads.connect() == (1, 0);
+    if connected {
+        send_all(&rt, &station, asker, &Event::Ask { asker, targets }, frames);
+    }
+    let _ = threads.stop();
+    Ok(connected)
+}
+
 /// Sends so many frames at least over a socket. Tells how many came, and how many that is a second.
 pub fn carry<R>(rt: R, alloc: Global, frames: u64) -> io::Result<String>
 where
@@ -94,35 +151,10 @@ where
 {
     // One start sends 32 probes.
     let world = World::new(alloc, 1, 1, 32)?;
-    let asker = world.asker;
-    let targets = Targets::new(world.topology.members(world.there).to_vec(alloc)?);
-    let own = TcpListen::bind(&rt, alloc, 0).map_err(refused)?;
-    let there = TcpListen::bind(&rt, alloc, 0).map_err(refused)?;
-    let port = there.port().map_err(refused)?;
-    let links = SharedLinks::new(LinkTable::new(alloc, &world.topology, world.there)?);
-    let senders = vec![in alloc; world.here]?;
     let began = Instant::now(&rt)?;
-    let reading = thread::spawn(
-        &rt,
-        move || -> u64
-            requires { there.faults ≡ 0 }
-        {
-            let mut listen = there;
-            let mut reader = FrameReader::new(alloc, Edition::Two, senders);
-            let mut counting = Counting { frames: 0 };
-            if let Ok(mut incoming) = listen.accept() {
-                let _ = run_reader(&rt, &mut incoming, &mut reader, &links, &mut counting);
-            }
-            counting.frames
-        },
-    )?;
-    let (mut threads, station) = start_sending(rt, alloc, &world, own, port)?;
-    let connected = threads.connect() == (1, 0);
-    if connected {
-        send_all(&rt, &station, asker, &Event::Ask { asker, targets }, frames);
-    }
-    let _ = threads.stop();
-    let frames = if connected { reading.join(&rt) } else { 0 };
+    let (port, counting) = start_receiving(rt, alloc, &world)?;
+    let connected = send(rt, alloc, &world, port, frames)?;
+    let frames = if connected { counting.join(&rt) } else { 0 };
     let micros = u64::try_from(began.elapsed(&rt)?.as_micros()).unwrap_or(u64::MAX);
     let rate = frames.saturating_mul(1_000_000) / micros.max(1);
     Ok(format!(in alloc; "{frames} frames, {rate} a second")?)

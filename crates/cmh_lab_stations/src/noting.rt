@@ -13,25 +13,52 @@ fn site(words: &mut Words<'_>) -> Result<SiteId, Unanswered> {
     words.site().ok_or(Unanswered::BadLine)
 }
 
+/// The note that a word alone says.
+fn plain_note(word: &[u8]) -> Option<Note> {
+    match word {
+        b"strange" => Some(Note::StrangeHello),
+        b"silent" => Some(Note::NoHello),
+        b"full" => Some(Note::TurnedAway),
+        b"deaf" => Some(Note::AcceptingEnded),
+        b"thread" => Some(Note::NoThread),
+        b"sealed" => Some(Note::Sealed),
+        _ => None,
+    }
+}
+
+/// The note that a word and a number say.
+fn counted_note(word: &[u8], count: u64) -> Option<Note> {
+    match word {
+        b"kept" => Some(Note::Kept(u32::try_from(count).ok()?)),
+        b"left" => Some(Note::LeftOut(count)),
+        _ => None,
+    }
+}
+
+/// The note that a word says of a site.
+fn site_note(word: &[u8], site: SiteId, words: &mut Words<'_>) -> Result<Option<Note>, Unanswered> {
+    Ok(Some(match word {
+        b"refused" => Note::RefusedHello(site, state_of(words)?),
+        b"out" => Note::ClosedOut(site, fault_of(number(words)?)?),
+        b"in" => Note::ClosedIn(site, fault_of(number(words)?)?),
+        b"link" => Note::NoThreadTo(site),
+        _ => return Ok(None),
+    }))
+}
+
 fn note_of(words: &mut Words<'_>) -> Result<Note, Unanswered> {
-    Ok(match word(words)? {
-        b"refused" => Note::RefusedHello(site(words)?, state_of(words)?),
-        b"strange" => Note::StrangeHello,
-        b"silent" => Note::NoHello,
-        b"full" => Note::TurnedAway,
-        b"out" => Note::ClosedOut(site(words)?, fault_of(number(words)?)?),
-        b"in" => Note::ClosedIn(site(words)?, fault_of(number(words)?)?),
-        b"deaf" => Note::AcceptingEnded,
-        b"thread" => Note::NoThread,
-        b"link" => Note::NoThreadTo(site(words)?),
-        b"sealed" => Note::Sealed,
-        b"kept" => match u32::try_from(number(words)?) {
-            Ok(number) => Note::Kept(number),
-            Err(_) => return Err(Unanswered::BadLine),
-        },
-        b"left" => Note::LeftOut(number(words)?),
-        _ => return Err(Unanswered::BadLine),
-    })
+    let word = word(words)?;
+    if let Some(note) = plain_note(word) {
+        return Ok(note);
+    }
+    let note = match word {
+        b"kept" | b"left" => counted_note(word, number(words)?),
+        _ => {
+            let site = site(words)?;
+            site_note(word, site, words)?
+        }
+    };
+    note.ok_or(Unanswered::BadLine)
 }
 
 /// `note alone NOTE` or `note at SITE NOTE`: the line of a note. NOTE is `refused SITE STATE`, `strange`, `silent`,
