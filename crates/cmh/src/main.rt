@@ -17,15 +17,14 @@ ghost use Rattle.cmh_console.specs.Status.{IsStatus};
 
 use clap::{ArgMatches, Error, error};
 use cmh_cluster::run_cluster_noting;
-use cmh_commands::{audit, cluster_files_of, draw, play_into, read_file, show};
+use cmh_commands::{
+    AUDIT, CLUSTER, DRAW, Help, JOURNAL, JOURNALS, NOTES, OUT, PATIENCE, PLAY, PORT, QUIET, SERVE,
+    SHOW, SITE, TOPOLOGY, audit, cluster_files_of, command, draw, play_into, read_file, show,
+};
 use cmh_console::{Ahead, Fault, Input, Output};
 use cmh_frames::SiteId;
 use cmh_host::{SiteStart, System};
 use cmh_notes::{Noted, Voice};
-use cmh_options::{
-    AUDIT, CLUSTER, DRAW, Help, JOURNAL, JOURNALS, NOTES, OUT, PATIENCE, PLAY, PORT, QUIET, SERVE,
-    SHOW, SITE, TOPOLOGY, command,
-};
 use cmh_play::run_play;
 use cmh_service::run_service;
 use cmh_single::run_site_noting;

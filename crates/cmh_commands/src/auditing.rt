@@ -6,10 +6,10 @@ ghost use Rattle.cmh_console.specs.Status.{IsStatus};
 ghost use Rattle.cmh_commands.specs.Files.{AuditsFiles, AuditsSomehow, ExplainsFiles, IsUnset, ListsFiles, ShowsFiles};
 
 use crate::files::{files_of, journals_of};
+use crate::options::{RUN, WHY};
 use clap::ArgMatches;
 use cmh_console::Output;
 use cmh_files::{run_audit, run_audit_run, run_audit_why, run_show};
-use cmh_options::{RUN, WHY};
 use std::io::Write;
 use std::rt::Files;
 

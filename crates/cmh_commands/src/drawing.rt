@@ -10,9 +10,9 @@ ghost use Rattle.cmh_picture.specs.Formats.{format_word};
 ghost use Rattle.cmh_picture.specs.declared.format.Format as formats;
 
 use crate::files::files_of;
+use crate::options::{FORMAT, KIND};
 use clap::ArgMatches;
 use cmh_console::Output;
-use cmh_options::{FORMAT, KIND};
 use cmh_picture::{Format, Kind, run_draw};
 use std::io::Write;
 use std::rt::Files;

@@ -3,9 +3,9 @@
 ghost use Rattle.std.specs.Prelude.{◌≡◌, ◌⊎◌, IfErr};
 ghost use Rattle.cmh_commands.specs.Files.{IsUnread};
 
+use crate::options::{JOURNALS, SCRIPT, TOPOLOGY};
 use clap::ArgMatches;
 use cmh_console::Fault;
-use cmh_options::{JOURNALS, SCRIPT, TOPOLOGY};
 use cmh_stored::stop_of;
 use std::fs;
 use std::io::ErrorKind;

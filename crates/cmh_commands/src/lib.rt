@@ -1,14 +1,22 @@
-//! Commands over files: `audit`, `show` and `draw`, and `play` into a folder, as the words of the command line name them.
+//! The command line: its commands, their options and the long help. The commands that only need files: `audit`, `show`,
+//! `draw`, and `play` into a folder, as the words of the command line name them.
 #![tactic(auto)]
 
 mod auditing;
 mod drawing;
 mod files;
+mod help;
+mod options;
 mod playing;
 
 pub use crate::auditing::{audit, show};
 pub use crate::drawing::draw;
 pub use crate::files::{
     AuditFiles, ClusterFiles, cluster_files_of, files_of, journals_of, read_file,
+};
+pub use crate::help::Help;
+pub use crate::options::{
+    AUDIT, CLUSTER, DRAW, FORMAT, JOURNAL, JOURNALS, KIND, NOTES, OUT, PATIENCE, PLAY, PORT, QUIET,
+    RUN, SCRIPT, SERVE, SHOW, SITE, TOPOLOGY, WHY, command,
 };
 pub use crate::playing::play_into;

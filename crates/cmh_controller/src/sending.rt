@@ -48,19 +48,19 @@ pub fn send_each(
     Ok(())
 }
 
-/// The requests of an ask: one to each target of another site, in the targets' order. They are put into `room`.
+/// The requests of an ask: one to each target of another site, in the targets' order. They are put into `spare`.
 pub fn requests(
-    room: Vec<(SiteId, Frame)>,
+    spare: Vec<(SiteId, Frame)>,
     topology: &Topology,
     site: SiteId,
     asker: ProcId,
     targets: &[ProcId],
 ) -> Result<Vec<(SiteId, Frame)>, AllocError>
-    requires room { room.items ≡ [] }
+    requires spare { spare.items ≡ [] }
     requires targets { AreTargets topology.now asker targets.now }
     ensures { IfOk result (λ sent. sent.items ≡ requests topology.now site asker targets.now) }
 {
-    let mut sent = room;
+    let mut sent = spare;
     for target in targets {
         let home = topology.home(*target).unwrap();
         if home != site {
@@ -71,20 +71,20 @@ pub fn requests(
     Ok(sent)
 }
 
-/// The reply to a process, where that is at another site. It is put into `room`.
+/// The reply to a process, where that is at another site. It is put into `spare`.
 pub fn replies(
-    room: Vec<(SiteId, Frame)>,
+    spare: Vec<(SiteId, Frame)>,
     topology: &Topology,
     site: SiteId,
     holder: ProcId,
     asker: ProcId,
 ) -> Result<Vec<(SiteId, Frame)>, AllocError>
-    requires room { room.items ≡ [] }
+    requires spare { spare.items ≡ [] }
     requires here { At topology.now holder site }
     requires known { IsSome (home topology.now asker) }
     ensures { IfOk result (λ sent. sent.items ≡ replies topology.now site holder asker) }
 {
-    let mut sent = room;
+    let mut sent = spare;
     let home = topology.home(asker).unwrap();
     if home != site {
         sent.push((home, Frame::Reply(Reply { holder, asker })))?;

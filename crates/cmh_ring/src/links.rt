@@ -78,11 +78,11 @@ impl Links {
     }
 
     /// With both ends of each ring in one thread: what was taken and what is left in the rings is what was released.
-    pub fn look_through(&mut self, taps: &mut Vec<LinkTap>)
+    pub fn reconcile(&mut self, taps: &mut Vec<LinkTap>)
         requires { AllZip IsTapOf self.old.each taps.old.items }
         ensures { AllZip Through self.old.each taps.old.items }
     {
-        look_through_each(&mut self.links, taps);
+        reconcile_each(&mut self.links, taps);
         self.reserved = 0;
     }
 }
@@ -114,11 +114,11 @@ fn release_each(links: &mut [Link])
     }
 }
 
-fn look_through_each(links: &mut Vec<Link>, taps: &mut Vec<LinkTap>)
+fn reconcile_each(links: &mut Vec<Link>, taps: &mut Vec<LinkTap>)
     requires { AtEach (λ a b. IsTapOf (seen a) b) links.old.items taps.old.items }
     ensures { AtEach (λ a b. Through (seen a) b) links.old.items taps.old.items }
 {
     for at in 0..taps.len() {
-        taps[at].look_through(&mut links[at]);
+        taps[at].reconcile(&mut links[at]);
     }
 }

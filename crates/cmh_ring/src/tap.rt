@@ -63,7 +63,7 @@ impl LinkTap {
     }
 
     /// With both ends in one thread: what was taken and what is left in the ring is what was released.
-    pub(crate) fn look_through(&mut self, link: &mut Link)
+    pub(crate) fn reconcile(&mut self, link: &mut Link)
         requires { IsTapOf (seen link.old) self.old }
         ensures { Through (seen link.old) self.old }
     {

@@ -33,7 +33,7 @@ returns-in_ok-found-in-Declared-clause-ok c =
       accepted = c.requires.accepted;
       sends =
           subst (λ (v : Controller). Sends v.topology v.site v.state (Got c.args.sender (Probe (c.args.origin, c.args.from, c.args.to))) c.new.result found) c.self.view_is
-          (receipt_declared inside.topology inside.site inside.waits c.self.invariant inside.dependents inside.declared c.args.sender c.args.origin c.args.from c.args.to _ _ verdict.0 verdict.2 (c.new.ensures ∙ c.requires.room) ensures.new);
+          (receipt_declared inside.topology inside.site inside.waits c.self.invariant inside.dependents inside.declared c.args.sender c.args.origin c.args.from c.args.to _ _ verdict.0 verdict.2 (c.new.ensures ∙ c.requires.spare) ensures.new);
       stands = probe_stands inside.topology inside.site inside.waits inside.dependents _ inside.declared _ old c.args.sender c.args.origin c.args.from c.args.to found c.self.view_is verdict.0 ensures.dependents ensures.declared;
       back = subst (λ (v : Controller). IsBack v (Got c.args.sender (Probe (c.args.origin, c.args.from, c.args.to))) true found) c.self.view_is
           (probe_back inside.topology inside.site (state_of inside.waits inside.dependents inside.declared) c.args.sender c.args.origin c.args.from c.args.to found verdict.0 ensures.back);
@@ -44,8 +44,8 @@ returns-in_ok-add-in-Forward-clause-ok c =
     let inside = c.self.inside in
     let old = c.args.self.now in
     let verdict = rw c.in-Forward.is at c.in_ok-on_probe.ensures in
-    let added = subst (λ (fs : List Frame). c.send_each.new.sent.items ≡ c.args.room.items ++ map (addressed inside.topology) fs) c.deref.ensures.value c.in_ok-send_each-in-Forward.ensures in
-    let sent = c.new-in-Forward.ensures ∙ added ∙ ap (λ fs. fs ++ map (addressed inside.topology) c.in-Forward.frames.items) c.requires.room in record {
+    let added = subst (λ (fs : List Frame). c.send_each.new.sent.items ≡ c.args.spare.items ++ map (addressed inside.topology) fs) c.deref.ensures.value c.in_ok-send_each-in-Forward.ensures in
+    let sent = c.new-in-Forward.ensures ∙ added ∙ ap (λ fs. fs ++ map (addressed inside.topology) c.in-Forward.frames.items) c.requires.spare in record {
       accepted = c.requires.accepted;
       sends =
           subst (λ (v : Controller). Sends v.topology v.site v.state (Got c.args.sender (Probe (c.args.origin, c.args.from, c.args.to))) c.new-in-Forward.result None) c.self.view_is

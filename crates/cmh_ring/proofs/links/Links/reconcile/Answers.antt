@@ -3,10 +3,10 @@ use Rattle.cmh_ring.specs.Backlogs.{seen}
 use Rattle.std.specs.List.{AllZip}
 use Rattle.cmh_ring.specs.Links.{IsTapOf, Links, Through}
 use Rattle.cmh_ring.proofs.Paired.{at_each_paired, firsts_fields, firsts_seen, paired_at_each}
-use Rattle.cmh_ring.proofs.links.Links.look_through.Goals as goal
+use Rattle.cmh_ring.proofs.links.Links.reconcile.Goals as goal
 
-pub look_through_each-requires : goal.look_through_each-requires
-look_through_each-requires c =
+pub reconcile_each-requires : goal.reconcile_each-requires
+reconcile_each-requires c =
     let links = c.self.inside.links.items in
     let taps = c.args.taps.now.items in
     paired_at_each (λ a b. IsTapOf (seen a) b) links taps
@@ -16,4 +16,4 @@ pub returns : goal.returns
 returns c =
     let links = c.self.inside.links.items in
     let taps = c.args.taps.now.items in
-    rw (← c.self.view_is) (firsts_seen Through links taps (at_each_paired (λ a b. Through (seen a) b) links taps c.look_through_each.ensures))
+    rw (← c.self.view_is) (firsts_seen Through links taps (at_each_paired (λ a b. Through (seen a) b) links taps c.reconcile_each.ensures))

@@ -2,7 +2,7 @@ use Rattle.std.proofs.Common.{◌≡◌, ℕ, ◌<◌, ◌≤◌, ◌+◌, lengt
 use Rattle.cmh_ring.specs.declared.link.Link.{Link}
 use Rattle.cmh_ring.specs.Backlogs.{seen}
 use Rattle.cmh_ring.specs.Links.{Tap, Through}
-use Rattle.cmh_ring.proofs.links.look_through_each.Given as goal
+use Rattle.cmh_ring.proofs.links.reconcile_each.Given as goal
 
 abbrev pub invariant-loop-at : goal.invariant-loop-at
 invariant-loop-at l = record {
