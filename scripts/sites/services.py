@@ -16,7 +16,7 @@ from world import Port, Site, World, of_size, patience, wait_until
 
 PAIR = {1: [1], 2: [2]}
 CLIENTS, EVENTS = 8, 10000
-CROWD = 200  # clients: a thread has 64 before the next one gets any
+CROWD = 200  # clients: a thread has 32 before the next one gets any
 WINDOW = 256  # lines that a client of a crowd sends ahead of their answers
 
 

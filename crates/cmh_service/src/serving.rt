@@ -29,8 +29,8 @@ use std::time::{Clock, Duration};
 /// How many threads serve clients. Their sockets keep several busy where the disk is fast.
 const SERVERS: usize = 4;
 
-/// So many clients can fill a round. Divided among threads they would only make it smaller.
-const FEW_CLIENTS: usize = BATCH_LIMIT;
+/// So many clients keep a thread busy. With more, some are answered while the events of others are synced.
+const FEW_CLIENTS: usize = BATCH_LIMIT / 2;
 
 /// The port on which clients connect.
 const LISTENER: Token = Token(0);
