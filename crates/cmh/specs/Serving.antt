@@ -4,8 +4,8 @@ use Rattle.cmh_console.specs.Device.{Reading, Writing}
 use Rattle.cmh_console.specs.Faults.{NamesFault}
 use Rattle.cmh_console.specs.declared.faults.Fault.{Fault}
 use Rattle.cmh_console.specs.declared.faults.Fault.TheVariants.{Site}
-use Rattle.cmh_cluster.specs.ClusterEndings.{ClusterEnds}
-use Rattle.cmh_single.specs.Endings.{IsSiteFault, Served}
+use Rattle.cmh_site.specs.ClusterEndings.{ClusterEnds}
+use Rattle.cmh_site.specs.Endings.{IsSiteFault, Served}
 use Rattle.cmh_commands.specs.Files.{IsUnread}
 
 -- A site of a topology file ended, that read these bytes where they are told: at status 0 it was served to its end, which

@@ -16,7 +16,7 @@ ghost use Rattle.cmh_picture.specs.declared.format.Format as formats;
 ghost use Rattle.cmh_console.specs.Status.{IsStatus};
 
 use clap::{ArgMatches, Error, error};
-use cmh_cluster::run_cluster_noting;
+use cmh_carriers::{Noted, Voice};
 use cmh_commands::{
     AUDIT, CLUSTER, DRAW, Help, JOURNAL, JOURNALS, NOTES, OUT, PATIENCE, PLAY, PORT, QUIET, SERVE,
     SHOW, SITE, TOPOLOGY, audit, cluster_files_of, command, draw, play_into, read_file, show,
@@ -24,10 +24,9 @@ use cmh_commands::{
 use cmh_console::{Ahead, Fault, Input, Output};
 use cmh_frames::SiteId;
 use cmh_host::{SiteStart, System};
-use cmh_notes::{Noted, Voice};
 use cmh_play::run_play;
-use cmh_service::run_service;
-use cmh_single::run_site_noting;
+use cmh_service::{ServiceStart, run_service};
+use cmh_site::{run_cluster_noting, run_site_noting};
 use std::fs::File;
 use std::io::{BufRead, BufReader, BufWriter, ErrorKind, Write};
 use std::net::{Net, TcpListener, TcpStream};
@@ -243,19 +242,21 @@ where
         // Never so: the command line takes no other number.
         return Fault::Site.name_on(err);
     };
-    let start = SiteStart {
-        topology: &topology,
-        site: own,
-        journal: words.get_str(JOURNAL).unwrap_or(""),
-        patience: patience_of(words),
+    let start = ServiceStart {
+        site: SiteStart {
+            topology: &topology,
+            site: own,
+            journal: words.get_str(JOURNAL).unwrap_or(""),
+            patience: patience_of(words),
+        },
+        port: words.get_one(PORT).unwrap_or(0),
     };
-    let port = words.get_one(PORT).unwrap_or(0);
     let voice = if words.get_flag(QUIET) {
         None
     } else {
         Some(OnError { rt: *rt })
     };
-    run_service(*rt, rt.alloc(), &start, port, out, err, voice)
+    run_service(*rt, &start, out, err, voice)
 }
 
 /// Tells notes on standard error.

@@ -7,6 +7,7 @@ use Rattle.cmh_journal.specs.Journal.{Journal}
 use Rattle.cmh_audit.specs.Journals.{journal_of}
 use Rattle.cmh_audit.specs.Inner.Merging.{taken_of, IsStuck}
 use Rattle.cmh_audit.specs.Set.{IsSet}
+use Rattle.cmh_audit.proofs.SetLemmas.{set_parts}
 use Rattle.cmh_audit.specs.Stops.{before_stop}
 use Rattle.cmh_audit.specs.Inner.FoundStops.{stops_at}
 use Rattle.cmh_audit.proofs.CountingLemmas.{few_journals}
@@ -15,7 +16,7 @@ use Rattle.cmh_audit.proofs.StopLemmas.{before_is}
 -- there are no more journals than sites
 pub set_few : (t : Topology) (js : List Journal) (sites : List ℕ) → sites ≡ sites_of t → length sites ≤ 64 → IsSet t js → length js ≤ 64
 set_few t js sites is few set =
-    let l = few_journals js (sites_of t) set.once (recursion_from_All (λ (j : Journal). Contains (sites_of t) j.site) js set.known) in
+    let l = few_journals js (sites_of t) (set_parts t js set).once (recursion_from_All (λ (j : Journal). Contains (sites_of t) j.site) js (set_parts t js set).known) in
     let e = ap length is in
     omega (arith, l, e, few)
 

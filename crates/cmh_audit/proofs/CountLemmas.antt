@@ -3,11 +3,12 @@ use Rattle.std.proofs.Common.{◌≡◌, ◌≢◌, ℕ, zero, suc, ◌+◌, ◌
 use Rattle.std.proofs.lemmas.Bool.{cases_eq, eq-eqb, ne_eqb}
 use Rattle.std.proofs.lemmas.List.{take_all, take_more}
 use Rattle.cmh_frames.specs.Topology.{Topology}
-use Rattle.cmh_model.specs.declared.journal.Entry.{Entry}
-use Rattle.cmh_model.specs.Journals.{IsLawful}
-use Rattle.cmh_model.specs.Runs.{IsBeginningOf}
+use Rattle.cmh_frames.specs.declared.journal.Entry.{Entry}
+use Rattle.cmh_frames.specs.Journals.{IsLawful}
+use Rattle.cmh_frames.specs.Runs.{IsBeginningOf}
 use Rattle.cmh_journal.specs.Journal.{Journal}
-use Rattle.cmh_audit.specs.Journals.{journal_of, AreAllLawful, NoneAt, OneEach, entry_count}
+use Rattle.cmh_audit.specs.Journals.{journal_of, AreAllLawful, NoneAt, entry_count}
+use Rattle.cmh_audit.specs.Inner.Places.{OneEach}
 use Rattle.cmh_audit.specs.Inner.Merging.{taken_of, entry_counts, IsLawfulLength, AreLawfulLengths, total}
 
 pub none_at : (site : ℕ) (js : List Journal) (k : ℕ) (j : Journal) → NoneAt site js → k < length js → j ≡ get_or js k j → site ≢ j.site

@@ -5,21 +5,29 @@ use Rattle.std.proofs.lemmas.List.{take_more}
 use Rattle.std.proofs.lemmas.List.Elements.{All-push}
 use Rattle.std.proofs.lemmas.List.Kept.{AllPairs-from_increasing}
 use Rattle.std.specs.Prelude.{Contains}
-use Rattle.std.specs.List.{AllPairs, AllByRecursion}
+use Rattle.std.specs.List.{AllPairs, AllByRecursion, sum_by}
+use Rattle.std.proofs.lemmas.List.Sums.{sum_by-cons}
 use Rattle.std.specs.List.Sorted.{IsStrictlyIncreasing}
-use Rattle.cmh_model.proofs.Members.{no_member}
+use Rattle.cmh_frames.proofs.Members.{no_member}
 use Rattle.cmh_frames.specs.declared.frame.Frame.{Frame}
 use Rattle.cmh_frames.specs.declared.edition.Edition.{Edition}
 use Rattle.cmh_frames.specs.declared.edition.Edition.TheVariants.{One, Two}
 use Rattle.cmh_frames.specs.Wire.{spelling}
-use Rattle.cmh_model.specs.declared.journal.Entry.{Entry}
-use Rattle.cmh_model.specs.Journals.{frames_to, sendings_of}
+use Rattle.cmh_frames.specs.declared.journal.Entry.{Entry}
+use Rattle.cmh_frames.specs.Journals.{frames_to, sendings_of}
+use Rattle.cmh_frames.specs.Topology.{Topology, sites_of}
+use Rattle.cmh_frames.specs.declared.journal.WorldEvent.{WorldEvent}
+use Rattle.cmh_frames.specs.Laws.{count_of}
+use Rattle.cmh_frames.specs.Runs.{under_way}
+use Rattle.cmh_frames.specs.Settling.{under_way_in_all}
 use Rattle.cmh_journal.specs.Journal.{Journal, entry_limit}
-use Rattle.cmh_journal.specs.Entries.{event_spelling, sendings_spelling, declaration_spelling, length_bytes, IsWhole}
-use Rattle.cmh_audit.specs.Journals.{journal_of, entry_count, NoneAt, OneEach}
+use Rattle.cmh_journal.specs.Entries.{event_spelling, length_bytes, IsWhole}
+use Rattle.cmh_journal.specs.Inner.Parts.{sendings_spelling, declaration_spelling}
+use Rattle.cmh_audit.specs.Journals.{journal_of, entry_count, NoneAt}
+use Rattle.cmh_audit.specs.Inner.Places.{OneEach}
 use Rattle.cmh_audit.specs.Sums.{in_entries, in_journals}
 use Rattle.cmh_audit.specs.Totals.{AreWithinLimit}
-use Rattle.cmh_audit.specs.Transit.{sum_over, sent_count}
+use Rattle.cmh_audit.specs.Transit.{sent_count}
 use Rattle.cmh_cycles.proofs.Members.{contains_rest}
 
 -- ---- entries
@@ -89,6 +97,27 @@ counting_more js i count j n l here so_far is few =
     }
 
 -- ---- sums over sites
+
+abbrev pub sum_over : (ℕ → ℕ) → List ℕ → ℕ
+sum_over f [] = 0
+sum_over f (s ∷ sites) = f s + sum_over f sites
+
+abbrev pub in_transit : Topology → List WorldEvent → ℕ
+in_transit t events = sum_over (λ a. sum_over (λ b. length (under_way a b events)) (sites_of t)) (sites_of t)
+
+all_counted : (fs : List Frame) → count_of (λ (f : Frame). true) fs ≡ length fs
+all_counted [] = refl
+all_counted (f ∷ fs) = let h = all_counted fs in omega (arith, h)
+
+summed : (f g : ℕ → ℕ) (sites : List ℕ) → ((s : ℕ) → f s ≡ g s) → sum_by f sites ≡ sum_over g sites
+summed f g [] h = refl
+summed f g (s ∷ sites) h = let first = h s in let more = summed f g sites h in let all = sum_by-cons f s sites in omega (arith, first, more, all)
+
+-- the frames that are under way in all are those in transit
+pub transit_is : (t : Topology) (events : List WorldEvent) → under_way_in_all (λ f. true) t events ≡ in_transit t events
+transit_is t events =
+    summed (λ a. sum_by (λ b. count_of (λ (f : Frame). true) (under_way a b events)) (sites_of t)) (λ a. sum_over (λ b. length (under_way a b events)) (sites_of t)) (sites_of t)
+    (λ a. summed (λ b. count_of (λ (f : Frame). true) (under_way a b events)) (λ b. length (under_way a b events)) (sites_of t) (λ b. all_counted (under_way a b events)))
 
 sum_over-append : (f : ℕ → ℕ) (xs ys : List ℕ) → sum_over f (xs ++ ys) ≡ sum_over f xs + sum_over f ys
 sum_over-append f [] ys = omega arith

@@ -10,14 +10,15 @@ use Rattle.std.proofs.lemmas.Cmp.{nat_cmp_total}
 use Rattle.std.proofs.lemmas.Map.Lookups.{exact_unsigned}
 use Rattle.std.proofs.lemmas.Map.Views.{btree_set_contains_iff}
 use Rattle.cmh_frames.specs.Topology.{is_some_of}
-use Rattle.cmh_model.specs.declared.event.Event.TheVariants.{Start}
-use Rattle.cmh_model.specs.declared.journal.Entry.{Entry}
-use Rattle.cmh_model.specs.declared.journal.WorldEvent.{WorldEvent}
-use Rattle.cmh_model.specs.Laws.{bit}
-use Rattle.cmh_model.specs.Runs.{ComesFrom}
-use Rattle.cmh_model.specs.Waits.{IsDeclared}
+use Rattle.cmh_frames.specs.declared.event.Event.TheVariants.{Start}
+use Rattle.cmh_frames.specs.declared.journal.Entry.{Entry}
+use Rattle.cmh_frames.specs.declared.journal.WorldEvent.{WorldEvent}
+use Rattle.cmh_frames.specs.Laws.{bit}
+use Rattle.cmh_frames.specs.Runs.{ComesFrom}
+use Rattle.cmh_frames.specs.Waits.{IsDeclared}
 use Rattle.cmh_journal.specs.Journal.{Journal}
-use Rattle.cmh_audit.specs.Journals.{journal_of, OneEach}
+use Rattle.cmh_audit.specs.Journals.{journal_of}
+use Rattle.cmh_audit.specs.Inner.Places.{OneEach}
 use Rattle.cmh_audit.specs.Sums.{in_journals}
 use Rattle.cmh_audit.specs.Inner.AllSums.{in_run}
 use Rattle.cmh_audit.specs.Declarations.{declares, HasMore}

@@ -3,10 +3,10 @@ use Rattle.std.proofs.Common.{◌≡◌, ℕ, ◌+◌, ◌<◌, ◌≤◌, List,
 use Rattle.std.specs.Prelude.{Contains}
 use Rattle.std.proofs.lemmas.List.{get_or_read}
 use Rattle.cmh_frames.specs.Topology.{Topology}
-use Rattle.cmh_model.specs.declared.journal.Entry.{Entry}
+use Rattle.cmh_frames.specs.declared.journal.Entry.{Entry}
 use Rattle.cmh_journal.specs.Journal.{Journal}
 use Rattle.cmh_audit.specs.declared.step.Step.{Step}
-use Rattle.cmh_audit.specs.Journals.{OneEach}
+use Rattle.cmh_audit.specs.Inner.Places.{OneEach}
 use Rattle.cmh_world.specs.Links.{Links}
 use Rattle.cmh_audit.specs.Inner.Merging.{AreLawfulLengths, AreLeftAt, IsNextFrame, LacksFrame, MovesFrames, ReceivesFrame, SendsFrames}
 use Rattle.cmh_audit.specs.Inner.Orders.{IsOrder}

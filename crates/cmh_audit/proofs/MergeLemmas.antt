@@ -4,17 +4,18 @@ use Rattle.std.proofs.lemmas.Bool.{cases_eq, eq-eqb, ne_eqb}
 use Rattle.std.proofs.lemmas.List.{take_more, length_push, append_cancel_left, get_or-set_same, get_or-set_other, length-replicate, get_or-replicate}
 use Rattle.cmh_frames.specs.declared.frame.Frame.{Frame}
 use Rattle.cmh_frames.specs.Topology.{Topology}
-use Rattle.cmh_model.specs.declared.journal.Entry.{Entry}
-use Rattle.cmh_model.specs.declared.journal.WorldEvent.{WorldEvent}
-use Rattle.cmh_model.specs.Journals.{IsLawful, frames_to, frame_from, sendings_of, receipts_of}
-use Rattle.cmh_model.specs.Runs.{IsBeginningOf, IsRun, ComeFromRun, entries_of}
-use Rattle.cmh_model.proofs.Journals.{sendings_of-append, receipts_of-append}
+use Rattle.cmh_frames.specs.declared.journal.Entry.{Entry}
+use Rattle.cmh_frames.specs.declared.journal.WorldEvent.{WorldEvent}
+use Rattle.cmh_frames.specs.Journals.{IsLawful, frames_to, frame_from, sendings_of, receipts_of}
+use Rattle.cmh_frames.specs.Runs.{IsBeginningOf, IsRun, ComeFromRun, entries_of}
+use Rattle.cmh_frames.proofs.Journals.{sendings_of-append, receipts_of-append}
 use Rattle.cmh_journal.specs.Journal.{Journal}
-use Rattle.cmh_audit.specs.Journals.{journal_of, OneEach}
+use Rattle.cmh_audit.specs.Journals.{journal_of}
+use Rattle.cmh_audit.specs.Inner.Places.{OneEach}
 use Rattle.cmh_world.specs.Links.{Links, waiting}
 use Rattle.cmh_audit.specs.Inner.Merging.{taken_of, CanGrow, IsNextFrame, MovesFrames, AreLawfulLengths, IsStuck, AreLeft}
-use Rattle.cmh_model.proofs.Beginnings.{length-beginning, push_eq}
-use Rattle.cmh_model.proofs.LongerRuns.{run_first}
+use Rattle.cmh_frames.proofs.Beginnings.{length-beginning, push_eq}
+use Rattle.cmh_frames.proofs.LongerRuns.{run_first}
 use Rattle.cmh_audit.proofs.RunLemmas.{entries_of_same, entries_of_other, lawful_beginning, longer_run, receipts_of_push}
 use Rattle.cmh_audit.proofs.CountLemmas.{taken_here, journal_here, taken_set_other, found, taken_within, taken_none, limit_here}
 

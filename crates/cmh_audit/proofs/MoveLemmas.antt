@@ -2,11 +2,11 @@
 use Rattle.std.proofs.Common.{◌≡◌, ◌≢◌, ℕ, ◌==◌, List, [], ◌∷◌, ◌++◌, Some, sym, ap, subst, refl, ◌∙◌, append_assoc, if◌then◌else◌, slice_get}
 use Rattle.std.proofs.lemmas.Bool.{eq-eqb}
 use Rattle.cmh_frames.specs.declared.frame.Frame.{Frame}
-use Rattle.cmh_model.specs.declared.event.Event.{Event}
-use Rattle.cmh_model.specs.declared.event.Event.TheVariants.{Got}
-use Rattle.cmh_model.specs.declared.journal.Entry.{Entry}
-use Rattle.cmh_model.specs.Journals.{frames_to, frame_from}
-use Rattle.cmh_model.specs.Runs.{IsBeginningOf}
+use Rattle.cmh_frames.specs.declared.event.Event.{Event}
+use Rattle.cmh_frames.specs.declared.event.Event.TheVariants.{Got}
+use Rattle.cmh_frames.specs.declared.journal.Entry.{Entry}
+use Rattle.cmh_frames.specs.Journals.{frames_to, frame_from}
+use Rattle.cmh_frames.specs.Runs.{IsBeginningOf}
 use Rattle.cmh_world.specs.Links.{Links, waiting}
 use Rattle.cmh_audit.specs.Inner.Merging.{IsNextFrame, ReceivesFrame, LacksFrame, SendsFrames, MovesFrames}
 

@@ -6,7 +6,7 @@ use Rattle.std.proofs.lemmas.Bool.{cases_eq, cases_lt}
 use Rattle.std.proofs.lemmas.List.{get_or_past}
 use Rattle.std.proofs.lemmas.List.Elements.{Contains-append_left, Contains-append_right, Contains-append_cases}
 use Rattle.cmh_frames.specs.Number.{IsNumber}
-use Rattle.cmh_model.proofs.Members.{found_at, found_from, no_member}
+use Rattle.cmh_frames.proofs.Members.{found_at, found_from, no_member}
 use Rattle.cmh_waits.specs.Rows.{is_in}
 use Rattle.cmh_rules.proofs.Leaving.{sorted_append, pairs_ascend, all_above, in_pairs, from_pairs}
 use Rattle.cmh_audit.specs.Turns.{is_open}

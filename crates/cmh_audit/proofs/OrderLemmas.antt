@@ -5,19 +5,20 @@ use Rattle.std.proofs.lemmas.Bool.{cases_eq, eq-eqb, ne_eqb}
 use Rattle.std.proofs.lemmas.List.{get_or-set_same, get_or-set_other, map-append}
 use Rattle.std.proofs.lemmas.Option.{slice_get_read}
 use Rattle.cmh_frames.specs.Topology.{Topology}
-use Rattle.cmh_model.specs.declared.journal.Entry.{Entry}
-use Rattle.cmh_model.specs.declared.journal.WorldEvent.{WorldEvent}
-use Rattle.cmh_model.specs.Laws.{bit, count_of}
-use Rattle.cmh_model.specs.Runs.{IsBeginningOf}
-use Rattle.cmh_model.proofs.Beginnings.{beginning_push, push_eq}
-use Rattle.cmh_model.proofs.LongerRuns.{run_first}
+use Rattle.cmh_frames.specs.declared.journal.Entry.{Entry}
+use Rattle.cmh_frames.specs.declared.journal.WorldEvent.{WorldEvent}
+use Rattle.cmh_frames.specs.Laws.{bit, count_of}
+use Rattle.cmh_frames.specs.Runs.{IsBeginningOf}
+use Rattle.cmh_frames.proofs.Beginnings.{beginning_push, push_eq}
+use Rattle.cmh_frames.proofs.LongerRuns.{run_first}
 use Rattle.cmh_journal.specs.Journal.{Journal}
 use Rattle.cmh_audit.specs.declared.step.Step.{Step}
-use Rattle.cmh_audit.specs.Journals.{journal_of, OneEach}
+use Rattle.cmh_audit.specs.Journals.{journal_of}
+use Rattle.cmh_audit.specs.Inner.Places.{OneEach}
 use Rattle.cmh_world.specs.Links.{Links}
 use Rattle.cmh_audit.specs.Inner.Merging.{taken_of, IsNextFrame, MovesFrames, AreLawfulLengths}
-use Rattle.cmh_audit.specs.Inner.Orders.{IsOrder}
-use Rattle.cmh_audit.specs.Runs.{event_at, steps_of, AreInTurn, IsRunOf}
+use Rattle.cmh_audit.specs.Inner.Orders.{AreInTurn, IsOrder, steps_of}
+use Rattle.cmh_audit.specs.Runs.{event_at, IsRunOf}
 use Rattle.cmh_audit.proofs.CountLemmas.{taken_none, limit_here}
 use Rattle.cmh_audit.proofs.MergeLemmas.{Merging, run_more, entries_more}
 

@@ -3,16 +3,17 @@ use Rattle.std.proofs.Common.{◌≡◌, ◌≢◌, ℕ, zero, suc, ◌+◌, ◌
 use Rattle.std.specs.Prelude.{Contains}
 use Rattle.std.proofs.lemmas.Bool.{cases_eq, eq-eqb, ne_eqb}
 use Rattle.std.proofs.lemmas.List.{length-replicate, get_or_default, get_or-set_same, get_or-set_other}
-use Rattle.cmh_model.proofs.Members.{no_member}
+use Rattle.cmh_frames.proofs.Members.{no_member}
 use Rattle.cmh_frames.specs.declared.frame.Frame.{Frame}
 use Rattle.cmh_frames.specs.Topology.{Topology}
-use Rattle.cmh_model.specs.declared.event.Event.{Event}
-use Rattle.cmh_model.specs.declared.event.Event.TheVariants.{Got}
-use Rattle.cmh_model.specs.declared.journal.Entry.{Entry}
-use Rattle.cmh_model.specs.Journals.{frames_to, frame_from}
-use Rattle.cmh_model.specs.Runs.{IsBeginningOf}
+use Rattle.cmh_frames.specs.declared.event.Event.{Event}
+use Rattle.cmh_frames.specs.declared.event.Event.TheVariants.{Got}
+use Rattle.cmh_frames.specs.declared.journal.Entry.{Entry}
+use Rattle.cmh_frames.specs.Journals.{frames_to, frame_from}
+use Rattle.cmh_frames.specs.Runs.{IsBeginningOf}
 use Rattle.cmh_journal.specs.Journal.{Journal}
-use Rattle.cmh_audit.specs.Journals.{OneEach, entry_count}
+use Rattle.cmh_audit.specs.Journals.{entry_count}
+use Rattle.cmh_audit.specs.Inner.Places.{OneEach}
 use Rattle.cmh_world.specs.Links.{Links, waiting}
 use Rattle.cmh_audit.specs.Inner.Merging.{AreLawfulLengths, IsStuck, IsNextFrame, MovesFrames, total, AreTried}
 use Rattle.cmh_audit.specs.Inner.Ready.{Wakes, ArePlaces, parked_count}

@@ -1,31 +1,32 @@
 -- From the lists of a report to what it says of every run.
-use Rattle.std.proofs.Common.{◌≡◌, ◌≢◌, ℕ, zero, suc, ◌+◌, ◌<◌, ◌≤◌, ◌↔◌, true, false, List, [], ◌∷◌, ◌++◌, length, take, drop, get_or, Option, None, Some, ⊎_elim, sym, ap, subst, refl, ◌∙◌, if◌then◌else◌, arith, length-append}
-use Rattle.std.specs.Prelude.{Contains, MatchOption}
+use Rattle.std.proofs.Common.{◌≡◌, ◌≢◌, ℕ, zero, suc, ◌+◌, ◌<◌, ◌≤◌, ◌↔◌, true, false, Bool, cond, ◌==◌, List, [], ◌∷◌, ◌++◌, length, take, drop, get_or, Option, None, Some, ⊎_elim, sym, ap, subst, refl, ◌∙◌, if◌then◌else◌, arith, length-append}
+use Rattle.std.specs.Prelude.{Contains, MatchOption, option_map}
+use Rattle.std.specs.List.{find, zip}
 use Rattle.std.proofs.lemmas.Bool.{cases_eq, eq-eqb, ne_eqb}
 use Rattle.std.specs.List.Sorted.{IsStrictlyIncreasing}
 use Rattle.std.proofs.lemmas.List.{take_more}
 use Rattle.std.proofs.lemmas.List.Kept.{AllPairs-from_increasing}
 use Rattle.std.proofs.Math.Seq.{drop-append_seam}
 use Rattle.cmh_frames.specs.Topology.{Topology, sites_of}
-use Rattle.cmh_model.specs.declared.journal.WorldEvent.{WorldEvent}
-use Rattle.cmh_model.specs.Journals.{sendings_of, receipts_of}
-use Rattle.cmh_model.specs.Runs.{IsRun, ComesFrom, under_way, receipts}
-use Rattle.cmh_model.specs.Waits.{Waits, IsCycle, IsDeclared}
-use Rattle.cmh_model.proofs.Members.{increasing_tail}
-use Rattle.cmh_model.proofs.PathLemmas.{path_map}
-use Rattle.cmh_model.specs.Laws.{DarkPath, AsksAndReplies}
+use Rattle.cmh_frames.specs.declared.journal.WorldEvent.{WorldEvent}
+use Rattle.cmh_frames.specs.Journals.{sendings_of, receipts_of}
+use Rattle.cmh_frames.specs.Runs.{IsRun, ComesFrom, under_way, receipts}
+use Rattle.cmh_frames.specs.Waits.{Waits, IsCycle, IsDeclared}
+use Rattle.cmh_frames.proofs.Members.{increasing_tail}
+use Rattle.cmh_frames.proofs.PathLemmas.{path_map}
+use Rattle.cmh_frames.specs.Laws.{DarkPath, AsksAndReplies}
 use Rattle.cmh_journal.specs.Journal.{Journal}
 use Rattle.cmh_audit.specs.Declarations.{declares}
-use Rattle.cmh_audit.specs.Journals.{journal_of, OneEach}
+use Rattle.cmh_audit.specs.Journals.{journal_of}
+use Rattle.cmh_audit.specs.Inner.Places.{OneEach}
 use Rattle.cmh_world.specs.Links.{Links, waiting}
 use Rattle.cmh_audit.specs.Sums.{in_journals}
-use Rattle.cmh_audit.specs.Transit.{sum_over, in_transit}
 use Rattle.cmh_audit.specs.Turns.{turned, turns}
 use Rattle.cmh_cycles.specs.FoundCycles.{WaitsIn, IsCycleIn}
-use Rattle.cmh_audit.specs.Reports.{beside, IsFirstCycle}
+use Rattle.cmh_audit.specs.Inner.Reporting.{beside}
 use Rattle.cmh_audit.specs.Inner.FoundCycles.{AreFirstCycles, AreFoundCycles, AreOnCycles, IsFoundCycle}
 use Rattle.cmh_cycles.proofs.Members.{contains_rest}
-use Rattle.cmh_audit.proofs.CountingLemmas.{sum_same}
+use Rattle.cmh_audit.proofs.CountingLemmas.{in_transit, sum_over, sum_same}
 use Rattle.cmh_audit.proofs.DeclarationLemmas.{declared_at_end}
 use Rattle.cmh_audit.proofs.TurnLemmas.{waits_at_end}
 use Rattle.cmh_cycles.specs.Cycles.{IsFirstCycleOf}
@@ -33,18 +34,23 @@ use Rattle.cmh_cycles.specs.Cycles.{IsFirstCycleOf}
 later : (i d : ℕ) (is : List ℕ) → Contains is i → Contains (d ∷ is) i
 later i d is c = (suc c.0, let l = c.1 in omega (arith, l), c.2)
 
+-- what is beside i in rows of which the first is at i, or not
+abbrev beside_if : ℕ → List ℕ → List ℕ → List (List ℕ) → ℕ → Bool → Option (List ℕ)
+beside_if d c ds cs i here =
+    option_map (λ (row : ℕ × List ℕ). row.1) (cond here (Some (d, c)) (find (λ (row : ℕ × List ℕ). row.0 == i) (zip ds cs)))
+
 pub beside_none : (ds : List ℕ) (cs : List (List ℕ)) (i : ℕ) → (Contains ds i → ⊥) → beside ds cs i ≡ None
 beside_none [] cs i none = refl
 beside_none (d ∷ ds) [] i none = refl
-beside_none (d ∷ ds) (c ∷ cs) i none = ap (λ t. if t then Some c else beside ds cs i) (ne_eqb d i (λ e. none (0, omega arith, e))) ∙ beside_none ds cs i (λ h. none (later i d ds h))
+beside_none (d ∷ ds) (c ∷ cs) i none = ap (beside_if d c ds cs i) (ne_eqb d i (λ e. none (0, omega arith, e))) ∙ beside_none ds cs i (λ h. none (later i d ds h))
 
 pub beside_here : (ds : List ℕ) (cs : List (List ℕ)) (i k : ℕ) (c : List ℕ) → IsStrictlyIncreasing ds → length cs ≡ length ds → k < length ds → get_or ds k 0 ≡ i → c ≡ get_or cs k c → beside ds cs i ≡ Some c
 beside_here [] cs i k c up long l is there = absurd (omega arith)
 beside_here (x ∷ ds) [] i k c up long l is there = absurd (omega arith)
-beside_here (x ∷ ds) (y ∷ cs) i zero c up long l is there = ap (λ t. if t then Some y else beside ds cs i) (eq-eqb x i is) ∙ ap (λ z. Some z) (sym there)
+beside_here (x ∷ ds) (y ∷ cs) i zero c up long l is there = ap (beside_if x y ds cs i) (eq-eqb x i is) ∙ ap (λ z. Some z) (sym there)
 beside_here (x ∷ ds) (y ∷ cs) i (suc k) c up long l is there =
     let less : x < get_or ds k 0 = AllPairs-from_increasing (x ∷ ds) up 0 (suc k) 0 (omega arith) l in
-    ap (λ t. if t then Some y else beside ds cs i) (ne_eqb x i (λ e. absurd (omega (arith, less, e, is)))) ∙ beside_here ds cs i k c (increasing_tail x ds up) (omega arith) (omega arith) is there
+    ap (beside_if x y ds cs i) (ne_eqb x i (λ e. absurd (omega (arith, less, e, is)))) ∙ beside_here ds cs i k c (increasing_tail x ds up) (omega arith) (omega arith) is there
 
 -- ---- the cycles
 
@@ -80,8 +86,8 @@ beside_is waits (d ∷ is) [] i are = absurd are
 beside_is waits (d ∷ is) (m ∷ cs) i are =
     let M : Option (List ℕ) → Type 0 = λ o. MatchOption o (Contains (d ∷ is) i → ⊥) (λ c. Contains (d ∷ is) i × IsFirstCycleOf (λ j k. WaitsIn waits j k) i c) in
     ⊎_elim
-    (λ (e : d ≡ i). subst M (sym (ap (λ t. if t then Some m else beside is cs i) (eq-eqb d i e))) ((0, omega arith, e), subst (λ x. IsFirstCycleOf (λ j k. WaitsIn waits j k) x m) e are.0))
-    (λ (ne : d ≢ i). subst M (sym (ap (λ t. if t then Some m else beside is cs i) (ne_eqb d i ne))) (wider (beside is cs i) ne (beside_is waits is cs i are.1)))
+    (λ (e : d ≡ i). subst M (sym (ap (beside_if d m is cs i) (eq-eqb d i e))) ((0, omega arith, e), subst (λ x. IsFirstCycleOf (λ j k. WaitsIn waits j k) x m) e are.0))
+    (λ (ne : d ≢ i). subst M (sym (ap (beside_if d m is cs i) (ne_eqb d i ne))) (wider (beside is cs i) ne (beside_is waits is cs i are.1)))
     (cases_eq d i)
   where
     wider : (o : Option (List ℕ)) → d ≢ i → MatchOption o (Contains is i → ⊥) (λ c. Contains is i × IsFirstCycleOf (λ j k. WaitsIn waits j k) i c) → MatchOption o (Contains (d ∷ is) i → ⊥) (λ c. Contains (d ∷ is) i × IsFirstCycleOf (λ j k. WaitsIn waits j k) i c)
@@ -101,13 +107,13 @@ module _ (waits : List (ℕ × ℕ)) (run : List WorldEvent) (same : (j k : ℕ)
   cycle_from i (x ∷ []) h = h
   cycle_from i (x ∷ y ∷ others) h = (h.0, path_map (Waits run) (WaitsIn waits) (λ p q w. (same p q).1 w) x (y ∷ others) i h.1)
 
-  pub first_to : (i : ℕ) (members : List ℕ) → IsFirstCycleOf (λ j k. WaitsIn waits j k) i members → IsFirstCycle run i members
+  pub first_to : (i : ℕ) (members : List ℕ) → IsFirstCycleOf (λ j k. WaitsIn waits j k) i members → IsFirstCycleOf (Waits run) i members
   first_to i members h = record {
     cycle = cycle_to i members h.cycle;
     first = λ other c. h.first other (cycle_from i other c);
   }
 
-  pub cycles_to : (o : Option (List ℕ)) (i : ℕ) (In : Type 0) → In ↔ IsDeclared run i → MatchOption o (In → ⊥) (λ c. In × IsFirstCycleOf (λ j k. WaitsIn waits j k) i c) → MatchOption o (IsDeclared run i → ⊥) (λ c. IsDeclared run i × IsFirstCycle run i c)
+  pub cycles_to : (o : Option (List ℕ)) (i : ℕ) (In : Type 0) → In ↔ IsDeclared run i → MatchOption o (In → ⊥) (λ c. In × IsFirstCycleOf (λ j k. WaitsIn waits j k) i c) → MatchOption o (IsDeclared run i → ⊥) (λ c. IsDeclared run i × IsFirstCycleOf (Waits run) i c)
   cycles_to None i In is h = λ d. h (is.1 d)
   cycles_to (Some c) i In is h = (is.0 h.0, first_to i c h.1)
 

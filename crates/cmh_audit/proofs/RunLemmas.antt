@@ -3,18 +3,18 @@ use Rattle.std.proofs.Common.{◌≡◌, ◌≢◌, ℕ, List, [], ◌∷◌, �
 use Rattle.std.proofs.lemmas.Bool.{cases_eq}
 use Rattle.cmh_frames.specs.declared.frame.Frame.{Frame}
 use Rattle.cmh_frames.specs.Topology.{Topology}
-use Rattle.cmh_model.specs.declared.journal.Entry.{Entry}
-use Rattle.cmh_model.specs.declared.journal.WorldEvent.{WorldEvent}
-use Rattle.cmh_model.specs.State.{State, empty_state}
-use Rattle.cmh_model.specs.Rules.{after}
-use Rattle.cmh_model.specs.Journals.{LawfulFrom, IsLawful, frame_from, sendings_of, receipts_of}
-use Rattle.cmh_model.specs.Runs.{IsBeginningOf, entries_of, sendings, receipts, IsRun}
-use Rattle.cmh_model.proofs.Effects.{none_from_own}
-use Rattle.cmh_model.proofs.Journals.{entries_here, entries_elsewhere, entries_of-append, lawful_front, lawful_rest, receipts_of-append}
-use Rattle.cmh_model.proofs.LongerRuns.{run_longer}
+use Rattle.cmh_frames.specs.declared.journal.Entry.{Entry}
+use Rattle.cmh_frames.specs.declared.journal.WorldEvent.{WorldEvent}
+use Rattle.cmh_frames.specs.State.{State, empty_state}
+use Rattle.cmh_frames.specs.Rules.{after}
+use Rattle.cmh_frames.specs.Journals.{LawfulFrom, IsLawful, frame_from, sendings_of, receipts_of}
+use Rattle.cmh_frames.specs.Runs.{IsBeginningOf, entries_of, sendings, receipts, IsRun}
+use Rattle.cmh_frames.proofs.Effects.{none_from_own}
+use Rattle.cmh_frames.proofs.Journals.{entries_here, entries_elsewhere, entries_of-append, lawful_front, lawful_rest, receipts_of-append}
+use Rattle.cmh_frames.proofs.LongerRuns.{run_longer}
 use Rattle.std.proofs.Math.Seq.{drop-append_seam}
 use Rattle.cmh_audit.specs.Inner.Merging.{CanGrow}
-use Rattle.cmh_model.proofs.Beginnings.{beginning_nil, beginning_trans, beginning_more, grow, sendings_of-beginning}
+use Rattle.cmh_frames.proofs.Beginnings.{beginning_nil, beginning_trans, beginning_more, grow, sendings_of-beginning}
 
 pub entries_of-beginning : (site : ℕ) (xs ys : List WorldEvent) → IsBeginningOf xs ys → IsBeginningOf (entries_of site xs) (entries_of site ys)
 entries_of-beginning site xs ys p = (entries_of site p.0, sym (entries_of-append site xs p.0) ∙ ap (entries_of site) p.1)

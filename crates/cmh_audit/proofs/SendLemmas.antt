@@ -5,10 +5,11 @@ use Rattle.std.specs.Option.{option_eq}
 use Rattle.std.proofs.lemmas.Bool.{cases_eq, eq-eqb, ne_eqb}
 use Rattle.std.proofs.lemmas.List.{get_or-set_other}
 use Rattle.cmh_frames.specs.declared.frame.Frame.{Frame}
-use Rattle.cmh_model.specs.Journals.{frames_to}
-use Rattle.cmh_model.proofs.Sent.{to-append}
+use Rattle.cmh_frames.specs.Journals.{frames_to}
+use Rattle.cmh_frames.proofs.Sent.{to-append}
 use Rattle.cmh_journal.specs.Journal.{Journal}
-use Rattle.cmh_audit.specs.Journals.{NoneAt, OneEach}
+use Rattle.cmh_audit.specs.Journals.{NoneAt}
+use Rattle.cmh_audit.specs.Inner.Places.{OneEach}
 use Rattle.cmh_world.specs.Links.{Links, waiting, only_at}
 use Rattle.cmh_audit.specs.Inner.Merging.{SendsFrames}
 use Rattle.cmh_audit.specs.Inner.Ready.{Wakes, parked_count}

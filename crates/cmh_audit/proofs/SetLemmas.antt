@@ -1,5 +1,5 @@
 -- The tests of a set of journals, and what they test.
-use Rattle.std.proofs.Common.{◌≡◌, ◌↔◌, ℕ, ◌==◌, ◌||◌, not, Bool, true, false, true≢false, List, [], ◌∷◌, map, sym, ap, refl, ◌∙◌}
+use Rattle.std.proofs.Common.{◌≡◌, ◌↔◌, ℕ, ◌==◌, ◌||◌, not, Bool, true, false, true≢false, if◌then◌else◌, List, [], ◌∷◌, map, Option, None, Some, sym, ap, refl, ◌∙◌}
 use Rattle.std.specs.Prelude.{Contains, All}
 use Rattle.std.specs.List.{list_any, AllByRecursion}
 use Rattle.std.proofs.lemmas.Bool.{eq-eqb, ne_eqb, eqb-true, or_parts, or_from}
@@ -7,10 +7,14 @@ use Rattle.std.proofs.lemmas.List.Elements.{All-from_recursion, recursion_from_A
 use Rattle.cmh_frames.specs.declared.edition.Edition.{Edition}
 use Rattle.cmh_frames.specs.Edition.{number_of}
 use Rattle.cmh_frames.specs.Topology.{Topology, sites_of, is_site}
-use Rattle.cmh_model.proofs.Members.{found_at, found_from}
+use Rattle.cmh_frames.proofs.Members.{found_at, found_from}
 use Rattle.cmh_journal.specs.Journal.{Journal}
-use Rattle.cmh_audit.specs.Journals.{NoneAt, OneEach}
-use Rattle.cmh_audit.specs.Set.{is_stranger, is_of_other_edition, has_journal, repeats_site, lacks_site}
+use Rattle.cmh_audit.specs.Journals.{NoneAt}
+use Rattle.cmh_audit.specs.Inner.Places.{OneEach}
+use Rattle.cmh_audit.specs.Set.{IsSet, fault_of, repeats_site}
+use Rattle.cmh_audit.specs.Inner.Faults.{is_stranger, is_of_other_edition, lacks_site, has_journal}
+use Rattle.cmh_journal.specs.declared.set_fault.SetFault.{SetFault}
+use Rattle.cmh_journal.specs.declared.set_fault.SetFault.TheVariants.{UnknownSite, OtherEdition, RepeatedSite, MissingSite}
 use Rattle.cmh_journal.proofs.Readings.{same_edition}
 
 -- ---- tests of lists
@@ -69,3 +73,60 @@ present_iff sites js = (
   λ all. any_none (λ s. not (has_journal js s)) (λ s. Contains (map (λ (j : Journal). j.site) js) s) sites
       (λ s c. ap not (has_in s js ∙ found_from (map (λ (j : Journal). j.site) js) s c)) (recursion_from_All (λ s. Contains (map (λ (j : Journal). j.site) js) s) sites all),
 )
+
+-- ---- the set
+
+-- each journal is of a site of the topology and of its edition, and each site has just one
+pub record SetParts (t : Topology) (journals : List Journal) : Type 0 where
+  pub known : All (λ (j : Journal). Contains (sites_of t) j.site) journals
+  pub edition : All (λ (j : Journal). j.edition ≡ t.edition) journals
+  pub once : OneEach journals
+  pub present : All (λ site. Contains (map (λ (j : Journal). j.site) journals) site) (sites_of t)
+
+-- no test holds
+pub record NoFault (t : Topology) (js : List Journal) : Type 0 where
+  pub stranger : list_any (is_stranger t) js ≡ false
+  pub edition : list_any (is_of_other_edition t.edition) js ≡ false
+  pub twice : repeats_site js ≡ false
+  pub lacking : lacks_site (sites_of t) js ≡ false
+
+abbrev first_of_four : Bool → Bool → Bool → Bool → Option SetFault
+first_of_four a b c d =
+    if a then Some UnknownSite else (if b then Some OtherEdition else (if c then Some RepeatedSite else (if d then Some MissingSite else None)))
+
+none_first : (a b c d : Bool) → first_of_four a b c d ≡ None → (a ≡ false) × (b ≡ false) × (c ≡ false) × (d ≡ false)
+none_first true b c d h = absurd (cc)
+none_first false true c d h = absurd (cc)
+none_first false false true d h = absurd (cc)
+none_first false false false true h = absurd (cc)
+none_first false false false false h = (refl, refl, refl, refl)
+
+none_at_all : (a b c d : Bool) → a ≡ false → b ≡ false → c ≡ false → d ≡ false → first_of_four a b c d ≡ None
+none_at_all a b c d no_a no_b no_c no_d = rw no_a (rw no_b (rw no_c (rw no_d refl)))
+
+pub no_fault : (t : Topology) (js : List Journal) → IsSet t js → NoFault t js
+no_fault t js set =
+    let all = none_first (list_any (is_stranger t) js) (list_any (is_of_other_edition t.edition) js) (repeats_site js) (lacks_site (sites_of t) js) set in
+    record { stranger = all.0; edition = all.1; twice = all.2; lacking = all.3 }
+
+pub without_fault : (t : Topology) (js : List Journal) → NoFault t js → IsSet t js
+without_fault t js clear =
+    none_at_all (list_any (is_stranger t) js) (list_any (is_of_other_edition t.edition) js) (repeats_site js) (lacks_site (sites_of t) js) clear.stranger clear.edition clear.twice clear.lacking
+
+pub set_parts : (t : Topology) (js : List Journal) → IsSet t js → SetParts t js
+set_parts t js set =
+    let clear = no_fault t js set in
+    record {
+      known = (known_iff t js).0 clear.stranger;
+      edition = (edition_iff t.edition js).0 clear.edition;
+      once = (once_iff js).0 clear.twice;
+      present = (present_iff (sites_of t) js).0 clear.lacking;
+    }
+
+pub set_from : (t : Topology) (js : List Journal) → SetParts t js → IsSet t js
+set_from t js parts = without_fault t js (record {
+  stranger = (known_iff t js).1 parts.known;
+  edition = (edition_iff t.edition js).1 parts.edition;
+  twice = (once_iff js).1 parts.once;
+  lacking = (present_iff (sites_of t) js).1 parts.present;
+})

@@ -8,15 +8,17 @@ use Rattle.std.proofs.lemmas.List.{take_more, get_or_read}
 use Rattle.std.proofs.lemmas.List.Kept.{IsStrictlyIncreasing-filter}
 use Rattle.std.proofs.lemmas.List.Elements.{All-from_recursion}
 use Rattle.cmh_frames.specs.Topology.{Topology, sites_of}
-use Rattle.cmh_model.specs.declared.journal.Entry.{Entry}
-use Rattle.cmh_model.specs.Runs.{IsBeginningOf, ComeFromRun, entries_of}
+use Rattle.cmh_frames.specs.declared.journal.Entry.{Entry}
+use Rattle.cmh_frames.specs.Runs.{IsBeginningOf, ComeFromRun, entries_of}
 use Rattle.cmh_journal.specs.Journal.{Journal}
-use Rattle.cmh_audit.specs.Journals.{journal_of, NoneAt, OneEach}
+use Rattle.cmh_audit.specs.Journals.{journal_of, NoneAt}
+use Rattle.cmh_audit.specs.Inner.Places.{OneEach}
 use Rattle.cmh_audit.specs.Inner.Merging.{taken_of, IsStuck}
 use Rattle.cmh_audit.specs.Set.{IsSet}
+use Rattle.cmh_audit.proofs.SetLemmas.{set_parts}
 use Rattle.cmh_audit.specs.Stops.{AreStops, before_stop}
 use Rattle.cmh_audit.specs.Inner.FoundStops.{stops_at}
-use Rattle.cmh_model.proofs.Beginnings.{length-beginning}
+use Rattle.cmh_frames.proofs.Beginnings.{length-beginning}
 use Rattle.cmh_audit.proofs.RunLemmas.{confluence}
 use Rattle.cmh_audit.proofs.Sums.{journal_none}
 use Rattle.cmh_audit.proofs.CountLemmas.{taken_here, journal_here, found}
@@ -132,7 +134,7 @@ pub before_is : (t : Topology) (js : List Journal) (counts : List ℕ) → IsSet
 before_is t js counts set stuck s =
     ⊎_elim
     (λ room. ⊎_elim
-    (λ f. let known : Contains (sites_of t) s = subst (Contains (sites_of t)) f.4 (subst (λ (y : Journal). Contains (sites_of t) y.site) (sym f.3) (set.known f.0 f.1 f.2)) in
+    (λ f. let known : Contains (sites_of t) s = subst (Contains (sites_of t)) f.4 (subst (λ (y : Journal). Contains (sites_of t) y.site) (sym f.3) ((set_parts t js set).known f.0 f.1 f.2)) in
     before_row (sites_of t) js counts s (journal_of js s) known.0 known.1 known.2 room ∙ front (taken_of js counts s) (journal_of js s) (stuck.within s))
     (λ none. let h : length (journal_of js s) ≡ 0 = ap length none in absurd (omega (arith, h, room)))
     (found js s))

@@ -5,20 +5,22 @@ use Rattle.std.proofs.Math.Seq.{take-append_seam, take-length}
 use Rattle.std.proofs.lemmas.Bool.{cases_lt}
 use Rattle.std.proofs.lemmas.List.{take-append-drop, take-append-le, take_all, take_more}
 use Rattle.cmh_frames.specs.Topology.{Topology}
-use Rattle.cmh_model.specs.declared.journal.Entry.{Entry}
-use Rattle.cmh_model.specs.declared.journal.Outcome.{Outcome}
-use Rattle.cmh_model.specs.Journals.{IsLawful, value}
-use Rattle.cmh_model.specs.Runs.{ComeFromRun}
-use Rattle.cmh_model.specs.Rules.{Accepts, Sends, after}
-use Rattle.cmh_model.specs.State.{empty_state}
-use Rattle.cmh_model.proofs.Journals.{lawful_front, lawful_rest, state_after-append}
-use Rattle.cmh_model.proofs.LongerRuns.{lawful_more}
+use Rattle.cmh_frames.specs.declared.journal.Entry.{Entry}
+use Rattle.cmh_frames.specs.declared.journal.Outcome.{Outcome}
+use Rattle.cmh_frames.specs.Journals.{IsLawful, value}
+use Rattle.cmh_frames.specs.Runs.{ComeFromRun}
+use Rattle.cmh_frames.specs.Rules.{Accepts, Sends, after}
+use Rattle.cmh_frames.specs.State.{empty_state}
+use Rattle.cmh_frames.proofs.Journals.{lawful_front, lawful_rest, state_after-append}
+use Rattle.cmh_frames.proofs.LongerRuns.{lawful_more}
 use Rattle.cmh_journal.specs.Journal.{Journal}
 use Rattle.cmh_controller.specs.Controller.{Controller}
 use Rattle.cmh_audit.specs.Inner.Merging.{AreLawfulLengths, IsLawfulLength, entry_counts}
 use Rattle.cmh_audit.specs.Inner.Walks.{GrowsBy, TotalsWith, Walks, WalksOn, cut_all_to}
-use Rattle.cmh_audit.specs.Journals.{journal_of, OneEach}
+use Rattle.cmh_audit.specs.Journals.{journal_of}
+use Rattle.cmh_audit.specs.Inner.Places.{OneEach}
 use Rattle.cmh_audit.specs.Set.{IsSet}
+use Rattle.cmh_audit.proofs.SetLemmas.{set_parts}
 use Rattle.cmh_audit.specs.Sums.{in_entries, in_journals}
 use Rattle.cmh_audit.specs.Totals.{Totals, AddsEntry, AreTotals, AreTotalsOf, AreTotalsOfRun, AreWithinLimit}
 use Rattle.cmh_audit.specs.declared.walk.Walk.{Walk}
@@ -165,5 +167,5 @@ run_totals t js limits totals set within comes are sums = record {
   set = set;
   limit = within;
   comes = comes;
-  sums = subst (λ (js : List Journal). AreTotalsOf js totals) (cut_whole js limits (cut_lawful t js limits set.once comes are)) sums;
+  sums = subst (λ (js : List Journal). AreTotalsOf js totals) (cut_whole js limits (cut_lawful t js limits (set_parts t js set).once comes are)) sums;
 }

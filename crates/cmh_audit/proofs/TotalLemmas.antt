@@ -10,34 +10,36 @@ use Rattle.cmh_frames.specs.declared.edition.Edition.{Edition}
 use Rattle.cmh_frames.specs.declared.frame.Frame.{Frame}
 use Rattle.cmh_frames.specs.declared.frame.Frame.TheVariants.{Request, Reply as Reply_frame, Probe}
 use Rattle.cmh_frames.specs.Topology.{Topology, sites_of}
-use Rattle.cmh_model.specs.declared.event.Event.{Event}
-use Rattle.cmh_model.specs.declared.event.Event.TheVariants.{Ask, Reply, Start, Got}
-use Rattle.cmh_model.specs.declared.journal.Entry.{Entry}
-use Rattle.cmh_model.specs.declared.journal.WorldEvent.{WorldEvent}
-use Rattle.cmh_model.specs.Laws.{AsksAndReplies, DarkPath}
-use Rattle.cmh_model.specs.State.{State, empty_state}
-use Rattle.cmh_model.specs.Rules.{Accepts, after}
-use Rattle.cmh_model.specs.Journals.{LawfulFrom, IsLawful, frames_to, frame_from, sendings_of, receipts_of}
-use Rattle.cmh_model.specs.Runs.{IsRun, ComesFrom, receipts, sendings, under_way}
-use Rattle.cmh_model.proofs.Beginnings.{beginning_refl}
-use Rattle.cmh_model.proofs.Journals.{whole}
-use Rattle.cmh_model.proofs.Members.{no_member}
-use Rattle.cmh_model.proofs.Strangers.{at_site}
+use Rattle.cmh_frames.specs.declared.event.Event.{Event}
+use Rattle.cmh_frames.specs.declared.event.Event.TheVariants.{Ask, Reply, Start, Got}
+use Rattle.cmh_frames.specs.declared.journal.Entry.{Entry}
+use Rattle.cmh_frames.specs.declared.journal.WorldEvent.{WorldEvent}
+use Rattle.cmh_frames.specs.Laws.{AsksAndReplies, DarkPath}
+use Rattle.cmh_frames.specs.State.{State, empty_state}
+use Rattle.cmh_frames.specs.Rules.{Accepts, after}
+use Rattle.cmh_frames.specs.Journals.{LawfulFrom, IsLawful, frames_to, frame_from, sendings_of, receipts_of}
+use Rattle.cmh_frames.specs.Runs.{IsRun, ComesFrom, receipts, sendings, under_way}
+use Rattle.cmh_frames.proofs.Beginnings.{beginning_refl}
+use Rattle.cmh_frames.proofs.Journals.{whole}
+use Rattle.cmh_frames.proofs.Members.{no_member}
+use Rattle.cmh_frames.proofs.Strangers.{at_site}
 use Rattle.cmh_journal.specs.Entries.{IsWhole}
 use Rattle.cmh_journal.specs.Journal.{Journal, entry_limit}
 use Rattle.cmh_journal.specs.WholeEntries.{EachEntryWhole}
 use Rattle.cmh_audit.specs.Declarations.{declares}
-use Rattle.cmh_audit.specs.Inner.Reporting.{IsReportWith}
-use Rattle.cmh_audit.specs.Journals.{journal_of, entry_count, OneEach}
-use Rattle.cmh_audit.specs.Reports.{Report, Reports, beside}
+use Rattle.cmh_audit.specs.Inner.Reporting.{IsReportWith, beside}
+use Rattle.cmh_audit.specs.Journals.{journal_of, entry_count}
+use Rattle.cmh_audit.specs.Inner.Places.{OneEach}
+use Rattle.cmh_audit.specs.Reports.{Report, Reports}
 use Rattle.cmh_audit.specs.Set.{IsSet}
+use Rattle.cmh_audit.proofs.SetLemmas.{set_parts}
 use Rattle.cmh_audit.specs.Sums.{in_entries, in_journals}
 use Rattle.cmh_audit.specs.Totals.{Totals, AddsEntry, AreTotals, AreTotalsOfRun, got_by, got_count, kept}
-use Rattle.cmh_audit.specs.Transit.{sum_over, in_transit, sent_count}
+use Rattle.cmh_audit.specs.Transit.{sent_count}
 use Rattle.cmh_audit.specs.Turns.{turned, turns}
 use Rattle.cmh_audit.proofs.AuditLemmas.{set_few}
 use Rattle.cmh_audit.proofs.CountLemmas.{journal_here}
-use Rattle.cmh_audit.proofs.CountingLemmas.{Apart, ascending_apart, entries_sent, frames_sum, journals_sum, sendings_sum, sum_le, sum_over-plus, sum_same, sum_zero}
+use Rattle.cmh_audit.proofs.CountingLemmas.{in_transit, sum_over, transit_is, Apart, ascending_apart, entries_sent, frames_sum, journals_sum, sendings_sum, sum_le, sum_over-plus, sum_same, sum_zero}
 use Rattle.cmh_cycles.proofs.Members.{contains_rest}
 use Rattle.cmh_audit.proofs.ReportLemmas.{waits_same, declared_same, on_cycles, firsts_found, beside_is, cycles_to}
 use Rattle.cmh_audit.proofs.Sums.{journal_none}
@@ -193,7 +195,7 @@ module _ (t : Topology) (js : List Journal) (set : IsSet t js) (apart : Apart (s
   journals_all : (f : Entry → ℕ) → sum_over (λ a. in_entries f (journal_of js a)) (sites_of t) ≡ in_journals f js
   journals_all f =
       let few = journals_sum f (sites_of t) js apart in
-      let all = journals_few f (sites_of t) js set.once (recursion_from_All (λ (j : Journal). Contains (sites_of t) j.site) js set.known) in
+      let all = journals_few f (sites_of t) js (set_parts t js set).once (recursion_from_All (λ (j : Journal). Contains (sites_of t) j.site) js (set_parts t js set).known) in
       omega (arith, few, all)
 
   lawful_at : (s : ℕ) → IsLawful t s (journal_of js s)
@@ -279,7 +281,7 @@ module _ (t : Topology) (js : List Journal) (totals : Totals) (of_run : AreTotal
   all_whole : AllByRecursion (λ (j : Journal). AllByRecursion (IsWhole t.edition) j.entries) js
   all_whole = recursion_from_All (λ (j : Journal). AllByRecursion (IsWhole t.edition) j.entries) js (λ k d l.
       let j : Journal = get_or js k d in
-      each j.site j.entries (subst (IsLawful t j.site) (journal_here js k j of_run.set.once l (get_or_default js k d j l))
+      each j.site j.entries (subst (IsLawful t j.site) (journal_here js k j (set_parts t js of_run.set).once l (get_or_default js k d j l))
       (subst (IsLawful t j.site) (of_run.comes.2 j.site) (of_run.comes.1.lawful j.site))))
 
   fits : Bounded js
@@ -303,7 +305,7 @@ module _ (t : Topology) (js : List Journal) (totals : Totals) (of_run : AreTotal
       ((events : List WorldEvent) → IsRun t events → AsksAndReplies events) → ((events : List WorldEvent) → IsRun t events → DarkPath t events) →
       (run : List WorldEvent) → IsRun t run → ComesFrom (journal_of js) run → Reports t run report
   total_report tries report made take_turns dark_path run is_run come =
-      let one = of_run.set.once in
+      let one = (set_parts t js of_run.set).once in
       let waits = waits_same t js run one is_run come (take_turns run is_run) report.waits (λ j k. (
         λ c. sym (of_run.sums.waits j k) ∙ (made.waits_are j k).0 c,
         λ h. (made.waits_are j k).1 (of_run.sums.waits j k ∙ h),
@@ -320,6 +322,6 @@ module _ (t : Topology) (js : List Journal) (totals : Totals) (of_run : AreTotal
         waits = waits;
         declared = declared;
         cycles = λ i. cycles_to report.waits run waits (beside report.declared report.cycles i) i (Contains report.declared i) (declared i) (beside_is report.waits report.declared report.cycles i firsts);
-        in_transit = transit;
+        in_transit = transit ∙ sym (transit_is t run);
         drained = (λ none. drained.0 (sym transit ∙ none), λ all. transit ∙ drained.1 all);
       }

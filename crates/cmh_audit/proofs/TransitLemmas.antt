@@ -7,21 +7,21 @@ use Rattle.std.proofs.lemmas.Bool.{cases_Bool}
 use Rattle.cmh_frames.specs.declared.frame.Frame.{Frame}
 use Rattle.cmh_frames.specs.declared.frame.Frame.TheVariants.{Request, Reply as Reply_frame, Probe}
 use Rattle.cmh_frames.specs.Topology.{Topology, home, At, is_at, site_of, sites_of, is_site}
-use Rattle.cmh_model.specs.declared.event.Event.{Event}
-use Rattle.cmh_model.specs.declared.event.Event.TheVariants.{Ask, Reply, Start, Got}
-use Rattle.cmh_model.specs.declared.journal.Entry.{Entry}
-use Rattle.cmh_model.specs.declared.journal.WorldEvent.{WorldEvent}
-use Rattle.cmh_model.specs.State.{State, empty_state}
-use Rattle.cmh_model.specs.Rules.{Accepts, Sends, after, requests, replies}
-use Rattle.cmh_model.specs.Journals.{LawfulFrom, frames_to, sendings_of}
-use Rattle.cmh_model.specs.Runs.{IsRun, IsDrained, IsBeginningOf, entries_of, sendings, receipts, under_way}
-use Rattle.cmh_model.proofs.Journals.{whole}
-use Rattle.cmh_model.proofs.Places.{site_of-at}
-use Rattle.cmh_model.proofs.Sent.{shape, answers_of, to_no, to-append}
-use Rattle.cmh_audit.specs.Transit.{sum_over, in_transit}
-use Rattle.cmh_model.proofs.Beginnings.{beginning_refl, empty_list}
-use Rattle.cmh_model.proofs.Members.{found_at, found_from}
-use Rattle.cmh_model.proofs.Strangers.{at_site, stranger_silent}
+use Rattle.cmh_frames.specs.declared.event.Event.{Event}
+use Rattle.cmh_frames.specs.declared.event.Event.TheVariants.{Ask, Reply, Start, Got}
+use Rattle.cmh_frames.specs.declared.journal.Entry.{Entry}
+use Rattle.cmh_frames.specs.declared.journal.WorldEvent.{WorldEvent}
+use Rattle.cmh_frames.specs.State.{State, empty_state}
+use Rattle.cmh_frames.specs.Rules.{Accepts, Sends, after, requests, replies}
+use Rattle.cmh_frames.specs.Journals.{LawfulFrom, frames_to, sendings_of}
+use Rattle.cmh_frames.specs.Runs.{IsRun, IsDrained, IsBeginningOf, entries_of, sendings, receipts, under_way}
+use Rattle.cmh_frames.proofs.Journals.{whole}
+use Rattle.cmh_frames.proofs.Places.{site_of-at}
+use Rattle.cmh_frames.proofs.Sent.{shape, answers_of, to_no, to-append}
+use Rattle.cmh_audit.proofs.CountingLemmas.{sum_over, in_transit}
+use Rattle.cmh_frames.proofs.Beginnings.{beginning_refl, empty_list}
+use Rattle.cmh_frames.proofs.Members.{found_at, found_from}
+use Rattle.cmh_frames.proofs.Strangers.{at_site, stranger_silent}
 
 -- ---- frames go to sites of the topology alone
 

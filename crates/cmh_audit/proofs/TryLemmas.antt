@@ -5,16 +5,18 @@ use Rattle.std.specs.List.{AllByRecursion}
 use Rattle.std.proofs.lemmas.List.Elements.{recursion_from_All}
 use Rattle.std.proofs.lemmas.Bool.{cases_eq, cases_lt, cases_Bool, ltb-true, ltb-false}
 use Rattle.std.proofs.lemmas.List.{take_more, get_or_default, get_or-set_same, get_or-set_other}
-use Rattle.cmh_model.proofs.Members.{no_member}
+use Rattle.cmh_frames.proofs.Members.{no_member}
 use Rattle.cmh_frames.specs.Topology.{Topology, sites_of}
-use Rattle.cmh_model.specs.declared.journal.Entry.{Entry}
+use Rattle.cmh_frames.specs.declared.journal.Entry.{Entry}
 use Rattle.cmh_journal.specs.Journal.{Journal}
-use Rattle.cmh_audit.specs.Journals.{journal_of, OneEach, entry_count}
+use Rattle.cmh_audit.specs.Journals.{journal_of, entry_count}
+use Rattle.cmh_audit.specs.Inner.Places.{OneEach}
 use Rattle.cmh_audit.specs.Inner.Merging.{taken_of, IsStuck, total, sent_by, AreTried}
 use Rattle.cmh_audit.specs.Sums.{in_entries}
 use Rattle.cmh_audit.specs.Transit.{sent_count}
 use Rattle.cmh_audit.specs.Inner.Ready.{ArePlaces}
 use Rattle.cmh_audit.specs.Set.{IsSet}
+use Rattle.cmh_audit.proofs.SetLemmas.{set_parts}
 use Rattle.cmh_audit.specs.Stops.{before_stop}
 use Rattle.cmh_audit.specs.Inner.FoundStops.{stops_at}
 use Rattle.cmh_audit.specs.Verdicts.{entries_before, sent_before}
@@ -189,7 +191,7 @@ looks_made t js counts tries apart set stuck tried =
     below : (k : ℕ) (j : Journal) → k < length js → j ≡ get_or js k j → length (before_stop (stops_at (sites_of t) js counts) j.site j.entries) ≤ get_or counts k 0
     below k j l here =
         let is : before_stop (stops_at (sites_of t) js counts) j.site j.entries ≡ take (get_or counts k 0) j.entries =
-        ap (before_stop (stops_at (sites_of t) js counts) j.site) (sym (journal_here js k j set.once l here)) ∙ before_is t js counts set stuck j.site ∙ taken_here js counts k j set.once stuck.each l here in
+        ap (before_stop (stops_at (sites_of t) js counts) j.site) (sym (journal_here js k j (set_parts t js set).once l here)) ∙ before_is t js counts set stuck j.site ∙ taken_here js counts k j (set_parts t js set).once stuck.each l here in
         let n = ap length is in
         let short = at_most (get_or counts k 0) j.entries in
         omega (arith, n, short)
@@ -202,7 +204,7 @@ looks_made t js counts tries apart set stuck tried =
 
     all : (sites : List ℕ) → AllByRecursion (λ s. length (taken_of js counts s) < length (journal_of js s) → Contains tried.failed s) sites
     all [] = tt
-    all (s ∷ sites) = (stops_tried js counts tries tried set.once stuck.each s, all sites)
+    all (s ∷ sites) = (stops_tried js counts tries tried (set_parts t js set).once stuck.each s, all sites)
 
 -- without a stop the entries are all
 pub no_stops : (js : List Journal) → entries_before [] js ≡ entry_count js
@@ -271,16 +273,16 @@ pub few_looks : (t : Topology) (js : List Journal) (counts : List ℕ) (tries : 
 few_looks t js counts tries apart set stuck tried =
     let rows = stops_at (sites_of t) js counts in
     let b = taken_before rows js counts stuck.each (λ k j l here. (
-      ap (before_stop rows j.site) (sym (journal_here js k j set.once l here)) ∙ before_is t js counts set stuck j.site ∙ taken_here js counts k j set.once stuck.each l here,
+      ap (before_stop rows j.site) (sym (journal_here js k j (set_parts t js set).once l here)) ∙ before_is t js counts set stuck j.site ∙ taken_here js counts k j (set_parts t js set).once stuck.each l here,
       tried.within k j l here,
     )) in
-    let present = recursion_from_All (λ s. Contains (map (λ (j : Journal). j.site) js) s) (sites_of t) set.present in
+    let present = recursion_from_All (λ s. Contains (map (λ (j : Journal). j.site) js) s) (sites_of t) (set_parts t js set).present in
     let whole = few_passed js counts (sites_of t) tried.passed apart (all (sites_of t) present) in
-    let few = few_journals js (sites_of t) set.once (recursion_from_All (λ (j : Journal). Contains (sites_of t) j.site) js set.known) in
+    let few = few_journals js (sites_of t) (set_parts t js set).once (recursion_from_All (λ (j : Journal). Contains (sites_of t) j.site) js (set_parts t js set).known) in
     let caused = tried.caused in
     let taken = b.0 in let sent = b.1 in
     omega (arith, whole, few, caused, taken, sent)
   where
     all : (sites : List ℕ) → AllByRecursion (λ s. Contains (map (λ (j : Journal). j.site) js) s) sites → AllByRecursion (λ s. (length (journal_of js s) ≤ length (taken_of js counts s)) → Contains tried.passed s) sites
     all [] present = tt
-    all (s ∷ sites) present = (whole_passed js counts tries tried set.once stuck.each s present.0, all sites present.1)
+    all (s ∷ sites) present = (whole_passed js counts tries tried (set_parts t js set).once stuck.each s present.0, all sites present.1)

@@ -3,20 +3,21 @@ use Rattle.std.proofs.Common.{◌≡◌, ℕ, zero, suc, ◌+◌, ◌<◌, ◌==
 use Rattle.std.specs.List.{list_any, AllByRecursion}
 use Rattle.std.proofs.lemmas.Bool.{ne_eqb}
 use Rattle.std.proofs.lemmas.List.{take_more}
-use Rattle.cmh_model.proofs.Sent.{count_ascending}
+use Rattle.cmh_frames.proofs.Sent.{count_ascending}
 use Rattle.cmh_frames.specs.Topology.{Topology}
-use Rattle.cmh_model.specs.declared.event.Event.{Event}
-use Rattle.cmh_model.specs.declared.event.Event.TheVariants.{Ask, Reply, Start, Got}
-use Rattle.cmh_model.specs.declared.journal.Entry.{Entry}
-use Rattle.cmh_model.specs.declared.journal.WorldEvent.{WorldEvent}
-use Rattle.cmh_model.specs.State.{State, empty_state}
-use Rattle.cmh_model.specs.Rules.{Accepts, after}
-use Rattle.cmh_model.specs.Journals.{LawfulFrom}
-use Rattle.cmh_model.specs.Runs.{IsRun, ComesFrom, entries_of}
-use Rattle.cmh_model.specs.Waits.{asks_for, grants, wait_after}
-use Rattle.cmh_model.specs.Laws.{bit, count_of, AsksAndReplies}
+use Rattle.cmh_frames.specs.declared.event.Event.{Event}
+use Rattle.cmh_frames.specs.declared.event.Event.TheVariants.{Ask, Reply, Start, Got}
+use Rattle.cmh_frames.specs.declared.journal.Entry.{Entry}
+use Rattle.cmh_frames.specs.declared.journal.WorldEvent.{WorldEvent}
+use Rattle.cmh_frames.specs.State.{State, empty_state}
+use Rattle.cmh_frames.specs.Rules.{Accepts, after}
+use Rattle.cmh_frames.specs.Journals.{LawfulFrom}
+use Rattle.cmh_frames.specs.Runs.{IsRun, ComesFrom, entries_of}
+use Rattle.cmh_frames.specs.Waits.{asks_for, grants, wait_after}
+use Rattle.cmh_frames.specs.Laws.{bit, count_of, AsksAndReplies}
 use Rattle.cmh_journal.specs.Journal.{Journal}
-use Rattle.cmh_audit.specs.Journals.{journal_of, OneEach}
+use Rattle.cmh_audit.specs.Journals.{journal_of}
+use Rattle.cmh_audit.specs.Inner.Places.{OneEach}
 use Rattle.cmh_audit.specs.Sums.{in_entries, in_journals}
 use Rattle.cmh_audit.specs.Inner.AllSums.{in_run}
 use Rattle.cmh_audit.specs.Turns.{turned, turns_of, turns, is_open, Turns}

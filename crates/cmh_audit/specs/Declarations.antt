@@ -1,8 +1,8 @@
 -- The processes that entries declare.
 use Rattle.std.specs.Prelude.{ℕ, ◌<◌, ◌↔◌, ◌⊎◌, List, Contains}
 use Rattle.cmh_frames.specs.Topology.{is_some_of}
-use Rattle.cmh_model.specs.declared.journal.Entry.{Entry}
-use Rattle.cmh_model.specs.Laws.{bit}
+use Rattle.cmh_frames.specs.declared.journal.Entry.{Entry}
+use Rattle.cmh_frames.specs.Laws.{bit}
 
 -- whether an entry declares i, as a number
 abbrev pub declares : ℕ → Entry → ℕ

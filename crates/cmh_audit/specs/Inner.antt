@@ -1,5 +1,6 @@
 -- The auditor's own words: of its merge, its counts and its search. No contract of what it gives to its callers cites
 -- them.
+pub mod Faults
 pub mod Merging
 pub mod Ready
 pub mod Places

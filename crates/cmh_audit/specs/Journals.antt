@@ -1,8 +1,8 @@
 -- The journals that an auditor is given, read by site number.
 use Rattle.std.specs.Prelude.{◌≢◌, ℕ, ◌+◌, List, [], ◌∷◌, length, All, ◌==◌, if◌then◌else◌}
 use Rattle.cmh_frames.specs.Topology.{Topology}
-use Rattle.cmh_model.specs.declared.journal.Entry.{Entry}
-use Rattle.cmh_model.specs.Journals.{IsLawful}
+use Rattle.cmh_frames.specs.declared.journal.Entry.{Entry}
+use Rattle.cmh_frames.specs.Journals.{IsLawful}
 use Rattle.cmh_journal.specs.Journal.{Journal}
 
 -- the entries of a site's journal; none where it has no journal
@@ -14,11 +14,6 @@ journal_of (j ∷ journals) site = if j.site == site then j.entries else journal
 abbrev pub NoneAt : ℕ → List Journal → Type 0
 NoneAt site [] = Unit {0}
 NoneAt site (j ∷ journals) = (j.site ≢ site) × NoneAt site journals
-
--- no two journals are of one site
-abbrev pub OneEach : List Journal → Type 0
-OneEach [] = Unit {0}
-OneEach (j ∷ journals) = NoneAt j.site journals × OneEach journals
 
 -- how many entries the journals have together
 abbrev pub entry_count : List Journal → ℕ

@@ -1,10 +1,10 @@
 -- What entries come to that were taken one after the other: enough for the report of an audit.
 use Rattle.std.specs.Prelude.{◌≡◌, ℕ, ◌+◌, ◌-◌, ◌^◌, ◌<◌, ◌≤◌, ◌↔◌, min, List, length, All, Contains, false}
 use Rattle.cmh_frames.specs.Topology.{Topology}
-use Rattle.cmh_model.specs.declared.event.Event.{Event}
-use Rattle.cmh_model.specs.declared.event.Event.TheVariants.{Ask, Reply, Start, Got}
-use Rattle.cmh_model.specs.declared.journal.Entry.{Entry}
-use Rattle.cmh_model.specs.Runs.{ComeFromRun}
+use Rattle.cmh_frames.specs.declared.event.Event.{Event}
+use Rattle.cmh_frames.specs.declared.event.Event.TheVariants.{Ask, Reply, Start, Got}
+use Rattle.cmh_frames.specs.declared.journal.Entry.{Entry}
+use Rattle.cmh_frames.specs.Runs.{ComeFromRun}
 use Rattle.cmh_journal.specs.Journal.{Journal, entry_limit}
 use Rattle.cmh_audit.specs.Declarations.{declares, HasMore}
 use Rattle.cmh_audit.specs.Journals.{journal_of}

@@ -1,30 +1,26 @@
 -- What the auditor answers.
-use Rattle.std.specs.Prelude.{◌≡◌, ℕ, ◌+◌, ◌*◌, ◌≤◌, ◌↔◌, List, [], ◌∷◌, length}
+use Rattle.std.specs.Prelude.{◌≡◌, ℕ, ◌+◌, ◌*◌, ◌≤◌, ◌↔◌, List, [], ◌∷◌, length, Result, Ok, Err, IsOk, IfOk, IfErr}
+use Rattle.std.specs.List.Sorted.{IsStrictlyIncreasing, IsStrictlySortedBy}
+use Rattle.cmh_frames.specs.Relation.{pair_cmp}
 use Rattle.cmh_frames.specs.Topology.{Topology}
-use Rattle.cmh_model.specs.declared.journal.WorldEvent.{WorldEvent}
-use Rattle.cmh_model.specs.Runs.{ComeFromRun, ComesFrom, IsRun}
+use Rattle.cmh_frames.specs.declared.journal.WorldEvent.{WorldEvent}
+use Rattle.cmh_frames.specs.Runs.{ComeFromRun, ComesFrom, IsRun}
 use Rattle.cmh_audit.specs.declared.verdict.Verdict.{Verdict}
 use Rattle.cmh_audit.specs.declared.verdict.Verdict.TheVariants.{Accepted, Refused}
-use Rattle.cmh_audit.specs.Reports.{Report, Reports, IsInOrder}
+use Rattle.cmh_audit.specs.Reports.{Report, Reports}
 use Rattle.cmh_journal.specs.Journal.{Journal}
 use Rattle.cmh_audit.specs.Journals.{journal_of, entry_count}
 use Rattle.cmh_audit.specs.Stops.{Stops, before_stop, AreStops}
 use Rattle.cmh_audit.specs.Sums.{in_entries}
 use Rattle.cmh_audit.specs.Transit.{sent_count}
 
+-- the report of journals that were accepted, or else the stops
+abbrev pub as_result : Verdict → Result Report Stops
+as_result (Accepted report) = Ok report
+as_result (Refused stops) = Err stops
+
 abbrev pub IsAccepted : Verdict → Type 0
-IsAccepted (Accepted report) = Unit {0}
-IsAccepted (Refused stops) = ⊥
-
--- a fact of the report, if the journals were accepted
-abbrev pub IfAccepted : Verdict → (Report → Type 0) → Type 0
-IfAccepted (Accepted report) P = P report
-IfAccepted (Refused stops) P = Unit {0}
-
--- a fact of the stops, if they were refused
-abbrev pub IfRefused : Verdict → (Stops → Type 0) → Type 0
-IfRefused (Accepted report) P = Unit {0}
-IfRefused (Refused stops) P = P stops
+IsAccepted verdict = IsOk (as_result verdict)
 
 abbrev pub tries_of : Verdict → ℕ
 tries_of (Accepted report) = report.tries
@@ -57,9 +53,10 @@ looks_caused journals (Refused stops) = looks_due journals (Refused stops) + sen
 -- the report holds of every such run
 pub record IsVerdictOn (t : Topology) (journals : List Journal) (verdict : Verdict) : Type 0 where
   pub accepted : IsAccepted verdict ↔ ComeFromRun t (journal_of journals)
-  pub report : IfAccepted verdict (λ report. (events : List WorldEvent) → IsRun t events
+  pub report : IfOk (as_result verdict) (λ report. (events : List WorldEvent) → IsRun t events
       → ComesFrom (journal_of journals) events → Reports t events report)
-  pub order : IfAccepted verdict IsInOrder
-  pub counted : IfAccepted verdict (λ report. report.events ≡ entry_count journals)
-  pub stops : IfRefused verdict (λ stops. AreStops t journals stops.rows)
+  pub order : IfOk (as_result verdict) (λ report. IsStrictlySortedBy pair_cmp report.waits
+      × IsStrictlyIncreasing report.declared)
+  pub counted : IfOk (as_result verdict) (λ report. report.events ≡ entry_count journals)
+  pub stops : IfErr (as_result verdict) (λ stops. AreStops t journals stops.rows)
   pub tries : tries_of verdict ≤ (entry_count journals + 1) * length journals

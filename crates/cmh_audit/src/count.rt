@@ -4,7 +4,7 @@ ghost use Rattle.std.specs.Prelude.{◌≡◌, ◌*◌, ◌≤◌, length};
 ghost use Rattle.cmh_audit.specs.Journals.{entry_count};
 ghost use Rattle.cmh_audit.specs.Totals.{AreWithinLimit};
 
-use cmh_stored::StoredJournal;
+use cmh_journal::StoredJournal;
 
 /// How many entries the journals have together.
 pub fn count_entries(journals: &[StoredJournal<'_>]) -> u64

@@ -4,7 +4,7 @@ ghost use Rattle.std.specs.Prelude.{◌≡◌, ◌==◌, OnOk, IfOk};
 ghost use Rattle.std.specs.BTreeSet.{keys, IsOrdered};
 ghost use Rattle.std.specs.Ordering.{nat_cmp};
 ghost use Rattle.cmh_frames.specs.Topology.{is_some_of};
-ghost use Rattle.cmh_model.specs.Laws.{bit};
+ghost use Rattle.cmh_frames.specs.Laws.{bit};
 ghost use Rattle.cmh_audit.specs.Declarations.{HasMore};
 
 use cmh_frames::ProcId;

@@ -4,9 +4,8 @@ ghost use Rattle.std.specs.Prelude.{◌≡◌, ◌≤◌, length};
 ghost use Rattle.cmh_journal.specs.Journal.{entry_limit};
 ghost use Rattle.cmh_audit.specs.Journals.{journal_of};
 
-use cmh_frames::SiteId;
+use cmh_frames::{Entry, SiteId};
 use cmh_journal::Journal;
-use cmh_model::Entry;
 
 /// The entries of a site's journal; none where it has none.
 pub fn entries_at(journals: &[Journal], site: SiteId) -> &[Entry]

@@ -1,7 +1,8 @@
 //! The merge of journals: entries are taken, one at a time, while any can be.
 
 ghost use Rattle.std.specs.Prelude.{◌≡◌, ◌+◌, ◌*◌, ◌≤◌, ◌<◌, ◌^◌, length, OnOk, IfOk, IfNone, MatchBool, MatchOption, [], ◌∷◌, ◌++◌, if◌then◌else◌};
-ghost use Rattle.cmh_audit.specs.Journals.{OneEach, entry_count};
+ghost use Rattle.cmh_audit.specs.Journals.{entry_count};
+ghost use Rattle.cmh_audit.specs.Inner.Places.{OneEach};
 ghost use Rattle.cmh_audit.specs.Inner.Merging.{AreLawfulLengths, entries_each, ReceivesFrame, LacksFrame, SendsFrames, IsStuck, AreTried};
 ghost use Rattle.cmh_audit.specs.Inner.Orders.{IsOrder};
 ghost use Rattle.cmh_audit.specs.Inner.Ready.{Wakes, ArePlaces, with_turn};
@@ -9,7 +10,7 @@ ghost use Rattle.cmh_audit.specs.Inner.Ready.{Wakes, ArePlaces, with_turn};
 use crate::places::Places;
 use crate::step::Step;
 use cmh_frames::{SiteId, Topology};
-use cmh_stored::{Entries, StoredEntry, StoredJournal};
+use cmh_journal::{Entries, StoredEntry, StoredJournal};
 use cmh_world::Links;
 use std::alloc::{AllocError, Global};
 
@@ -23,6 +24,15 @@ pub struct Merged {
 
     /// How often it was looked whether a site's next entry can be taken.
     pub tries: u64,
+}
+
+/// Whose turn comes, and who lacks a frame.
+#[derive(Drop)]
+struct Schedule {
+    /// The places of sites whose turn is still to come, the next one last.
+    ready: Vec<usize>,
+    /// At the place of each site that lacks a frame, the frame's sender.
+    lacks: Vec<Option<SiteId>>,
 }
 
 /// Takes entries while any can be taken. A site that lacks a frame is tried again only after the frame's sender sent
@@ -49,28 +59,29 @@ pub fn merge(
     let mut walks = walks_of(alloc, journals)?;
     let mut taken = vec![in alloc; 0; journals.len()]?;
     let mut steps = Vec::new(alloc);
-    let mut lacks: Vec<Option<SiteId>> = vec![in alloc; None; journals.len()]?;
+    let lacks: Vec<Option<SiteId>> = vec![in alloc; None; journals.len()]?;
     let mut ready = all_below(alloc, journals.len())?;
     let mut tries: u64 = 0;
     let mut turn = last_of(&mut ready);
+    let mut schedule = Schedule { ready, lacks };
     while let Some(i) = turn {
         let site = journals[i].site();
         let at = taken[i];
         let Some(entry) = walks[i].first() else {
-            turn = last_of(&mut ready);
+            turn = last_of(&mut schedule.ready);
             continue;
         };
         tries += 1;
         if at >= limits[i] {
-            turn = last_of(&mut ready);
+            turn = last_of(&mut schedule.ready);
             continue;
         }
         if let Some(from) = receive(&mut links, site, &entry) {
-            lacks[i] = Some(from);
-            turn = last_of(&mut ready);
+            schedule.lacks[i] = Some(from);
+            turn = last_of(&mut schedule.ready);
             continue;
         }
-        send_all(&mut links, &mut ready, &mut lacks, &places, site, &entry)?;
+        send_all(&mut links, &mut schedule, &places, site, &entry)?;
         let step = Step {
             journal: i,
             entry: at,
@@ -131,25 +142,24 @@ fn receive(links: &mut Links, site: SiteId, entry: &StoredEntry<'_>) -> Option<S
 #[inline(always)]
 fn send_all(
     links: &mut Links,
-    ready: &mut Vec<usize>,
-    lacks: &mut Vec<Option<SiteId>>,
+    schedule: &mut Schedule,
     places: &Places<'_, '_>,
     from: SiteId,
     entry: &StoredEntry<'_>,
 ) -> Result<(), AllocError>
     requires once { OneEach places.now }
-    requires long { length lacks.old.items ≡ length places.now }
+    requires long { length schedule.old.lacks.items ≡ length places.now }
     ensures sends { OnOk result (SendsFrames links.old links.new from entry.now.sent) }
-    ensures wakes { OnOk result (Wakes places.now entry.now.sent ready.old.items ready.new.items lacks.old.items
-        lacks.new.items from) }
+    ensures wakes { OnOk result (Wakes places.now entry.now.sent schedule.old.ready.items schedule.new.ready.items
+        schedule.old.lacks.items schedule.new.lacks.items from) }
 {
     let mut left = entry.outcome();
     while let Some((to, frame)) = left.next_sent() {
         links.send(from, to, frame)?;
         if let Some(k) = places.find(to) {
-            if lacks[k] == Some(from) {
-                lacks[k] = None;
-                ready.push(k)?;
+            if schedule.lacks[k] == Some(from) {
+                schedule.lacks[k] = None;
+                schedule.ready.push(k)?;
             }
         }
     }

@@ -2,7 +2,7 @@
 
 ghost use Rattle.std.specs.Prelude.{◌≡◌, ◌↔◌, ◌++◌, ◌<◌, ℕ, false, true, map, length, Contains, OnOk, OnErr, IfOk};
 ghost use Rattle.std.specs.List.Sorted.{IsStrictlySortedBy};
-ghost use Rattle.cmh_model.specs.Relation.{pair_cmp};
+ghost use Rattle.cmh_frames.specs.Relation.{pair_cmp};
 ghost use Rattle.cmh_audit.specs.Turns.{is_open, Turns};
 ghost use Rattle.cmh_audit.specs.Inner.Turns.{one_at, SameOpen};
 

@@ -6,7 +6,7 @@ ghost use Rattle.cmh_journal.specs.Journal as journal;
 ghost use Rattle.cmh_audit.specs.Journals.{NoneAt};
 
 use cmh_frames::SiteId;
-use cmh_stored::StoredJournal;
+use cmh_journal::StoredJournal;
 use std::alloc::{AllocError, Global};
 use std::marker::Model;
 

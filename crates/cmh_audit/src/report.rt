@@ -3,9 +3,9 @@
 ghost use Rattle.std.specs.Prelude.{◌≡◌, ℕ, ◌<◌, ◌^◌, List, length, IfOk, IfSome, IfNone, Some, None, Contains};
 ghost use Rattle.std.specs.List.Sorted.{IsStrictlyIncreasing, IsStrictlySortedBy};
 ghost use Rattle.cmh_cycles.specs.Graphs.{IsGraph};
-ghost use Rattle.cmh_audit.specs.Reports.{beside, cycle_of};
+ghost use Rattle.cmh_audit.specs.Reports.{cycle_of};
 ghost use Rattle.cmh_audit.specs.Inner.FoundCycles.{AreFoundCycles, IsFoundCycle};
-ghost use Rattle.cmh_audit.specs.Inner.Reporting.{IsReportWith};
+ghost use Rattle.cmh_audit.specs.Inner.Reporting.{IsReportWith, beside};
 
 use crate::declared::processes_of;
 use crate::open_waits::OpenWaits;
@@ -122,27 +122,33 @@ impl Report {
     }
 }
 
+/// What a report counts: entries, frames that were sent and not got, and looks at a site's next entry.
+#[derive(Clone, Copy)]
+pub struct Counts {
+    pub events: u64,
+    pub in_transit: u64,
+    pub tries: u64,
+}
+
 /// The report of these open waits and these declared processes, with these counts.
 pub fn report_with(
     alloc: Global,
     waits: &OpenWaits,
     declared: &BTreeSet<ProcId>,
-    events: u64,
-    in_transit: u64,
-    tries: u64,
+    counts: Counts,
 ) -> Result<Report, AllocError>
-    ensures { IfOk result (IsReportWith waits.now declared.now.keys events in_transit tries) }
+    ensures { IfOk result (IsReportWith waits.now declared.now.keys counts.events counts.in_transit counts.tries) }
 {
     let graph = Graph::new(alloc, waits.pairs(alloc)?)?;
     let declared = processes_of(alloc, declared)?;
     let cycles = cycles_of(alloc, &graph, &declared)?;
     Ok(Report {
-        events,
+        events: counts.events,
         waits: graph.waits,
         declared,
         cycles,
-        in_transit,
-        tries,
+        in_transit: counts.in_transit,
+        tries: counts.tries,
     })
 }
 

@@ -1,7 +1,7 @@
 //! A run from which journals come.
 
 ghost use Rattle.std.specs.Prelude.{IfOk, MatchOption};
-ghost use Rattle.cmh_model.specs.Runs.{ComeFromRun};
+ghost use Rattle.cmh_frames.specs.Runs.{ComeFromRun};
 ghost use Rattle.cmh_audit.specs.Journals.{journal_of};
 ghost use Rattle.cmh_audit.specs.Runs.{IsRunOf};
 ghost use Rattle.cmh_audit.specs.Set.{IsSet};
@@ -13,7 +13,7 @@ use crate::stops::stops_of;
 use crate::survey::survey_of;
 use crate::verdict::AuditMemory;
 use cmh_frames::Topology;
-use cmh_stored::StoredJournal;
+use cmh_journal::StoredJournal;
 use std::alloc::Global;
 
 /// One run from which the journals of all sites come, as the places of its entries: a certificate of an accepted audit,

@@ -1,12 +1,12 @@
 //! Where a merge stopped.
 
 ghost use Rattle.std.specs.Prelude.{◌≡◌, length, IfOk};
-ghost use Rattle.cmh_audit.specs.Journals.{OneEach};
+ghost use Rattle.cmh_audit.specs.Inner.Places.{OneEach};
 ghost use Rattle.cmh_audit.specs.Inner.FoundStops.{stops_at};
 
 use crate::set::place_of;
 use cmh_frames::SiteId;
-use cmh_stored::StoredJournal;
+use cmh_journal::StoredJournal;
 use std::alloc::{AllocError, Global};
 use std::marker::Model;
 

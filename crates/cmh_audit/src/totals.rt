@@ -1,8 +1,8 @@
 //! What entries come to, kept while they are taken.
 
 ghost use Rattle.std.specs.Prelude.{◌≡◌, List, [], IfOk, OnOk};
-ghost use Rattle.cmh_model.specs.declared.journal.WorldEvent.{WorldEvent};
-ghost use Rattle.cmh_model.specs.Runs.{ComesFrom, IsRun};
+ghost use Rattle.cmh_frames.specs.declared.journal.WorldEvent.{WorldEvent};
+ghost use Rattle.cmh_frames.specs.Runs.{ComesFrom, IsRun};
 ghost use Rattle.cmh_journal.specs.Journal as journal;
 ghost use Rattle.cmh_audit.specs.Journals.{journal_of, entry_count};
 ghost use Rattle.cmh_audit.specs.Reports.{IsInOrder, Reports};
@@ -11,12 +11,11 @@ ghost use Rattle.cmh_audit.specs.Verdicts.{IsVerdictOn, tries_of};
 
 use crate::declared::declare;
 use crate::open_waits::OpenWaits;
-use crate::report::{Report, report_with};
+use crate::report::{Counts, Report, report_with};
 use crate::verdict::{AuditMemory, Verdict};
 use crate::waits::turn_event;
-use cmh_frames::{ProcId, Topology};
+use cmh_frames::{Event, Outcome, ProcId, Topology};
 use cmh_journal::whole_law;
-use cmh_model::{Event, Outcome};
 use cmh_world::{count_law_of_every_run, dark_path_of_every_run};
 use std::alloc::{AllocError, Global};
 use std::collections::BTreeSet;
@@ -115,14 +114,12 @@ impl Totals {
         count_law_of_every_run(topology);
         dark_path_of_every_run(topology);
         let in_transit = self.sent.saturating_sub(self.got);
-        report_with(
-            alloc,
-            &self.waits,
-            &self.declared,
-            self.events,
+        let counts = Counts {
+            events: self.events,
             in_transit,
             tries,
-        )
+        };
+        report_with(alloc, &self.waits, &self.declared, counts)
     }
 }
 

@@ -1,8 +1,8 @@
 //! The auditor's verdict.
 
-ghost use Rattle.std.specs.Prelude.{◌≡◌, ◌↔◌, ◌+◌, ◌*◌, ◌≤◌, List, length, IfOk};
-ghost use Rattle.cmh_model.specs.declared.journal.WorldEvent.{WorldEvent};
-ghost use Rattle.cmh_model.specs.Runs.{ComeFromRun, ComesFrom, IsRun};
+ghost use Rattle.std.specs.Prelude.{◌≡◌, ◌↔◌, ◌+◌, ◌*◌, ◌≤◌, List, length, IfErr, IfOk};
+ghost use Rattle.cmh_frames.specs.declared.journal.WorldEvent.{WorldEvent};
+ghost use Rattle.cmh_frames.specs.Runs.{ComeFromRun, ComesFrom, IsRun};
 ghost use Rattle.cmh_audit.specs.Inner.Merging.{AreLawfulLengths};
 ghost use Rattle.cmh_audit.specs.Inner.Walks.{cut_all_to};
 ghost use Rattle.cmh_audit.specs.Journals.{journal_of, entry_count};
@@ -10,7 +10,7 @@ ghost use Rattle.cmh_audit.specs.Reports.{Reports, IsInOrder};
 ghost use Rattle.cmh_audit.specs.Set.{IsSet};
 ghost use Rattle.cmh_audit.specs.Stops.{AreStops};
 ghost use Rattle.cmh_audit.specs.Totals.{AreTotalsOf};
-ghost use Rattle.cmh_audit.specs.Verdicts.{IsAccepted, IfAccepted, IfRefused, IsVerdictOn, tries_of, looks_due, looks_caused};
+ghost use Rattle.cmh_audit.specs.Verdicts.{IsAccepted, IsVerdictOn, as_result, tries_of, looks_due, looks_caused};
 
 use crate::count::count_entries;
 use crate::merge::merge;
@@ -18,7 +18,7 @@ use crate::report::Report;
 use crate::stops::{Stops, stops_of};
 use crate::survey::{Survey, survey_of};
 use cmh_frames::Topology;
-use cmh_stored::StoredJournal;
+use cmh_journal::StoredJournal;
 use std::alloc::{AllocError, Global};
 use thiserror::Error;
 
@@ -57,13 +57,13 @@ pub fn audit(
     ensures accepted { IfOk result (λ v. IsAccepted v ↔ ComeFromRun topology.now (journal_of journals.now)) }
 
     // The report holds of every run from which they come.
-    ensures report { IfOk result (λ v. IfAccepted v (λ report. (events : List WorldEvent) → IsRun topology.now events
+    ensures report { IfOk result (λ v. IfOk (as_result v) (λ report. (events : List WorldEvent) → IsRun topology.now events
         → ComesFrom (journal_of journals.now) events → Reports topology.now events report)) }
-    ensures order { IfOk result (λ v. IfAccepted v IsInOrder) }
-    ensures events { IfOk result (λ v. IfAccepted v (λ report. report.events ≡ entry_count journals.now)) }
+    ensures order { IfOk result (λ v. IfOk (as_result v) IsInOrder) }
+    ensures events { IfOk result (λ v. IfOk (as_result v) (λ report. report.events ≡ entry_count journals.now)) }
 
     // The stops are the furthest that any run of these journals' beginnings gets.
-    ensures stops { IfOk result (λ v. IfRefused v (λ stops. AreStops topology.now journals.now stops.rows)) }
+    ensures stops { IfOk result (λ v. IfErr (as_result v) (λ stops. AreStops topology.now journals.now stops.rows)) }
     ensures tries { IfOk result (λ v. tries_of v ≤ (entry_count journals.now + 1) * length journals.now) }
 
     // Each entry that was taken was looked at, and each at which a site stops.

@@ -3,12 +3,11 @@
 //! Asks and replies of two processes take turns, so one waits for the other where their number is odd.
 
 ghost use Rattle.std.specs.Prelude.{OnOk, if◌then◌else◌, ◌==◌};
-ghost use Rattle.cmh_model.specs.Laws.{count_of};
+ghost use Rattle.cmh_frames.specs.Laws.{count_of};
 ghost use Rattle.cmh_audit.specs.Turns.{turns_of, Turns};
 
 use crate::open_waits::OpenWaits;
-use cmh_frames::ProcId;
-use cmh_model::Event;
+use cmh_frames::{Event, ProcId};
 use std::alloc::AllocError;
 
 /// Turns the wait of the asker for each target.

@@ -5,10 +5,9 @@ ghost use Rattle.std.specs.Prelude.{◌≡◌, None};
 
 use crate::world::{World, refused};
 use cmh_carriers::{Listen, TcpDial, TcpListen};
-use cmh_frames::{Edition, Frame, ProcId, SiteId};
+use cmh_frames::{Edition, Event, Frame, ProcId, SiteId, Targets};
 use cmh_journal::MemSink;
 use cmh_links::{Handover, LinkTable, SharedLinks, SiteThreads, run_reader};
-use cmh_model::{Event, Targets};
 use cmh_reader::FrameReader;
 use cmh_station::{KeptBoard, SharedStation, Station, StationRefusal};
 use std::alloc::Global;

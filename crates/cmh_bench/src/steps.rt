@@ -4,8 +4,8 @@ ghost use Rattle.std.specs.Prelude.{◌-◌, ◌<◌, ◌^◌, ◌≡◌, [], If
 
 use crate::world::{ROUND, World, refused};
 use cmh_controller::Controller;
+use cmh_frames::Event;
 use cmh_journal::Sink;
-use cmh_model::Event;
 use cmh_station::{BATCH_LIMIT, JournaledController, LinkTap};
 use std::alloc::Global;
 use std::io;

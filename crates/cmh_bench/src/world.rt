@@ -1,7 +1,8 @@
 //! The sites at which is measured, and the events of a round.
 
-use cmh_frames::{Edition, Frame, Probe, ProcId, Reply, Request, SiteId, SiteRow, Topology};
-use cmh_model::{Event, Targets};
+use cmh_frames::{
+    Edition, Event, Frame, Probe, ProcId, Reply, Request, SiteId, SiteRow, Targets, Topology,
+};
 use std::alloc::{AllocError, Global};
 use std::io;
 

@@ -2,7 +2,6 @@
 use Rattle.std.proofs.Common.{◌≡◌, ◌≢◌, ℕ, zero, suc, ◌+◌, ◌<◌, ◌≤◌, List, [], ◌∷◌, ◌++◌, length, drop, get_or, map, ◌==◌, false, true≢false, refl, sym, ap, ◌∙◌, arith, append_assoc, append-nil, length-append}
 use Rattle.std.specs.List.{concat, sum}
 use Rattle.std.proofs.lemmas.List.Sums.{sum_by-append, sum_by-cons}
-use Rattle.cmh_c.specs.Auditing.{AreFiles}
 
 -- the parts so far, and what is left of the bytes and of the lengths
 pub record SplitSoFar (parts : List (List ℕ)) (rest files lens : List ℕ) (i : ℕ) : Type 0 where
@@ -54,11 +53,11 @@ split_more items parts file rest after files lens i d so_far within is long = re
 }
 
 -- all files
-pub split_whole : (parts : List (List ℕ)) (rest files lens : List ℕ) (i : ℕ) → SplitSoFar parts rest files lens i → length lens ≤ i → rest ≡ [] → AreFiles files lens parts
-split_whole parts rest files lens i so_far past none = record {
-  bytes_are = sym so_far.bytes_are ∙ ap (λ l. concat parts ++ l) none ∙ append-nil (concat parts);
-  lens_are = sym so_far.lens_are ∙ ap (λ l. map length parts ++ l) (none_after lens i past) ∙ append-nil (map length parts);
-}
+pub whole_bytes : (parts : List (List ℕ)) (rest files lens : List ℕ) (i : ℕ) → SplitSoFar parts rest files lens i → rest ≡ [] → files ≡ concat parts
+whole_bytes parts rest files lens i so_far none = sym so_far.bytes_are ∙ ap (λ l. concat parts ++ l) none ∙ append-nil (concat parts)
+
+pub whole_lens : (parts : List (List ℕ)) (rest files lens : List ℕ) (i : ℕ) → SplitSoFar parts rest files lens i → length lens ≤ i → lens ≡ map length parts
+whole_lens parts rest files lens i so_far past = sym so_far.lens_are ∙ ap (λ l. map length parts ++ l) (none_after lens i past) ∙ append-nil (map length parts)
 
 -- how many bytes there are, and how many the lengths say
 bytes_in : (parts : List (List ℕ)) (rest files lens : List ℕ) (i : ℕ) → SplitSoFar parts rest files lens i → length files + sum (drop i lens) ≡ sum lens + length rest

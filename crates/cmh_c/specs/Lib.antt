@@ -4,4 +4,3 @@ pub mod Entries
 pub mod Inner
 pub mod Opening
 pub mod Reading
-pub mod Words

@@ -1,15 +1,16 @@
 //! Audits.
 
-ghost use Rattle.std.specs.Prelude.{◌≡◌, ◌≢◌, ◌<◌, [], ◌∷◌, ◌++◌, IfErr, IfOk, Some, length, map, string_bytes};
+ghost use Rattle.std.specs.Prelude.{◌≡◌, ◌≢◌, ◌<◌, ℕ, List, [], ◌∷◌, ◌++◌, IfErr, IfOk, length, map, string_bytes};
+ghost use Rattle.std.specs.List.{concat};
 ghost use Rattle.cmh_console.specs.Faults.{fault_text};
-ghost use Rattle.cmh_c.specs.Auditing as spec;
-ghost use Rattle.cmh_c.specs.Auditing.{AreFiles, IsTooLong, Says, Tells};
-ghost use Rattle.cmh_c.specs.Codes.{Answers};
+ghost use Rattle.cmh_seat.specs.Fills.{Fills};
+ghost use Rattle.cmh_c.specs.Auditing.{AreNoFiles, Says};
+ghost use Rattle.cmh_c.specs.Inner.Faults.{code_of_call};
 
-use crate::codes::{DONE, SHORT};
+use crate::codes::{CallFault, DONE, SHORT};
 use cmh_console::Fault;
 use cmh_files::audit_files;
-use std::alloc::{AllocError, AllocFailed, Global};
+use std::alloc::{AllocError, Global};
 use std::fmt;
 
 /// What an audit tells: its lines, and the status with which `cmh audit` ends.
@@ -17,48 +18,6 @@ use std::fmt;
 struct AuditAnswer {
     text: String,
     status: u8,
-}
-
-/// Why an audit tells nothing.
-#[derive(Clone, Copy, Debug, PartialEq, Eq)]
-pub enum AuditFault {
-    /// The lengths of the files don't sum to the bytes that there are.
-    Files,
-    /// Out of memory.
-    Memory,
-}
-
-impl AuditFault {
-    /// The number that C is answered.
-    fn code(self) -> u32
-        ensures value { result ≡ spec.code_of_audit self }
-        ensures positive { 0 < result }
-    {
-        match self {
-            AuditFault::Files => 30,
-            AuditFault::Memory => 11,
-        }
-    }
-}
-
-impl From<AllocError> for AuditFault {
-    ghost use Rattle.cmh_c.specs.declared.audits.AuditFault.TheVariants.{Memory};
-
-    ghost from_gives = { λ _ fault. fault ≡ Memory };
-
-    fn from(_: AllocError) -> AuditFault {
-        AuditFault::Memory
-    }
-}
-
-impl<T: Drop> From<AllocFailed<T>> for AuditFault {
-    ghost use Rattle.cmh_c.specs.declared.audits.AuditFault.TheVariants.{Memory};
-
-    ghost from_gives = { λ _ fault. fault ≡ Memory };
-
-    fn from(_: AllocFailed<T>) -> AuditFault {
-        AuditFault::Memory
-    }
 }
 
 /// Writes what `cmh audit` prints of these files to `out`, how long it is, and the status. The files stand one after the
@@ -73,12 +32,14 @@ pub extern "C" fn cmh_audit(
     count: &mut usize,
     status: &mut u8,
 ) -> u32
-    ensures told { result ≡ 0 → Tells world.now files.now lens.now out.old out.new count.new status.new }
+    ensures told { result ≡ 0 → ((text : List ℕ) × Says world.now files.now lens.now text status.new
+        × Fills text out.old out.new count.new) }
     ensures out { 0 < result → out.new ≡ out.old }
     ensures status { 0 < result → status.new ≡ status.old }
-    ensures short { result ≡ 21 → IsTooLong world.now files.now lens.now (length out.old) count.new }
+    ensures short { result ≡ 21 → ((text : List ℕ) × (told : ℕ) × Says world.now files.now lens.now text told
+        × (length out.old < length text) × (count.new ≡ length text)) }
     ensures count { 0 < result → result ≢ 21 → count.new ≡ count.old }
-    ensures code { 0 < result → result ≢ 21 → Answers (spec.IsAuditFault files.now lens.now) spec.code_of_audit result }
+    ensures code { 0 < result → result ≢ 21 → AreNoFiles result files.now lens.now }
 {
     match audited_of(alloc, world, files, lens) {
         Ok(told) => {
@@ -100,9 +61,9 @@ fn audited_of(
     world: &[u8],
     files: &[u8],
     lens: &[usize],
-) -> Result<AuditAnswer, AuditFault>
-    ensures told { IfOk result (λ told. spec.SaysOf world.now files.now lens.now (string_bytes told.text) told.status) }
-    ensures fault { IfErr result (spec.IsAuditFault files.now lens.now) }
+) -> Result<AuditAnswer, CallFault>
+    ensures told { IfOk result (λ told. Says world.now files.now lens.now (string_bytes told.text) told.status) }
+    ensures fault { IfErr result (λ fault. AreNoFiles (code_of_call fault) files.now lens.now) }
 {
     let files = split(alloc, files, lens)?;
     match audit_files(alloc, world, &files) {
@@ -110,7 +71,7 @@ fn audited_of(
             text: audited.text(alloc)?,
             status: audited.status(),
         }),
-        Err(Fault::Memory) => Err(AuditFault::Memory),
+        Err(Fault::Memory) => Err(CallFault::Memory),
         Err(fault) => Ok(AuditAnswer {
             text: line_of(alloc, fault)?,
             status: 3,
@@ -119,15 +80,16 @@ fn audited_of(
 }
 
 /// The files, of which each has the length that is told, one after the other.
-fn split(alloc: Global, files: &[u8], lens: &[usize]) -> Result<Vec<Vec<u8>>, AuditFault>
-    ensures split { IfOk result (λ split. AreFiles files.now lens.now (map (λ file. file.items) split.items)) }
-    ensures fault { IfErr result (spec.IsAuditFault files.now lens.now) }
+fn split(alloc: Global, files: &[u8], lens: &[usize]) -> Result<Vec<Vec<u8>>, CallFault>
+    ensures bytes { IfOk result (λ split. files.now ≡ concat (map (λ file. file.items) split.items)) }
+    ensures lens { IfOk result (λ split. lens.now ≡ map length (map (λ file. file.items) split.items)) }
+    ensures fault { IfErr result (λ fault. AreNoFiles (code_of_call fault) files.now lens.now) }
 {
     let mut split = Vec::new(alloc);
     let mut rest = files;
     for len in lens {
         if rest.len() < *len {
-            return Err(AuditFault::Files);
+            return Err(CallFault::Files);
         }
         let (file, after) = rest.split_at(*len);
         split.push(file.to_vec(alloc)?)?;
@@ -136,7 +98,7 @@ fn split(alloc: Global, files: &[u8], lens: &[usize]) -> Result<Vec<Vec<u8>>, Au
     if rest.is_empty() {
         Ok(split)
     } else {
-        Err(AuditFault::Files)
+        Err(CallFault::Files)
     }
 }
 

@@ -2,9 +2,12 @@
 
 ghost use Rattle.std.specs.Prelude.{◌≡◌, ◌<◌};
 ghost use Rattle.cmh_c.specs.Codes as spec;
+ghost use Rattle.cmh_c.specs.Inner.Faults.{code_of_call};
 
+use cmh_frames::TopologyFault;
 use cmh_reader::ReadFault;
 use cmh_seat::{InletFault, SeatFault};
+use std::alloc::{AllocError, AllocFailed};
 
 pub const DONE: u32 = 0;
 
@@ -19,18 +22,86 @@ pub const CLOSED: u32 = 22;
 /// The handle is open already.
 pub const OPEN: u32 = 23;
 
+/// No entry is prepared.
+pub const NOT_PREPARED: u32 = 27;
+
+/// Why nothing is opened or told, where no site or reader is asked.
+#[derive(Clone, Copy, Debug, PartialEq, Eq)]
+pub enum CallFault {
+    /// The number of the edition is not 1 or 2.
+    Edition,
+    /// The words are not those of rows, or the text is not the JSON of a topology.
+    Rows,
+    /// The rows make no topology.
+    Topology(TopologyFault),
+    /// The site is not in the topology.
+    Site,
+    /// A number is not that of a site.
+    Number,
+    /// What was lent is shorter than the answer.
+    Short,
+    /// The bytes are not those of an entry.
+    Entry,
+    /// The entry sends no frame at the place.
+    Sending,
+    /// The lengths of the files don't sum to the bytes that there are.
+    Files,
+    /// Out of memory.
+    Memory,
+}
+
+impl CallFault {
+    /// The number that C is answered.
+    pub fn code(self) -> u32
+        ensures value { result ≡ code_of_call self }
+        ensures positive { 0 < result }
+    {
+        match self {
+            CallFault::Site => 2,
+            CallFault::Memory => NO_MEMORY,
+            CallFault::Entry => 20,
+            CallFault::Short => SHORT,
+            CallFault::Edition => 24,
+            CallFault::Rows => 25,
+            CallFault::Number => 28,
+            CallFault::Sending => 29,
+            CallFault::Files => 30,
+            CallFault::Topology(fault) => 30 + u32::from(fault.number()),
+        }
+    }
+}
+
+impl From<AllocError> for CallFault {
+    ghost use Rattle.cmh_c.specs.declared.codes.CallFault.TheVariants.{Memory};
+
+    ghost from_gives = { λ _ fault. fault ≡ Memory };
+
+    fn from(_: AllocError) -> CallFault {
+        CallFault::Memory
+    }
+}
+
+impl<T: Drop> From<AllocFailed<T>> for CallFault {
+    ghost use Rattle.cmh_c.specs.declared.codes.CallFault.TheVariants.{Memory};
+
+    ghost from_gives = { λ _ fault. fault ≡ Memory };
+
+    fn from(_: AllocFailed<T>) -> CallFault {
+        CallFault::Memory
+    }
+}
+
 pub fn code_of(fault: SeatFault) -> u32
     ensures value { result ≡ spec.code_of fault }
     ensures positive { 0 < result }
 {
     match fault {
         SeatFault::Rule(refusal) => u32::from(refusal.number()),
+        SeatFault::Starved => NO_MEMORY,
         SeatFault::Full => 12,
         SeatFault::NoEvent => 20,
         SeatFault::Short => SHORT,
-        SeatFault::Starved => NO_MEMORY,
         SeatFault::Prepared => 26,
-        SeatFault::NotPrepared => 27,
     }
 }
 

@@ -1,47 +1,21 @@
 //! Readers.
 
-ghost use Rattle.std.specs.Prelude.{◌≡◌, ◌<◌, ◌≤◌, ◌++◌, true, false, IfErr, IfNone, IfOk, IfSome, MatchOption, OnOk, drop, length};
+ghost use Rattle.std.specs.Prelude.{◌≡◌, ◌<◌, ◌≤◌, ◌++◌, true, false, IfErr, IfNone, IfOk, IfSome, MatchOption, OnOk, drop, length, unwrap_or};
 ghost use Rattle.cmh_frames.specs.Edition.{number_of};
 ghost use Rattle.cmh_frames.specs.Wire.{hello};
+ghost use Rattle.cmh_reader.specs.Reader.{fresh};
 ghost use Rattle.cmh_reader.specs.Stream.{sender_of};
 ghost use Rattle.cmh_seat.specs.Inlet.{Gave, GaveNothing};
 ghost use Rattle.cmh_c.specs.Codes as codes;
-ghost use Rattle.cmh_c.specs.Codes.{Answers, OfEdition, number_or_0};
-ghost use Rattle.cmh_c.specs.Reading.{HasNoSite, IsFresh, IsNoHello, IsNoReader, code_of_link};
+ghost use Rattle.cmh_c.specs.Codes.{Answers, OfEdition};
+ghost use Rattle.cmh_c.specs.Inner.Faults.{code_of_call};
+ghost use Rattle.cmh_c.specs.Reading.{HasNoSite, IsNoHello, IsNoReader};
 
-use crate::codes::{CLOSED, DONE, NO_MEMORY, OPEN, SHORT, code_of_reading};
+use crate::codes::{CLOSED, CallFault, DONE, OPEN, code_of_reading};
 use cmh_frames::{Edition, HELLO_LEN, SiteId, encode_hello};
 use cmh_seat::{HeldInlet, Inlet};
 use std::alloc::{AllocError, Global};
 use std::mem::replace;
-
-/// Why no reader is opened, or no hello is written.
-#[derive(Clone, Copy, Debug, PartialEq, Eq)]
-pub enum LinkFault {
-    /// The number of the edition is not 1 or 2.
-    Edition,
-    /// A number is not that of a site.
-    Number,
-    /// What was lent is shorter than a hello.
-    Short,
-    /// Out of memory.
-    Memory,
-}
-
-impl LinkFault {
-    /// The number that C is answered.
-    fn code(self) -> u32
-        ensures value { result ≡ code_of_link self }
-        ensures positive { 0 < result }
-    {
-        match self {
-            LinkFault::Edition => 24,
-            LinkFault::Number => 28,
-            LinkFault::Short => SHORT,
-            LinkFault::Memory => NO_MEMORY,
-        }
-    }
-}
 
 /// A reader, in memory of the caller. Zeros are one that is closed.
 #[repr(C)]
@@ -97,21 +71,21 @@ impl CmhReader {
 }
 
 /// A reader of a link from one of these sites.
-fn inlet_of(alloc: Global, edition: u8, senders: &[u16]) -> Result<Box<Inlet, Global>, LinkFault>
-    ensures made { IfOk result (λ inlet. OfEdition edition (IsFresh senders.now inlet.value)) }
-    ensures fault { IfErr result (IsNoReader edition senders.now) }
+fn inlet_of(alloc: Global, edition: u8, senders: &[u16]) -> Result<Box<Inlet, Global>, CallFault>
+    ensures made { IfOk result (λ inlet. OfEdition edition (λ e. inlet.value ≡ fresh e senders.now)) }
+    ensures fault { IfErr result (λ fault. IsNoReader (code_of_call fault) edition senders.now) }
 {
     let Some(edition) = Edition::of_number(edition) else {
-        return Err(LinkFault::Edition);
+        return Err(CallFault::Edition);
     };
     let sites = match sites_of(alloc, senders) {
         Ok(Some(sites)) => sites,
-        Ok(None) => return Err(LinkFault::Number),
-        Err(_) => return Err(LinkFault::Memory),
+        Ok(None) => return Err(CallFault::Number),
+        Err(_) => return Err(CallFault::Memory),
     };
     match Box::new(alloc, Inlet::new(alloc, edition, sites)) {
         Ok(inlet) => Ok(inlet),
-        Err(_) => Err(LinkFault::Memory),
+        Err(_) => Err(CallFault::Memory),
     }
 }
 
@@ -131,20 +105,20 @@ fn sites_of(alloc: Global, numbers: &[u16]) -> Result<Option<Vec<SiteId>>, Alloc
 }
 
 /// The edition and the site of a hello, where there is so much room.
-fn parts_of_hello(edition: u8, site: u16, room: usize) -> Result<(Edition, SiteId), LinkFault>
+fn parts_of_hello(edition: u8, site: u16, room: usize) -> Result<(Edition, SiteId), CallFault>
     ensures edition { IfOk result (λ parts. edition ≡ number_of parts.0) }
     ensures site { IfOk result (λ parts. site ≡ parts.1) }
     ensures fits { OnOk result (6 ≤ room) }
-    ensures fault { IfErr result (IsNoHello edition site room) }
+    ensures fault { IfErr result (λ fault. IsNoHello (code_of_call fault) edition site room) }
 {
     let Some(edition) = Edition::of_number(edition) else {
-        return Err(LinkFault::Edition);
+        return Err(CallFault::Edition);
     };
     let Some(site) = SiteId::new(site) else {
-        return Err(LinkFault::Number);
+        return Err(CallFault::Number);
     };
     if room < HELLO_LEN {
-        return Err(LinkFault::Short);
+        return Err(CallFault::Short);
     }
     Ok((edition, site))
 }
@@ -157,11 +131,12 @@ pub extern "C" fn cmh_reader_new(
     edition: u8,
     senders: &[u16],
 ) -> u32
-    ensures made { result ≡ 0 → (reader.new.is_open ≡ true) × OfEdition edition (IsFresh senders.now reader.new.held.inlet) }
+    ensures made { result ≡ 0 → (reader.new.is_open ≡ true)
+        × OfEdition edition (λ e. reader.new.held.inlet ≡ fresh e senders.now) }
     ensures stays { 0 < result → reader.new.is_open ≡ reader.old.is_open }
     ensures same { 0 < result → reader.old.is_open ≡ true → reader.new.held.inlet ≡ reader.old.held.inlet }
     ensures open { reader.old.is_open ≡ true → result ≡ 23 }
-    ensures code { 0 < result → reader.old.is_open ≡ false → Answers (IsNoReader edition senders.now) code_of_link result }
+    ensures code { 0 < result → reader.old.is_open ≡ false → IsNoReader result edition senders.now }
 {
     if reader.is_open {
         return OPEN;
@@ -214,7 +189,7 @@ pub extern "C" fn cmh_reader_sender(alloc: Global, reader: &mut CmhReader) -> u1
     ensures stays { reader.new.is_open ≡ reader.old.is_open }
     ensures same { reader.old.is_open ≡ true → reader.new.held.inlet ≡ reader.old.held.inlet }
     ensures sender { reader.old.is_open ≡ true
-        → result ≡ number_or_0 (sender_of reader.old.held.inlet.standing) }
+        → result ≡ unwrap_or (sender_of reader.old.held.inlet.standing) 0 }
     ensures closed { reader.old.is_open ≡ false → result ≡ 0 }
 {
     let Some(inlet) = reader.take(alloc) else {
@@ -241,7 +216,7 @@ pub extern "C" fn cmh_reader_free(alloc: Global, reader: &mut CmhReader)
 pub extern "C" fn cmh_hello(edition: u8, site: u16, out: &mut [u8]) -> u32
     ensures hello { result ≡ 0 → OfEdition edition (λ e. out.new ≡ hello e site ++ drop 6 out.old) }
     ensures out { 0 < result → out.new ≡ out.old }
-    ensures code { 0 < result → Answers (IsNoHello edition site (length out.old)) code_of_link result }
+    ensures code { 0 < result → IsNoHello result edition site (length out.old) }
 {
     match parts_of_hello(edition, site, out.len()) {
         Ok((edition, site)) => {

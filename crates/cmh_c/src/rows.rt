@@ -2,7 +2,7 @@
 
 ghost use Rattle.std.specs.Prelude.{◌≡◌, ◌≢◌, List, IfOk, MatchOption};
 ghost use Rattle.cmh_frames.specs.Rows.{Row};
-ghost use Rattle.cmh_c.specs.Words.{words_of};
+ghost use Rattle.cmh_c.specs.Opening.{words_of};
 
 use cmh_frames::SiteRow;
 use std::alloc::{AllocError, Global};

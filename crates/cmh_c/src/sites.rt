@@ -1,16 +1,17 @@
 //! Sites.
 
-ghost use Rattle.std.specs.Prelude.{◌≡◌, ◌<◌, ◌++◌, true, false, None, IsSome, MatchOption, length, drop};
+ghost use Rattle.std.specs.Prelude.{◌≡◌, ◌<◌, ◌++◌, ◌⊎◌, true, false, None, Some, IsSome, MatchOption, length, drop};
 ghost use Rattle.std.specs.FinSet as set;
-ghost use Rattle.cmh_model.specs.Relation.{has};
+ghost use Rattle.cmh_frames.specs.Relation.{has};
+ghost use Rattle.cmh_frames.specs.declared.journal.Entry.{Entry};
 ghost use Rattle.cmh_journal.specs.File.{header};
-ghost use Rattle.cmh_seat.specs.Seat.{IsNotTold, IsNotToldOf, Kept, NotTook, Readied, Took};
+ghost use Rattle.cmh_seat.specs.Seat.{IsNotToldOf, Keeps, NotTook, Wrote};
 ghost use Rattle.cmh_console.specs.TopologyFile.{Says};
 ghost use Rattle.cmh_c.specs.Codes as codes;
-ghost use Rattle.cmh_c.specs.Codes.{Answers, Shows};
-ghost use Rattle.cmh_c.specs.Opening.{IsNotOfJson, IsNotOfWords, IsOpened, SaysWords, code_of_opening};
+ghost use Rattle.cmh_c.specs.Codes.{Answers, NoEditionOr, Shows};
+ghost use Rattle.cmh_c.specs.Opening.{IsNotOpened, IsSiteOf, OfRows, SaysWords};
 
-use crate::codes::{CLOSED, DONE, OPEN, SHORT, code_of};
+use crate::codes::{CLOSED, DONE, NOT_PREPARED, OPEN, SHORT, code_of};
 use crate::numbers::put_processes;
 use crate::opening::{seat_of_json, seat_of_words};
 use cmh_seat::{Held, Seat};
@@ -90,11 +91,13 @@ pub extern "C" fn cmh_site_new(
     rows: &[u16],
     number: u16,
 ) -> u32
-    ensures made { result ≡ 0 → (site.new.is_open ≡ true) × IsOpened (SaysWords edition rows.now) number site.new.held.seat }
+    ensures made { result ≡ 0 → (site.new.is_open ≡ true)
+        × OfRows (SaysWords edition rows.now) (IsSiteOf number site.new.held.seat) }
     ensures stays { 0 < result → site.new.is_open ≡ site.old.is_open }
     ensures same { 0 < result → site.old.is_open ≡ true → site.new.held.seat ≡ site.old.held.seat }
     ensures open { site.old.is_open ≡ true → result ≡ 23 }
-    ensures code { 0 < result → site.old.is_open ≡ false → Answers (IsNotOfWords edition rows.now number) code_of_opening result }
+    ensures code { 0 < result → site.old.is_open ≡ false
+        → NoEditionOr result edition (λ _. IsNotOpened result number (SaysWords edition rows.now)) }
 {
     if site.is_open {
         return OPEN;
@@ -116,11 +119,11 @@ pub extern "C" fn cmh_site_new_json(
     json: &[u8],
     number: u16,
 ) -> u32
-    ensures made { result ≡ 0 → (site.new.is_open ≡ true) × IsOpened (Says json.now) number site.new.held.seat }
+    ensures made { result ≡ 0 → (site.new.is_open ≡ true) × OfRows (Says json.now) (IsSiteOf number site.new.held.seat) }
     ensures stays { 0 < result → site.new.is_open ≡ site.old.is_open }
     ensures same { 0 < result → site.old.is_open ≡ true → site.new.held.seat ≡ site.old.held.seat }
     ensures open { site.old.is_open ≡ true → result ≡ 23 }
-    ensures code { 0 < result → site.old.is_open ≡ false → Answers (IsNotOfJson json.now number) code_of_opening result }
+    ensures code { 0 < result → site.old.is_open ≡ false → IsNotOpened result number (Says json.now) }
 {
     if site.is_open {
         return OPEN;
@@ -140,7 +143,7 @@ pub extern "C" fn cmh_site_header(alloc: Global, site: &mut CmhSite, out: &mut [
     ensures stays { site.new.is_open ≡ site.old.is_open }
     ensures same { site.old.is_open ≡ true → site.new.held.seat ≡ site.old.held.seat }
     ensures header { result ≡ 0 → (site.old.is_open ≡ true) × (out.new ≡
-        header site.old.held.seat.controller.topology.edition site.old.held.seat.controller.site ++ drop 7 out.old) }
+        header site.old.held.seat.topology.edition site.old.held.seat.site ++ drop 7 out.old) }
     ensures out { 0 < result → out.new ≡ out.old }
     ensures closed { site.old.is_open ≡ false → result ≡ 22 }
     ensures short { 0 < result → site.old.is_open ≡ true → (result ≡ 21) × (length out.old < 7) }
@@ -176,7 +179,7 @@ pub extern "C" fn cmh_site_step(
 ) -> u32
     ensures stays { site.new.is_open ≡ site.old.is_open }
     ensures took { result ≡ 0 → (site.old.is_open ≡ true)
-        × Took site.old.held.seat event.now out.old out.new count.new site.new.held.seat }
+        × Wrote site.old.held.seat event.now out.old out.new count.new (Keeps site.old.held.seat site.new.held.seat) }
     ensures same { 0 < result → site.old.is_open ≡ true → site.new.held.seat ≡ site.old.held.seat }
     ensures out { 0 < result → out.new ≡ out.old }
     ensures count { 0 < result → count.new ≡ count.old }
@@ -209,7 +212,8 @@ pub extern "C" fn cmh_site_prepare(
 ) -> u32
     ensures stays { site.new.is_open ≡ site.old.is_open }
     ensures readied { result ≡ 0 → (site.old.is_open ≡ true)
-        × Readied site.old.held.seat event.now out.old out.new count.new site.new.held.seat }
+        × Wrote site.old.held.seat event.now out.old out.new count.new
+        (λ entry. site.new.held.seat ≡ record site.old.held.seat { pending = Some entry }) }
     ensures same { 0 < result → site.old.is_open ≡ true → site.new.held.seat ≡ site.old.held.seat }
     ensures out { 0 < result → out.new ≡ out.old }
     ensures count { 0 < result → count.new ≡ count.old }
@@ -235,7 +239,8 @@ pub extern "C" fn cmh_site_prepare(
 #[unsafe(no_mangle)]
 pub extern "C" fn cmh_site_keep(alloc: Global, site: &mut CmhSite) -> u32
     ensures stays { site.new.is_open ≡ site.old.is_open }
-    ensures kept { result ≡ 0 → (site.old.is_open ≡ true) × Kept site.old.held.seat site.new.held.seat }
+    ensures kept { result ≡ 0 → (site.old.is_open ≡ true) × ((entry : Entry) × (site.old.held.seat.pending ≡ Some entry)
+        × Keeps site.old.held.seat site.new.held.seat entry) }
     ensures same { 0 < result → site.old.is_open ≡ true → site.new.held.seat ≡ site.old.held.seat }
     ensures closed { site.old.is_open ≡ false → result ≡ 22 }
     ensures code { 0 < result → site.old.is_open ≡ true → (result ≡ 27) × (site.old.held.seat.pending ≡ None) }
@@ -245,7 +250,7 @@ pub extern "C" fn cmh_site_keep(alloc: Global, site: &mut CmhSite) -> u32
     };
     let code = match seat.keep() {
         Ok(()) => DONE,
-        Err(fault) => code_of(fault),
+        Err(_) => NOT_PREPARED,
     };
     site.give(seat);
     code
@@ -266,7 +271,7 @@ pub extern "C" fn cmh_site_drop(alloc: Global, site: &mut CmhSite) -> u32
     };
     let code = match seat.drop_prepared() {
         Ok(()) => DONE,
-        Err(fault) => code_of(fault),
+        Err(_) => NOT_PREPARED,
     };
     site.give(seat);
     code
@@ -284,11 +289,12 @@ pub extern "C" fn cmh_site_declared(
     ensures stays { site.new.is_open ≡ site.old.is_open }
     ensures same { site.old.is_open ≡ true → site.new.held.seat ≡ site.old.held.seat }
     ensures told { result ≡ 0 → (site.old.is_open ≡ true)
-        × Shows (λ p. set.contains site.old.held.seat.controller.state.declared p) out.old out.new count.new }
+        × Shows (λ p. set.contains site.old.held.seat.state.declared p) out.old out.new count.new }
     ensures out { 0 < result → out.new ≡ out.old }
     ensures count { 0 < result → count.new ≡ count.old }
     ensures closed { site.old.is_open ≡ false → result ≡ 22 }
-    ensures code { 0 < result → site.old.is_open ≡ true → Answers (IsNotTold site.old.held.seat) codes.code_of result }
+    ensures code { 0 < result → site.old.is_open ≡ true → ((result ≡ 26) × IsSome site.old.held.seat.pending)
+        ⊎ ((result ≡ 11) × (site.old.held.seat.pending ≡ None)) }
 {
     let Some(seat) = site.take(alloc) else {
         return CLOSED;
@@ -317,7 +323,7 @@ pub extern "C" fn cmh_site_waits(
     ensures stays { site.new.is_open ≡ site.old.is_open }
     ensures same { site.old.is_open ≡ true → site.new.held.seat ≡ site.old.held.seat }
     ensures told { result ≡ 0 → (site.old.is_open ≡ true)
-        × Shows (λ k. has site.old.held.seat.controller.state.waits process k) out.old out.new count.new }
+        × Shows (λ k. has site.old.held.seat.state.waits process k) out.old out.new count.new }
     ensures out { 0 < result → out.new ≡ out.old }
     ensures count { 0 < result → count.new ≡ count.old }
     ensures closed { site.old.is_open ≡ false → result ≡ 22 }
@@ -350,7 +356,7 @@ pub extern "C" fn cmh_site_owed(
     ensures stays { site.new.is_open ≡ site.old.is_open }
     ensures same { site.old.is_open ≡ true → site.new.held.seat ≡ site.old.held.seat }
     ensures told { result ≡ 0 → (site.old.is_open ≡ true)
-        × Shows (λ j. has site.old.held.seat.controller.state.owed process j) out.old out.new count.new }
+        × Shows (λ j. has site.old.held.seat.state.owed process j) out.old out.new count.new }
     ensures out { 0 < result → out.new ≡ out.old }
     ensures count { 0 < result → count.new ≡ count.old }
     ensures closed { site.old.is_open ≡ false → result ≡ 22 }

@@ -1,2 +1,4 @@
 pub mod Memory
 pub mod Streams
+pub mod Table
+pub mod Notes

@@ -1,6 +1,6 @@
 //! What carries bytes between two sites. Each failing call raises `faults` by one, and no other call changes it.
 
-ghost use Rattle.std.specs.Prelude.{◌≡◌, ℕ, ◌+◌, ◌-◌, ◌<◌, ◌≤◌, ◌^◌, Bool, true, false, List, [], length, take, Option, Result, IfOk, IfSome, OnOk, OnErr, ⊤};
+ghost use Rattle.std.specs.Prelude.{◌≡◌, ℕ, ◌+◌, ◌-◌, ◌<◌, ◌≤◌, ◌^◌, Bool, true, false, List, [], length, take, Option, Result, IfOk, IfSome, OnErr, if◌then◌else◌, is_err, ⊤};
 ghost use Rattle.cmh_journal.specs.Sink.{known_and};
 ghost use Rattle.cmh_carriers.specs.declared.carrier.IoFault.{IoFault};
 
@@ -40,9 +40,8 @@ pub trait Incoming {
         ensures within { IfOk result (λ count. count ≤ length buffer.new) }
         ensures given { IfOk result (λ count. given self.new ≡ known_and (given self.old) (take count buffer.new)) }
         ensures over { result ≡ Ok 0 → 0 < length buffer.new → is_over self.new ≡ true }
-        ensures ok { OnOk result (failures self.new ≡ failures self.old) }
         ensures none { OnErr result (given self.new ≡ given self.old) }
-        ensures err { OnErr result (failures self.new ≡ failures self.old + 1) }
+        ensures count { failures self.new ≡ (if is_err result then failures self.old + 1 else failures self.old) }
         ensures gives { read_gives self.old buffer.new result self.new };
 
     /// How many calls have failed.
@@ -71,9 +70,8 @@ pub trait Outgoing {
         ensures within { IfOk result (λ count. count ≤ length piece.now) }
         ensures some { 0 < length piece.now → IfOk result (λ count. 0 < count) }
         ensures taken { IfOk result (λ count. taken self.new ≡ known_and (taken self.old) (take count piece.now)) }
-        ensures ok { OnOk result (failures self.new ≡ failures self.old) }
         ensures none { OnErr result (taken self.new ≡ taken self.old) }
-        ensures err { OnErr result (failures self.new ≡ failures self.old + 1) }
+        ensures count { failures self.new ≡ (if is_err result then failures self.old + 1 else failures self.old) }
         ensures gives { write_gives self.old piece.now result self.new };
 
     /// Looks whether the other end is gone, without a write: then the call fails. A carrier that can't see that never fails
@@ -81,8 +79,7 @@ pub trait Outgoing {
     fn look(&mut self) -> Result<(), IoFault>
         requires countable { failures self.old < 2 ^ 64 - 1 }
         ensures taken { taken self.new ≡ taken self.old }
-        ensures ok { OnOk result (failures self.new ≡ failures self.old) }
-        ensures err { OnErr result (failures self.new ≡ failures self.old + 1) }
+        ensures count { failures self.new ≡ (if is_err result then failures self.old + 1 else failures self.old) }
     {
         Ok(())
     }
@@ -107,8 +104,7 @@ pub trait Listen {
         ensures fresh { IfOk result (λ incoming. Self.In.failures incoming ≡ 0) }
         ensures begins { IfOk result (λ incoming. Self.In.is_over incoming ≡ false) }
         ensures unread { IfOk result (λ incoming. IfSome (Self.In.given incoming) (λ bytes. bytes ≡ [])) }
-        ensures ok { OnOk result (failures self.new ≡ failures self.old) }
-        ensures err { OnErr result (failures self.new ≡ failures self.old + 1) };
+        ensures count { failures self.new ≡ (if is_err result then failures self.old + 1 else failures self.old) };
 
     /// Another handle of a connection. `None` where memory for one was refused.
     fn line(&self, incoming: &Self::In) -> Option<Self::Line>;
@@ -138,8 +134,7 @@ pub trait Dial {
         requires countable { failures self.old < 2 ^ 64 - 1 }
         ensures fresh { IfOk result (λ outgoing. Self.Out.failures outgoing ≡ 0) }
         ensures unwritten { IfOk result (λ outgoing. IfSome (Self.Out.taken outgoing) (λ bytes. bytes ≡ [])) }
-        ensures ok { OnOk result (failures self.new ≡ failures self.old) }
-        ensures err { OnErr result (failures self.new ≡ failures self.old + 1) };
+        ensures count { failures self.new ≡ (if is_err result then failures self.old + 1 else failures self.old) };
 
     /// Another handle of a connection. `None` where memory for one was refused.
     fn line(&self, outgoing: &Self::Out) -> Option<Self::Line>;

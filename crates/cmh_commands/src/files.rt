@@ -6,7 +6,7 @@ ghost use Rattle.cmh_commands.specs.Files.{IsUnread};
 use crate::options::{JOURNALS, SCRIPT, TOPOLOGY};
 use clap::ArgMatches;
 use cmh_console::Fault;
-use cmh_stored::stop_of;
+use cmh_files::stop_of;
 use std::fs;
 use std::io::ErrorKind;
 use std::rt::Files;

@@ -9,3 +9,4 @@ pub mod Writings
 pub mod JsonLemmas
 pub mod LineLemmas
 pub mod Dialogues
+pub mod TopologyFiles

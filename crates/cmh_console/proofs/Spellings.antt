@@ -6,7 +6,7 @@ use Rattle.std.specs.Prelude.{SomeIff}
 use Rattle.cmh_frames.specs.Number.{IsNumber}
 use Rattle.cmh_console.specs.Words.{decimal}
 use Rattle.cmh_console.specs.Front.{AreFewDigits, Begins, BeginsDigits, BeginsNone, Takes}
-use Rattle.cmh_console.specs.Script.{Spell}
+use Rattle.cmh_console.specs.Forms.{SpellNumbers}
 
 -- ---- the numbers that words spell
 
@@ -50,7 +50,7 @@ begins_none none = λ number behind begins. none number behind (record {
 })
 
 -- words that spell no numbers are none
-pub spell_nothing : (words : List (List ℕ)) (numbers : List ℕ) → Spell words numbers → numbers ≡ [] → words ≡ []
+pub spell_nothing : (words : List (List ℕ)) (numbers : List ℕ) → SpellNumbers words numbers → numbers ≡ [] → words ≡ []
 spell_nothing [] numbers spell none = refl
 spell_nothing (w ∷ ws) [] spell none = absurd spell
 spell_nothing (w ∷ ws) (n ∷ ns) spell none = cc
@@ -61,63 +61,63 @@ spell_nothing (w ∷ ws) (n ∷ ns) spell none = cc
 pub record SpellSoFar (all left : List (List ℕ)) (numbers : List ℕ) : Type 0 where
   pub seen : List (List ℕ)
   pub split : all ≡ seen ++ left
-  pub spell : Spell seen numbers
+  pub spell : SpellNumbers seen numbers
 
 pub spell_begin : (all : List (List ℕ)) → SpellSoFar all all []
 spell_begin all = record { seen = []; split = refl; spell = tt }
 
-spell_join : (seen left : List (List ℕ)) (numbers more : List ℕ) → Spell seen numbers → Spell left more → Spell (seen ++ left) (numbers ++ more)
+spell_join : (seen left : List (List ℕ)) (numbers more : List ℕ) → SpellNumbers seen numbers → SpellNumbers left more → SpellNumbers (seen ++ left) (numbers ++ more)
 spell_join [] left [] more before spell = spell
 spell_join [] left (m ∷ ms) more before spell = absurd before
 spell_join (w ∷ ws) left [] more before spell = absurd before
-spell_join (w ∷ ws) left (m ∷ ms) more before spell = (before.0, before.1, spell_join ws left ms more before.2 spell)
+spell_join (w ∷ ws) left (m ∷ ms) more before spell = (before.0, spell_join ws left ms more before.1 spell)
 
 -- the next word spells the next number
 pub spell_more : {all left behind : List (List ℕ)} {numbers : List ℕ} {n : ℕ} → SpellSoFar all left numbers → Begins left n behind → SpellSoFar all behind (numbers ++ n ∷ [])
 spell_more {behind = behind} {numbers = numbers} {n = n} so_far next = record {
   seen = so_far.seen ++ next.word ∷ [];
   split = so_far.split ∙ ap (λ ws. so_far.seen ++ ws) next.words_are ∙ sym (append_assoc so_far.seen (next.word ∷ []) behind);
-  spell = spell_join so_far.seen (next.word ∷ []) numbers (n ∷ []) so_far.spell (next.numeral, next.value, tt);
+  spell = spell_join so_far.seen (next.word ∷ []) numbers (n ∷ []) so_far.spell ((next.numeral, next.value), tt);
 }
 
 -- what all of the words spell is spelled by those that are left, after these numbers
 pub record SpellOn (left : List (List ℕ)) (numbers ns : List ℕ) : Type 0 where
   pub more : List ℕ
   pub numbers_are : ns ≡ numbers ++ more
-  pub spell : Spell left more
+  pub spell : SpellNumbers left more
 
-spell_on : (seen left : List (List ℕ)) (numbers ns : List ℕ) → Spell seen numbers → Spell (seen ++ left) ns → SpellOn left numbers ns
+spell_on : (seen left : List (List ℕ)) (numbers ns : List ℕ) → SpellNumbers seen numbers → SpellNumbers (seen ++ left) ns → SpellOn left numbers ns
 spell_on [] left [] ns before spell = record { more = ns; numbers_are = refl; spell = spell }
 spell_on [] left (m ∷ ms) ns before spell = absurd before
 spell_on (w ∷ ws) left [] ns before spell = absurd before
 spell_on (w ∷ ws) left (m ∷ ms) [] before spell = absurd spell
 spell_on (w ∷ ws) left (m ∷ ms) (n ∷ ns) before spell =
-    let on = spell_on ws left ms ns before.2 spell.2 in
-    let heads : n ≡ m = sym spell.1 ∙ before.1 in
+    let on = spell_on ws left ms ns before.1 spell.1 in
+    let heads : n ≡ m = sym spell.0.1 ∙ before.0.1 in
     record { more = on.more; numbers_are = λ i. heads i ∷ on.numbers_are i; spell = on.spell }
 
 module _ {all left : List (List ℕ)} {numbers : List ℕ} (so_far : SpellSoFar all left numbers) where
-  pub spelled_on : (ns : List ℕ) → Spell all ns → SpellOn left numbers ns
-  spelled_on ns spell = spell_on so_far.seen left numbers ns so_far.spell (subst (λ (ws : List (List ℕ)). Spell ws ns) so_far.split spell)
+  pub spelled_on : (ns : List ℕ) → SpellNumbers all ns → SpellOn left numbers ns
+  spelled_on ns spell = spell_on so_far.seen left numbers ns so_far.spell (subst (λ (ws : List (List ℕ)). SpellNumbers ws ns) so_far.split spell)
 
   -- those that are left spell more
-  pub spell_both : (more : List ℕ) → Spell left more → Spell all (numbers ++ more)
+  pub spell_both : (more : List ℕ) → SpellNumbers left more → SpellNumbers all (numbers ++ more)
   spell_both more spell =
-      subst (λ (ws : List (List ℕ)). Spell ws (numbers ++ more)) (sym so_far.split) (spell_join so_far.seen left numbers more so_far.spell spell)
+      subst (λ (ws : List (List ℕ)). SpellNumbers ws (numbers ++ more)) (sym so_far.split) (spell_join so_far.seen left numbers more so_far.spell spell)
 
   -- no word is left
-  pub spell_all : left ≡ [] → Spell all numbers
+  pub spell_all : left ≡ [] → SpellNumbers all numbers
   spell_all end =
-      subst (λ (ws : List (List ℕ)). Spell ws numbers) (sym (so_far.split ∙ ap (λ ws. so_far.seen ++ ws) end ∙ append-nil so_far.seen)) so_far.spell
+      subst (λ (ws : List (List ℕ)). SpellNumbers ws numbers) (sym (so_far.split ∙ ap (λ ws. so_far.seen ++ ws) end ∙ append-nil so_far.seen)) so_far.spell
 
   -- a word is left, and spells no number
-  pub spell_none : left ≢ [] → BeginsNone left → (ns : List ℕ) → Spell all ns → ⊥
+  pub spell_none : left ≢ [] → BeginsNone left → (ns : List ℕ) → SpellNumbers all ns → ⊥
   spell_none some none ns spell = go left some none on.more on.spell
     where
       on : SpellOn left numbers ns
       on = spelled_on ns spell
 
-      go : (ws : List (List ℕ)) → ws ≢ [] → BeginsNone ws → (more : List ℕ) → Spell ws more → ⊥
+      go : (ws : List (List ℕ)) → ws ≢ [] → BeginsNone ws → (more : List ℕ) → SpellNumbers ws more → ⊥
       go [] some none more spell = some refl
       go (w ∷ ws) some none [] spell = spell
-      go (w ∷ ws) some none (m ∷ more) spell = none m ws (record { word = w; words_are = refl; numeral = spell.0; value = spell.1 })
+      go (w ∷ ws) some none (m ∷ more) spell = none m ws (record { word = w; words_are = refl; numeral = spell.0.0; value = spell.0.1 })

@@ -1,5 +1,5 @@
 -- Lines of an input that are answered one after the other, each by what it does to a state.
-use Rattle.std.specs.Prelude.{◌≡◌, ℕ, ◌<◌, nat_lt, Bool, List, [], ◌++◌, length, Option, None, Some, Result, Ok, Err, if◌then◌else◌}
+use Rattle.std.specs.Prelude.{ℕ, ◌<◌, nat_lt, Bool, List, [], ◌++◌, length, Option, None, Some, Result, Ok, Err, MatchResult, if◌then◌else◌}
 use Rattle.std.specs.Io.BufRead.{first_line, drop_through}
 use Rattle.std.specs.Io.KnownBytes.{Appends}
 use Rattle.cmh_console.specs.Device.{Tells}
@@ -39,14 +39,9 @@ IsTextOf S answers first bytes text (Ok Awaits) = (last : S) × Dialogue S answe
 IsTextOf S answers first bytes text (Ok Ends) = (rest : List ℕ) × (last : S) × Dialogue S answers first bytes rest text last Ends
 IsTextOf S answers first bytes text (Err fault) = (rest : List ℕ) × (last : S) × Dialogue S answers first bytes rest text last Awaits
 
--- the text was written; at a fault, unless the writer failed
-abbrev pub WroteBefore : Result Flow Fault → Option (List ℕ) → Option (List ℕ) → Bool → List ℕ → Type 0
-WroteBefore (Ok flow) old new has_failed text = Appends old new text
-WroteBefore (Err fault) old new has_failed text = Tells old new has_failed text
-
--- lines of the bytes were answered, up to a fault if there is one
+-- lines of the bytes were answered, up to a fault if there is one: the text was written, or the writer failed
 pub record Conversed {S : Type 0} (answers : S → S → Option (List ℕ) → List ℕ → Flow → Type 0) (first : S) (bytes : List ℕ) (out_old out_new : Option (List ℕ))
     (has_failed : Bool) (result : Result Flow Fault) : Type 0 where
   pub text : List ℕ
   pub is : IsTextOf S answers first bytes text result
-  pub wrote : WroteBefore result out_old out_new has_failed text
+  pub wrote : MatchResult result (λ flow. Appends out_old out_new text) (λ fault. Tells out_old out_new has_failed text)

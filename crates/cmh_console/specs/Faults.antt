@@ -1,15 +1,14 @@
 -- The faults of a command, by their statuses and their lines.
-use Rattle.std.specs.Prelude.{◌≡◌, ℕ, Bool, true, ◌⊎◌, List, [], ◌∷◌, ◌++◌, codes, Option, ⊤}
+use Rattle.std.specs.Prelude.{◌≡◌, ℕ, ◌-◌, ◌^◌, ◌≤◌, Bool, true, ◌⊎◌, List, [], ◌∷◌, ◌++◌, length, codes, Option, IfSome, ⊤}
 use Rattle.std.specs.Fmt.{decimal}
 use Rattle.cmh_frames.specs.Rows.{fault_number}
 use Rattle.cmh_frames.specs.declared.rows.TopologyFault.{TopologyFault}
 use Rattle.cmh_frames.specs.declared.rows.TopologyFault.TheVariants.{Memory as NoTopology}
-use Rattle.cmh_journal.specs.Journal as journal
+use Rattle.cmh_journal.specs.Journal.{number_of}
 use Rattle.cmh_journal.specs.declared.journal.JournalFault.{JournalFault}
 use Rattle.cmh_journal.specs.declared.journal.JournalFault.TheVariants.{BadEntry, Memory as NoMemory}
 use Rattle.cmh_journal.specs.SetFaults as set
 use Rattle.cmh_console.specs.Device.{Tells, Writing}
-use Rattle.cmh_console.specs.Lines.{IsEndless}
 use Rattle.cmh_console.specs.declared.faults.Fault.{Fault}
 use Rattle.cmh_console.specs.declared.lines.LineFault.{LineFault}
 use Rattle.cmh_console.specs.declared.lines.LineFault.TheVariants.{Input as NoInput, Memory as NoSpace}
@@ -22,11 +21,6 @@ abbrev pub status_of : Fault → ℕ
 status_of Memory = 1
 status_of fault = 3
 
--- where in its file a journal is at fault, if that is told
-abbrev pub place_text : JournalFault → List ℕ
-place_text (BadEntry offset) = codes " at " ++ decimal offset
-place_text fault = []
-
 abbrev pub fault_text : Fault → List ℕ
 fault_text TopologyFile = codes "fault file topology"
 fault_text ScriptFile = codes "fault file script"
@@ -34,8 +28,8 @@ fault_text OutFile = codes "fault file out"
 fault_text (JournalFile place) = codes "fault file " ++ decimal place
 fault_text Json = codes "fault json"
 fault_text (Topology fault) = codes "fault topology " ++ decimal (fault_number fault)
-fault_text (Journal place fault) =
-    codes "fault journal " ++ decimal place ++ codes " " ++ decimal (journal.number_of fault) ++ place_text fault
+fault_text (Journal place (BadEntry byte)) = codes "fault journal " ++ decimal place ++ codes " 2 at " ++ decimal byte
+fault_text (Journal place fault) = codes "fault journal " ++ decimal place ++ codes " " ++ decimal (number_of fault)
 fault_text (Set fault) = codes "fault set " ++ decimal (set.number_of fault)
 fault_text Site = codes "fault site"
 fault_text JournalDisk = codes "fault journal disk"
@@ -80,9 +74,10 @@ IsAnswerFault old new has_failed Output = has_failed ≡ true
 IsAnswerFault old new has_failed Memory = new ≡ old
 IsAnswerFault old new has_failed fault = ⊥
 
--- why not all of them were answered; nothing is said of running out of memory
+-- why not all of them were answered: reading failed, or so many bytes are told that no number counts them; nothing is said
+-- of running out of memory
 abbrev pub IsPlayFault : Option (List ℕ) → Bool → Bool → Fault → Type 0
-IsPlayFault bytes read_failed write_failed Input = (read_failed ≡ true) ⊎ IsEndless bytes
-IsPlayFault bytes read_failed write_failed Output = write_failed ≡ true
-IsPlayFault bytes read_failed write_failed Memory = ⊤
-IsPlayFault bytes read_failed write_failed fault = ⊥
+IsPlayFault told read_failed write_failed Input = (read_failed ≡ true) ⊎ IfSome told (λ bytes. 2 ^ 64 - 1 ≤ length bytes)
+IsPlayFault told read_failed write_failed Output = write_failed ≡ true
+IsPlayFault told read_failed write_failed Memory = ⊤
+IsPlayFault told read_failed write_failed fault = ⊥

@@ -3,8 +3,10 @@ pub mod Lines
 pub mod Words
 pub mod Front
 pub mod Script
+pub mod Forms
 pub mod Faults
 pub mod Status
 pub mod TopologyFile
+pub mod TopologyParts
 pub mod Dialogue
 pub mod Keeping

@@ -1,5 +1,5 @@
 -- Lines of a script.
-use Rattle.std.specs.Prelude.{◌≡◌, ℕ, ◌-◌, ◌^◌, ◌<◌, ◌≤◌, ◌==◌, Bool, true, false, ◌⊎◌, List, [], ◌∷◌, ◌++◌, length, take, IfSome, Option, None, Some, ⊤}
+use Rattle.std.specs.Prelude.{◌≡◌, ℕ, ◌-◌, ◌^◌, ◌<◌, ◌≤◌, ◌==◌, Bool, true, false, ◌⊎◌, List, [], ◌∷◌, ◌++◌, length, take, IfSome, Option, Some, ⊤}
 use Rattle.std.specs.Io.BufRead.{first_line}
 use Rattle.cmh_console.specs.declared.device.Piece.{Piece}
 use Rattle.cmh_console.specs.declared.device.Piece.TheVariants.{Fed, Unfed, End as End_piece}
@@ -48,8 +48,7 @@ IsNextLine bytes End = bytes ≡ []
 
 -- the bytes, where they are told, are so many that no number counts them
 abbrev pub IsEndless : Option (List ℕ) → Type 0
-IsEndless None = ⊤
-IsEndless (Some bytes) = 2 ^ 64 - 1 ≤ length bytes
+IsEndless told = IfSome told (λ bytes. 2 ^ 64 - 1 ≤ length bytes)
 
 -- why no line was read; nothing is said of running out of memory
 abbrev pub IsLineFault : Option (List ℕ) → Bool → LineFault → Type 0

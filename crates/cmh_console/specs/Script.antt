@@ -1,89 +1,34 @@
--- What a line of a script says: the form that its words fit.
-use Rattle.std.specs.Prelude.{◌≡◌, ◌≢◌, ℕ, ◌==◌, Bool, true, false, List, [], ◌∷◌, codes, ⊤, Option, None, Some}
+-- What a line of a script says: a name, and numbers after it.
+use Rattle.std.specs.Prelude.{◌≡◌, ◌≢◌, ℕ, List, [], ◌∷◌, codes, take, slice_get, IfSome}
+use Rattle.std.specs.List.{AllZip}
 use Rattle.cmh_frames.specs.Edition.{number_of}
-use Rattle.cmh_model.specs.declared.event.Event.TheVariants.{Ask, Reply, Start}
+use Rattle.cmh_frames.specs.declared.event.Event.TheVariants.{Ask, Reply, Start}
 use Rattle.cmh_console.specs.Words.{IsNumeral, decimal, words_of}
 use Rattle.cmh_console.specs.declared.script.Command.TheVariants.{Act, Deliver, Cut, Report}
-use Rattle.cmh_console.specs.declared.script.Form.{Form}
-use Rattle.cmh_console.specs.declared.script.Form.TheVariants.{Edition as EditionForm, Site as SiteForm, Ask as AskForm, Reply as ReplyForm, Start as StartForm, Deliver as DeliverForm, Cut as CutForm, Report as ReportForm}
 use Rattle.cmh_console.specs.declared.script.Line.{Line}
 use Rattle.cmh_console.specs.declared.script.Line.TheVariants.{Silent, Bad, Edition as Edition_line, Site, Command as Command_line}
 
--- each word spells the number at its place
-abbrev pub Spell : List (List ℕ) → List ℕ → Type 0
-Spell [] [] = ⊤
-Spell [] (n ∷ ns) = ⊥
-Spell (w ∷ ws) [] = ⊥
-Spell (w ∷ ws) (n ∷ ns) = IsNumeral w × (decimal w ≡ n) × Spell ws ns
+-- the first word is the name, and each word after it spells the number at its place
+abbrev pub Spell : List (List ℕ) → List ℕ → List ℕ → Type 0
+Spell [] name numbers = ⊥
+Spell (word ∷ words) name numbers = (word ≡ name) × AllZip (λ w n. IsNumeral w × (decimal w ≡ n)) words numbers
 
--- the words spell the numbers of this
-pub record SpellsOne {X : Type 0} (IsOf : List ℕ → X → Type 0) (words : List (List ℕ)) (x : X) : Type 0 where
-  pub numbers : List ℕ
-  pub spell : Spell words numbers
-  pub is_of : IsOf numbers x
-
--- what is read of words up to their end: that of which they spell the numbers, or nothing where there is none such
-abbrev pub ReadsAll : {X : Type 0} → (List ℕ → X → Type 0) → List (List ℕ) → Option X → Type 0
-ReadsAll {X} IsOf words None = (x : X) → SpellsOne IsOf words x → ⊥
-ReadsAll IsOf words (Some x) = SpellsOne IsOf words x
-
--- ---- the forms of lines, each a name with numbers
-
-abbrev pub name_of : Form → List ℕ
-name_of EditionForm = codes "edition"
-name_of SiteForm = codes "site"
-name_of AskForm = codes "ask"
-name_of ReplyForm = codes "reply"
-name_of StartForm = codes "start"
-name_of DeliverForm = codes "deliver"
-name_of CutForm = codes "cut"
-name_of ReportForm = codes "report"
-
--- a line of the form with these numbers
-abbrev pub Fits : Form → List ℕ → Line → Type 0
-Fits EditionForm numbers (Edition_line edition) = numbers ≡ number_of edition ∷ []
-Fits SiteForm numbers (Site row) = numbers ≡ row.0 ∷ row.1
-Fits AskForm numbers (Command_line (Act process (Ask asker targets))) =
-    (numbers ≡ asker ∷ targets) × (targets ≢ []) × (process ≡ asker)
-Fits ReplyForm numbers (Command_line (Act process (Reply holder asker))) =
-    (numbers ≡ holder ∷ asker ∷ []) × (process ≡ holder)
-Fits StartForm numbers (Command_line (Act process (Start of))) = (numbers ≡ of ∷ []) × (process ≡ of)
-Fits DeliverForm numbers (Command_line (Deliver from to)) = numbers ≡ from ∷ to ∷ []
-Fits CutForm numbers (Command_line (Cut from to)) = numbers ≡ from ∷ to ∷ []
-Fits ReportForm numbers (Command_line Report) = numbers ≡ []
-Fits form numbers line = ⊥
-
--- ---- a whole line, by its words
-
--- a word that begins with '#'
-abbrev pub is_comment : List ℕ → Bool
-is_comment [] = false
-is_comment (byte ∷ bytes) = byte == 35
-
--- a line without words, or a comment
-abbrev pub AreSilent : List (List ℕ) → Type 0
-AreSilent [] = ⊤
-AreSilent (word ∷ words) = is_comment word ≡ true
-
--- the words are the name of a form, and spell numbers with which the line fits it
-pub record AreOf (words : List (List ℕ)) (line : Line) : Type 0 where
-  pub form : Form
-  pub behind : List (List ℕ)
-  pub numbers : List ℕ
-  pub words_are : words ≡ name_of form ∷ behind
-  pub spell : Spell behind numbers
-  pub fits : Fits form numbers line
-
--- the form that the first word names, and the words after it, or none where it names none
-abbrev pub IsFormOf : List (List ℕ) → Option (Form × List (List ℕ)) → Type 0
-IsFormOf words None = (form : Form) (behind : List (List ℕ)) → words ≡ name_of form ∷ behind → ⊥
-IsFormOf words (Some front) = words ≡ name_of front.0 ∷ front.1
-
--- what a line's words say: what they fit, and nothing but a bad line where they fit nothing
+-- the words say this line; those of a comment, and no words at all, say nothing
 abbrev pub Say : List (List ℕ) → Line → Type 0
-Say words Silent = AreSilent words
-Say words Bad = (AreSilent words → ⊥) × ((line : Line) → AreOf words line → ⊥)
-Say words line = AreOf words line
+Say words Silent = IfSome (slice_get words 0) (λ word. take 1 word ≡ codes "#")
+Say words (Edition_line edition) = Spell words (codes "edition") (number_of edition ∷ [])
+Say words (Site row) = Spell words (codes "site") (row.0 ∷ row.1)
+Say words (Command_line (Act process (Ask asker targets))) =
+    Spell words (codes "ask") (asker ∷ targets) × (targets ≢ []) × (process ≡ asker)
+Say words (Command_line (Act process (Reply holder asker))) =
+    Spell words (codes "reply") (holder ∷ asker ∷ []) × (process ≡ holder)
+Say words (Command_line (Act process (Start of))) = Spell words (codes "start") (of ∷ []) × (process ≡ of)
+Say words (Command_line (Deliver from to)) = Spell words (codes "deliver") (from ∷ to ∷ [])
+Say words (Command_line (Cut from to)) = Spell words (codes "cut") (from ∷ to ∷ [])
+Say words (Command_line Report) = Spell words (codes "report") []
+Say words line = ⊥
 
+-- a line is bad where its words say no other
 abbrev pub Says : List ℕ → Line → Type 0
+Says bytes Bad = (line : Line) → Say (words_of bytes) line → ⊥
 Says bytes line = Say (words_of bytes) line

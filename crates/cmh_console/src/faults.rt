@@ -87,13 +87,12 @@ impl fmt::Display for Fault {
                 let number = fault.number();
                 write!(f, "fault topology {number}")
             }
+            Fault::Journal(place, JournalFault::BadEntry(offset)) => {
+                write!(f, "fault journal {place} 2 at {offset}")
+            }
             Fault::Journal(place, fault) => {
                 let number = fault.number();
-                write!(f, "fault journal {place} {number}")?;
-                match fault {
-                    JournalFault::BadEntry(offset) => write!(f, " at {offset}"),
-                    _ => Ok(()),
-                }
+                write!(f, "fault journal {place} {number}")
             }
             Fault::Set(fault) => {
                 let number = fault.number();

@@ -3,11 +3,11 @@
 ghost use Rattle.std.specs.Prelude.{◌≡◌, ◌≢◌, ℕ, List, None, [], ◌∷◌, IfOk, IfSome, MatchOption};
 ghost use Rattle.cmh_console.specs.declared.script.Form as declared_form;
 ghost use Rattle.cmh_console.specs.Words.{words_of};
-ghost use Rattle.cmh_console.specs.Script.{Fits, IsFormOf, ReadsAll, Says, Spell, is_comment, name_of};
+ghost use Rattle.cmh_console.specs.Forms.{Fits, IsFormOf, ReadsAll, SpellNumbers, is_comment, name_of};
+ghost use Rattle.cmh_console.specs.Script.{Says};
 
 use crate::words::Words;
-use cmh_frames::{Edition, ProcId, SiteId, SiteRow};
-use cmh_model::{Event, Targets};
+use cmh_frames::{Edition, Event, ProcId, SiteId, SiteRow, Targets};
 use std::alloc::{AllocError, Global};
 use std::mem::replace;
 
@@ -196,8 +196,8 @@ fn site(alloc: Global, mut words: Words<'_>) -> Result<Option<Line>, AllocError>
 
 /// The numbers that the words spell, if each of them spells one.
 fn numbers(alloc: Global, mut words: Words<'_>) -> Result<Option<Vec<u16>>, AllocError>
-    ensures { IfOk result (λ numbers. MatchOption numbers ((ns : List ℕ) → Spell words.entry ns → ⊥)
-        (λ numbers. Spell words.entry numbers.items)) }
+    ensures { IfOk result (λ numbers. MatchOption numbers ((ns : List ℕ) → SpellNumbers words.entry ns → ⊥)
+        (λ numbers. SpellNumbers words.entry numbers.items)) }
 {
     let mut numbers = Vec::new(alloc);
     while !words.is_empty() {
@@ -240,8 +240,8 @@ fn targets(
     mut words: Words<'_>,
     spare: &mut Vec<ProcId>,
 ) -> Result<Option<Targets>, AllocError>
-    ensures { IfOk result (λ targets. MatchOption targets ((ns : List ℕ) → Spell words.entry ns → ⊥)
-        (λ targets. Spell words.entry targets)) }
+    ensures { IfOk result (λ targets. MatchOption targets ((ns : List ℕ) → SpellNumbers words.entry ns → ⊥)
+        (λ targets. SpellNumbers words.entry targets)) }
 {
     let mut processes = replace(spare, Vec::new(alloc));
     processes.clear();

@@ -1,10 +1,11 @@
 //! The topology file: which sites there are, with their processes and ports.
 
-ghost use Rattle.std.specs.Prelude.{◌≡◌, Some, IfOk, IfErr, option_and_then};
+ghost use Rattle.std.specs.Prelude.{◌≡◌, Some, IfOk, IfErr, codes, option_and_then};
 ghost use Rattle.std.specs.Option.{option_map};
-ghost use Rattle.serde_json.specs.Find.{get};
+ghost use Rattle.serde_json.specs.Find.{as_array, get};
 ghost use Rattle.serde_json.specs.View.{view, items_view};
 ghost use Rattle.cmh_console.specs.TopologyFile as spec;
+ghost use Rattle.cmh_console.specs.TopologyParts as parts;
 
 use cmh_frames::{Edition, SiteRow};
 use serde_json::{Error, Value};
@@ -42,7 +43,7 @@ impl<T: Drop> From<AllocFailed<T>> for TopologyFileFault {
 /// A number of a site or a process that is below 0 or above 65535 is given as 0, which is the number of nothing.
 pub fn read_topology_file(alloc: Global, bytes: &[u8]) -> Result<TopologyFile, TopologyFileFault>
     ensures says { IfOk result (λ file. spec.Says bytes.now file.edition file.rows.items) }
-    ensures fault { IfErr result (spec.IsFaultOfFile bytes.now) }
+    ensures fault { IfErr result (spec.IsFileFault (spec.SaysNoRows bytes.now)) }
 {
     let value = json_of(alloc, bytes)?;
     topology_of(alloc, &value)
@@ -56,7 +57,7 @@ pub fn read_topology_file_with_ports(
 ) -> Result<(TopologyFile, Vec<u16>), TopologyFileFault>
     ensures says { IfOk result (λ read. spec.Says bytes.now read.0.edition read.0.rows.items) }
     ensures ports { IfOk result (λ read. spec.SaysPorts bytes.now read.1.items) }
-    ensures fault { IfErr result (spec.IsFaultOfFileWithPorts bytes.now) }
+    ensures fault { IfErr result (spec.IsFileFault (spec.SaysNoPorts bytes.now)) }
 {
     let value = json_of(alloc, bytes)?;
     let topology = topology_of(alloc, &value)?;
@@ -68,8 +69,8 @@ pub fn read_topology_file_with_ports(
 }
 
 fn json_of(alloc: Global, bytes: &[u8]) -> Result<Value, TopologyFileFault>
-    ensures json { IfOk result (λ value. spec.IsJsonOf bytes.now (view value)) }
-    ensures fault { IfErr result (spec.IsFaultOfJson bytes.now) }
+    ensures json { IfOk result (λ value. parts.IsJsonOf bytes.now (view value)) }
+    ensures fault { IfErr result (parts.IsFaultOfJson bytes.now) }
 {
     match Value::from_slice(alloc, bytes) {
         Ok(value) => Ok(value),
@@ -79,8 +80,8 @@ fn json_of(alloc: Global, bytes: &[u8]) -> Result<Value, TopologyFileFault>
 }
 
 fn topology_of(alloc: Global, value: &Value) -> Result<TopologyFile, TopologyFileFault>
-    ensures says { IfOk result (λ file. spec.topology_in (view value.now) ≡ Some (file.edition, file.rows.items)) }
-    ensures fault { IfErr result (spec.IsFaultOf (spec.topology_in (view value.now))) }
+    ensures says { IfOk result (λ file. parts.topology_in (view value.now) ≡ Some (file.edition, file.rows.items)) }
+    ensures fault { IfErr result (parts.IsFaultOf (parts.topology_in (view value.now))) }
 {
     let (Some(edition), Some(sites)) = (edition_in(value), array_in(value, "sites")) else {
         return Err(TopologyFileFault::Json);
@@ -92,8 +93,8 @@ fn topology_of(alloc: Global, value: &Value) -> Result<TopologyFile, TopologyFil
 }
 
 fn ports_of(alloc: Global, value: &Value) -> Result<Vec<u16>, TopologyFileFault>
-    ensures ports { IfOk result (λ ports. spec.ports_in (view value.now) ≡ Some ports.items) }
-    ensures fault { IfErr result (spec.IsFaultOf (spec.ports_in (view value.now))) }
+    ensures ports { IfOk result (λ ports. spec.each_in (codes "sites") spec.port_in (view value.now) ≡ Some ports.items) }
+    ensures fault { IfErr result (parts.IsFaultOf (spec.each_in (codes "sites") spec.port_in (view value.now))) }
 {
     match array_in(value, "sites") {
         Some(sites) => ports_of_all(alloc, sites),
@@ -103,7 +104,7 @@ fn ports_of(alloc: Global, value: &Value) -> Result<Vec<u16>, TopologyFileFault>
 
 fn rows_of(alloc: Global, sites: &[Value]) -> Result<Vec<SiteRow>, TopologyFileFault>
     ensures ok { IfOk result (λ rows. spec.each_of spec.row_of (items_view sites.now) ≡ Some rows.items) }
-    ensures fault { IfErr result (spec.IsFaultOf (spec.each_of spec.row_of (items_view sites.now))) }
+    ensures fault { IfErr result (parts.IsFaultOf (spec.each_of spec.row_of (items_view sites.now))) }
 {
     let mut rows = Vec::new(alloc);
     for site in sites {
@@ -114,7 +115,7 @@ fn rows_of(alloc: Global, sites: &[Value]) -> Result<Vec<SiteRow>, TopologyFileF
 
 fn row_of(alloc: Global, site: &Value) -> Result<SiteRow, TopologyFileFault>
     ensures ok { IfOk result (λ row. spec.row_of (view site.now) ≡ Some row) }
-    ensures fault { IfErr result (spec.IsFaultOf (spec.row_of (view site.now))) }
+    ensures fault { IfErr result (parts.IsFaultOf (spec.row_of (view site.now))) }
 {
     let (Some(number), Some(processes)) = (number_in(site, "site"), array_in(site, "processes"))
     else {
@@ -128,7 +129,7 @@ fn row_of(alloc: Global, site: &Value) -> Result<SiteRow, TopologyFileFault>
 
 fn whole_numbers(alloc: Global, values: &[Value]) -> Result<Vec<u16>, TopologyFileFault>
     ensures ok { IfOk result (λ numbers. spec.each_of spec.whole_of (items_view values.now) ≡ Some numbers.items) }
-    ensures fault { IfErr result (spec.IsFaultOf (spec.each_of spec.whole_of (items_view values.now))) }
+    ensures fault { IfErr result (parts.IsFaultOf (spec.each_of spec.whole_of (items_view values.now))) }
 {
     let mut numbers = Vec::new(alloc);
     for value in values {
@@ -142,7 +143,7 @@ fn whole_numbers(alloc: Global, values: &[Value]) -> Result<Vec<u16>, TopologyFi
 
 fn ports_of_all(alloc: Global, sites: &[Value]) -> Result<Vec<u16>, TopologyFileFault>
     ensures ok { IfOk result (λ ports. spec.each_of spec.port_in (items_view sites.now) ≡ Some ports.items) }
-    ensures fault { IfErr result (spec.IsFaultOf (spec.each_of spec.port_in (items_view sites.now))) }
+    ensures fault { IfErr result (parts.IsFaultOf (spec.each_of spec.port_in (items_view sites.now))) }
 {
     let mut ports = Vec::new(alloc);
     for site in sites {
@@ -155,7 +156,7 @@ fn ports_of_all(alloc: Global, sites: &[Value]) -> Result<Vec<u16>, TopologyFile
 }
 
 fn array_in<'a>(value: &'a Value, name: &str) -> Option<&'a [Value]>
-    ensures { option_map (λ items. items_view items.now) result ≡ spec.array_in name.now (view value.now) }
+    ensures { option_map (λ items. items_view items.now) result ≡ option_and_then as_array (get name.now (view value.now)) }
 {
     let items = value.get(name)?.as_array()?;
     Some(items.as_slice())
@@ -179,7 +180,7 @@ fn whole_number(value: &Value) -> Option<u16>
 }
 
 fn edition_in(value: &Value) -> Option<Edition>
-    ensures { result ≡ spec.edition_in (view value.now) }
+    ensures { result ≡ parts.edition_in (view value.now) }
 {
     match value.get("edition")?.as_u64()? {
         1 => Some(Edition::One),
@@ -200,7 +201,7 @@ fn port_in(site: &Value) -> Option<u16>
 
 /// Whether a port stands twice.
 fn has_repeats(ports: &[u16]) -> bool
-    ensures { result ≡ spec.has_repeats ports.now }
+    ensures { result ≡ parts.has_repeats ports.now }
 {
     for (i, port) in ports.iter().enumerate() {
         if ports[i + 1..].contains(port) {

@@ -5,7 +5,7 @@ use Rattle.std.proofs.Math.Seq.{drop-cons}
 use Rattle.cmh_frames.specs.Topology.{Topology, is_at, site_of}
 use Rattle.cmh_frames.specs.declared.frame.Frame.{Frame}
 use Rattle.cmh_frames.specs.declared.frame.Frame.TheVariants.{Request}
-use Rattle.cmh_model.specs.Rules.{requests}
+use Rattle.cmh_frames.specs.Rules.{requests}
 
 at_place : (xs : List ℕ) (i k : ℕ) → i < length xs → k ≡ get_or xs i k → drop i xs ≡ k ∷ drop (i + 1) xs
 at_place xs i k h is = drop-cons xs i k h ∙ rw (← is, add-one) refl

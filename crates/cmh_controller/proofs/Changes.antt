@@ -1,10 +1,10 @@
 -- A controller after each kind of event, from what its parts have become.
 use Rattle.std.proofs.Common.{◌≡◌, ℕ, Bool, true, false, cond, if◌then◌else◌, not, ◌&&◌, ◌==◌, Option, refl, sym, ap, ◌∙◌, subst}
 use Rattle.cmh_frames.specs.Topology.{Topology, is_at}
-use Rattle.cmh_model.specs.declared.event.Event.TheVariants.{Reply}
-use Rattle.cmh_model.specs.Relation.{Relation, Numbers, has_some, without_pair, only_firsts}
-use Rattle.cmh_model.specs.State.{State}
-use Rattle.cmh_model.specs.Rules.{after, with_fewer_waits}
+use Rattle.cmh_frames.specs.declared.event.Event.TheVariants.{Reply}
+use Rattle.cmh_frames.specs.Relation.{Relation, Numbers, has_some, without_pair, only_firsts}
+use Rattle.cmh_frames.specs.State.{State}
+use Rattle.cmh_frames.specs.Rules.{after, with_fewer_waits}
 use Rattle.cmh_waits.specs.Held.{Held, is_member, replied, got_reply, wakes}
 use Rattle.cmh_controller.specs.Controller.{Controller, state_of, IsOfSite}
 use Rattle.cmh_controller.proofs.Fewer.{keeps, forgets, remembers}

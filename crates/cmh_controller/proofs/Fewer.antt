@@ -1,8 +1,8 @@
 -- What a removed wait leaves of the other sets.
 use Rattle.std.proofs.Common.{inl, inr, ◌≡◌, ◌≢◌, ℕ, Bool, true, false, not, ◌&&◌, ◌==◌, refl, sym, ap, ◌∙◌}
 use Rattle.std.proofs.lemmas.Bool.{cases_eq, and_parts, eq-eqb, ne_eqb, not-true}
-use Rattle.cmh_model.specs.Relation.{Relation, has_some, without_pair, only_firsts}
-use Rattle.cmh_model.proofs.Pairs.{only-same, only-all, others_wait}
+use Rattle.cmh_frames.specs.Relation.{Relation, has_some, without_pair, only_firsts}
+use Rattle.cmh_frames.proofs.Pairs.{only-same, only-all, others_wait}
 
 stays : (b : Bool) → not (b && not b) ≡ true
 stays true = refl

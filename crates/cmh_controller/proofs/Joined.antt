@@ -2,7 +2,7 @@
 use Rattle.std.proofs.Common.{inl, inr, ◌≡◌, ◌↔◌, ℕ, Bool, true, false, ◌||◌, ◌==◌, List, sym, ◌∙◌, Contains, Result, Ok, Err, IfOk, Vec}
 use Rattle.std.specs.List.{list_any}
 use Rattle.std.proofs.lemmas.Bool.{cases_Bool, or_cases, or_left, or_right}
-use Rattle.cmh_model.proofs.Members.{found_at, found_from}
+use Rattle.cmh_frames.proofs.Members.{found_at, found_from}
 
 abbrev pub is_found : List ℕ → ℕ → Bool
 is_found xs k = list_any (λ q. q == k) xs

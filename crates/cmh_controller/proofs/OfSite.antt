@@ -2,14 +2,14 @@
 use Rattle.std.proofs.Common.{inl, inr, ◌≡◌, ◌≢◌, ◌↔◌, ℕ, true, false, true≢false, not, ◌==◌, cond, List, [], ◌∷◌, IsSome, sym, ◌∙◌, subst}
 use Rattle.std.specs.List.{AllByRecursion, list_any}
 use Rattle.std.proofs.lemmas.Bool.{and_parts, cases_Bool, cases_eq, or_cases, eqb-true}
-use Rattle.cmh_model.proofs.Lawful.{without_old}
+use Rattle.cmh_frames.proofs.Lawful.{without_old}
 use Rattle.cmh_frames.proofs.Apart.{some_same}
-use Rattle.cmh_model.proofs.Choices.{same_bool}
+use Rattle.cmh_frames.proofs.Choices.{same_bool}
 use Rattle.cmh_frames.specs.Topology.{Topology, At, home, is_at}
-use Rattle.cmh_model.specs.Relation.{has, with_each, without_pair}
-use Rattle.cmh_model.specs.Rules.{AreTargets}
-use Rattle.cmh_model.proofs.Pairs.{has-empty, has-only, has-with_each, has-with_each_other}
-use Rattle.cmh_model.proofs.Places.{is_at-yes, at_from-is_at}
+use Rattle.cmh_frames.specs.Relation.{has, with_each, without_pair}
+use Rattle.cmh_frames.specs.Rules.{AreTargets}
+use Rattle.cmh_frames.proofs.Pairs.{has-empty, has-only, has-with_each, has-with_each_other}
+use Rattle.cmh_frames.proofs.Places.{is_at-yes, at_from-is_at}
 use Rattle.cmh_waits.specs.Held.{Held, IsMember, is_member, nothing_held, asked, before_ask, replied, got_reply}
 use Rattle.cmh_controller.specs.Controller.{IsOfSite}
 

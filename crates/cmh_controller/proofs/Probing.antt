@@ -3,17 +3,17 @@ use Rattle.std.proofs.Common.{inl, inr, if◌then◌else◌, suc, ◌≡◌, ℕ
 use Rattle.std.specs.FinSet as set
 use Rattle.std.specs.List.{AllByRecursion}
 use Rattle.std.proofs.lemmas.List.{append-nil}
-use Rattle.cmh_model.proofs.Choices.{match_true, match_false}
+use Rattle.cmh_frames.proofs.Choices.{match_true, match_false}
 use Rattle.cmh_frames.specs.declared.frame.Frame.{Frame}
 use Rattle.cmh_frames.specs.declared.frame.Frame.TheVariants.{Probe}
 use Rattle.cmh_frames.specs.Edition.{starts_at_ask}
 use Rattle.cmh_frames.specs.Topology.{Topology, home, site_of}
-use Rattle.cmh_model.specs.Relation.{Relation, Numbers, with_each}
-use Rattle.cmh_model.specs.Paths.{WaitsAmong, WaitsLocally, ReachesLocally, DependsOnItself as DependsLocally}
-use Rattle.cmh_model.specs.declared.event.Event.TheVariants.{Ask, Got}
-use Rattle.cmh_model.specs.Rules.{AreProbes, IsEdgeFrom, Sends, requests}
-use Rattle.cmh_model.proofs.Effects.{some_home}
-use Rattle.cmh_model.proofs.PathLemmas.{path_map}
+use Rattle.cmh_frames.specs.Relation.{Relation, Numbers, with_each}
+use Rattle.cmh_frames.specs.Paths.{WaitsAmong, WaitsLocally, ReachesLocally, DependsOnItself as DependsLocally}
+use Rattle.cmh_frames.specs.declared.event.Event.TheVariants.{Ask, Got}
+use Rattle.cmh_frames.specs.Rules.{AreProbes, IsEdgeFrom, Sends, requests}
+use Rattle.cmh_frames.proofs.Effects.{some_home}
+use Rattle.cmh_frames.proofs.PathLemmas.{path_map}
 use Rattle.cmh_waits.specs.Held.{Held, IsMember}
 use Rattle.cmh_rules.specs.Verdicts.{Reaches, DependsOnItself, LeavesFrom, AreProbesFrom, acts}
 use Rattle.cmh_controller.specs.Controller.{IsOfSite, state_of}

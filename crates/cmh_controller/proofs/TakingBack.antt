@@ -7,20 +7,20 @@ use Rattle.std.specs.List.{list_any, filter}
 use Rattle.std.proofs.lemmas.Bool.{and_parts, cases_Bool, eqb-true, not-true, or_cases}
 use Rattle.cmh_frames.specs.declared.frame.Frame.TheVariants.{Request, Reply as Reply_frame, Probe}
 use Rattle.cmh_frames.specs.Topology.{Topology, At, is_at}
-use Rattle.cmh_model.specs.declared.event.Event.{Event}
-use Rattle.cmh_model.specs.declared.event.Event.TheVariants.{Ask, Reply, Got}
-use Rattle.cmh_model.specs.Relation.{Relation, Numbers, has, has_some, only_firsts, with_each, with_pair, without_pair}
-use Rattle.cmh_model.specs.Rules.{declared_after, owed_after_ask, probe_acts}
-use Rattle.cmh_model.specs.State.{State, is_blocked}
-use Rattle.cmh_model.proofs.Pairs.{has-none, has-with, has-with_each, has-without, same_relation}
-use Rattle.cmh_model.proofs.Places.{is_at-no}
+use Rattle.cmh_frames.specs.declared.event.Event.{Event}
+use Rattle.cmh_frames.specs.declared.event.Event.TheVariants.{Ask, Reply, Got}
+use Rattle.cmh_frames.specs.Relation.{Relation, Numbers, has, has_some, only_firsts, with_each, with_pair, without_pair}
+use Rattle.cmh_frames.specs.Rules.{declared_after, owed_after_ask, probe_acts}
+use Rattle.cmh_frames.specs.State.{State, is_blocked}
+use Rattle.cmh_frames.proofs.Pairs.{has-none, has-with, has-with_each, has-without, same_relation}
+use Rattle.cmh_frames.proofs.Places.{is_at-no}
 use Rattle.cmh_waits.specs.Held.{Held, asked, before_ask, got_request, owed_before_ask}
 use Rattle.cmh_waits.specs.Rows.{is_in}
 use Rattle.cmh_waits.proofs.ListLemmas.{in_less}
 use Rattle.cmh_controller.specs.Controller.{Controller, IsOfSite, state_of}
 use Rattle.cmh_controller.specs.Steps.{Prepares, Steps, CanTake, prepared_state, taken_back, undeclared, without_event}
 use Rattle.cmh_controller.specs.declared.prepared.Prepared.{Prepared}
-use Rattle.cmh_model.specs.Rules.{after}
+use Rattle.cmh_frames.specs.Rules.{after}
 
 -- ---- declarations
 

@@ -1,10 +1,10 @@
 -- Want of memory.
 use Rattle.std.proofs.Common.{ℕ, ap, arith}
 use Rattle.cmh_frames.specs.Topology.{Topology}
-use Rattle.cmh_model.specs.Rules.{Accepts}
-use Rattle.cmh_model.specs.State.{State}
-use Rattle.cmh_model.specs.declared.event.Event.{Event}
-use Rattle.cmh_model.specs.declared.event.Event.TheVariants.{Ask, Reply, Start, Got}
+use Rattle.cmh_frames.specs.Rules.{Accepts}
+use Rattle.cmh_frames.specs.State.{State}
+use Rattle.cmh_frames.specs.declared.event.Event.{Event}
+use Rattle.cmh_frames.specs.declared.event.Event.TheVariants.{Ask, Reply, Start, Got}
 use Rattle.cmh_controller.specs.Refusals.{Holds, Refuses, number_of}
 use Rattle.cmh_controller.specs.declared.refusal.Refusal.TheVariants.{Memory}
 use Rattle.cmh_controller.proofs.Replaying.{not_accepted}

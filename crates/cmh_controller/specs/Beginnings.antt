@@ -3,8 +3,8 @@ use Rattle.std.specs.Prelude.{◌≡◌, ℕ, List, ◌++◌, Option}
 use Rattle.std.specs.FinSet as set
 use Rattle.cmh_frames.specs.declared.frame.Frame.{Frame}
 use Rattle.cmh_frames.specs.Topology.{Topology}
-use Rattle.cmh_model.specs.Relation.{Relation, Numbers}
-use Rattle.cmh_model.specs.Rules.{Starts}
+use Rattle.cmh_frames.specs.Relation.{Relation, Numbers}
+use Rattle.cmh_frames.specs.Rules.{Starts}
 
 -- the frames that go out before and afterwards, where these waits stand and these processes were declared
 pub record Begins (t : Topology) (s : ℕ) (waits : Relation) (known : Numbers) (process : ℕ)

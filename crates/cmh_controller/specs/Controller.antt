@@ -1,8 +1,8 @@
 -- What a caller sees of a controller, and what it keeps of its site.
 use Rattle.std.specs.Prelude.{◌≡◌, ℕ, true, IsSome}
 use Rattle.cmh_frames.specs.Topology.{Topology, home, is_at}
-use Rattle.cmh_model.specs.Relation.{Relation, Numbers, has}
-use Rattle.cmh_model.specs.State.{State, empty_state}
+use Rattle.cmh_frames.specs.Relation.{Relation, Numbers, has}
+use Rattle.cmh_frames.specs.State.{State, empty_state}
 use Rattle.cmh_waits.specs.Held.{Held, is_member}
 
 -- the controller of a site: its topology, the site, and its state

@@ -2,11 +2,11 @@
 use Rattle.std.specs.Prelude.{◌≡◌, ℕ, ◌<◌, true, false, ◌⊎◌, None}
 use Rattle.std.specs.FinSet as set
 use Rattle.cmh_frames.specs.Topology.{Topology, home, At, is_site}
-use Rattle.cmh_model.specs.declared.event.Event.{Event}
-use Rattle.cmh_model.specs.declared.event.Event.TheVariants.{Ask, Reply, Start, Got}
-use Rattle.cmh_model.specs.Relation.{has}
-use Rattle.cmh_model.specs.State.{State, is_blocked}
-use Rattle.cmh_model.specs.Rules.{AreTargets, Accepts}
+use Rattle.cmh_frames.specs.declared.event.Event.{Event}
+use Rattle.cmh_frames.specs.declared.event.Event.TheVariants.{Ask, Reply, Start, Got}
+use Rattle.cmh_frames.specs.Relation.{has}
+use Rattle.cmh_frames.specs.State.{State, is_blocked}
+use Rattle.cmh_frames.specs.Rules.{AreTargets, Accepts}
 use Rattle.cmh_controller.specs.declared.refusal.Refusal.{Refusal}
 use Rattle.cmh_controller.specs.declared.refusal.Refusal.TheVariants.{UnknownProcess, NotHere, BadTargets, Blocked, NotBlocked, NotOwed, AlreadyDeclared, Unlawful, Memory}
 

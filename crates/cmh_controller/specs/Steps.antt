@@ -4,11 +4,11 @@ use Rattle.std.specs.FinSet as set
 use Rattle.cmh_frames.specs.declared.frame.Frame.{Frame}
 use Rattle.cmh_frames.specs.declared.frame.Frame.TheVariants.{Request, Reply as Reply_frame, Probe}
 use Rattle.cmh_frames.specs.Topology.{Topology, is_at}
-use Rattle.cmh_model.specs.declared.event.Event.{Event}
-use Rattle.cmh_model.specs.declared.event.Event.TheVariants.{Ask, Reply, Start, Got}
-use Rattle.cmh_model.specs.Relation.{Numbers, only_firsts, without_pair}
-use Rattle.cmh_model.specs.State.{State}
-use Rattle.cmh_model.specs.Rules.{Accepts, Sends, after}
+use Rattle.cmh_frames.specs.declared.event.Event.{Event}
+use Rattle.cmh_frames.specs.declared.event.Event.TheVariants.{Ask, Reply, Start, Got}
+use Rattle.cmh_frames.specs.Relation.{Numbers, only_firsts, without_pair}
+use Rattle.cmh_frames.specs.State.{State}
+use Rattle.cmh_frames.specs.Rules.{Accepts, Sends, after}
 use Rattle.cmh_waits.specs.Held.{owed_before_ask}
 use Rattle.cmh_controller.specs.Controller.{Controller}
 use Rattle.cmh_controller.specs.declared.prepared.Prepared.{Prepared}

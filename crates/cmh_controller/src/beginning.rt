@@ -2,8 +2,8 @@
 
 ghost use Rattle.std.specs.Prelude.{◌≡◌, false, IfOk, OnOk, OnErr, None, Some, if◌then◌else◌};
 ghost use Rattle.std.specs.FinSet as set;
-ghost use Rattle.cmh_model.specs.Relation.{has, with_pair};
-ghost use Rattle.cmh_model.specs.Rules.{declared_after};
+ghost use Rattle.cmh_frames.specs.Relation.{has, with_pair};
+ghost use Rattle.cmh_frames.specs.Rules.{declared_after};
 ghost use Rattle.cmh_waits.specs.Held.{IsMember};
 ghost use Rattle.cmh_controller.specs.Controller.{IsOfSite};
 ghost use Rattle.cmh_controller.specs.Beginnings.{Begins};
@@ -17,30 +17,37 @@ use cmh_rules::{StartVerdict, start};
 use cmh_waits::LocalWaits;
 use std::alloc::{AllocError, Global};
 
+/// The waits that a site holds, in the topology of its world.
+#[derive(Clone, Copy)]
+pub struct SiteWaits<'a> {
+    pub topology: &'a Topology,
+    pub site: SiteId,
+    pub waits: &'a LocalWaits,
+}
+
 /// Starts a probe computation: adds its probes to those that go out, or declares the process. It answers the process
 /// where that was not declared before. On an error nothing is declared.
 #[inline(always)]
 pub fn begin(
     alloc: Global,
-    topology: &Topology,
-    site: SiteId,
-    waits: &LocalWaits,
+    here: &SiteWaits<'_>,
     declared: &mut ProcSet,
     process: ProcId,
     sent: &mut Vec<(SiteId, Frame)>,
 ) -> Result<Option<ProcId>, AllocError>
-    requires of_site { IsOfSite topology.now site waits.now }
-    requires member { IsMember waits.now process }
+    requires of_site { IsOfSite here.now.topology.now here.now.site here.now.waits.now }
+    requires member { IsMember here.now.waits.now process }
     ensures begins { IfOk result (λ found.
-        Begins topology.now site waits.now.waits declared.old process sent.old.items sent.new.items found) }
+        Begins here.now.topology.now here.now.site here.now.waits.now.waits declared.old process
+        sent.old.items sent.new.items found) }
     ensures declared { IfOk result (λ found. declared.new ≡ declared_after declared.old found) }
     ensures back { IfOk result (λ found. undeclared (declared_after declared.old found) found ≡ declared.old) }
     ensures err { OnErr result (declared.new ≡ declared.old) }
 {
-    match start(alloc, waits, process)? {
+    match start(alloc, here.waits, process)? {
         StartVerdict::Declared => declare(declared, process),
         StartVerdict::Send(frames) => {
-            send_each(topology, &frames, sent)?;
+            send_each(here.topology, &frames, sent)?;
             Ok(None)
         }
     }

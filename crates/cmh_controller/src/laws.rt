@@ -2,9 +2,9 @@
 
 ghost use Rattle.std.specs.Prelude.{ℕ};
 ghost use Rattle.cmh_frames.specs.Topology.{Topology};
-ghost use Rattle.cmh_model.specs.Rules.{Accepts};
-ghost use Rattle.cmh_model.specs.State.{State};
-ghost use Rattle.cmh_model.specs.declared.event.Event.{Event};
+ghost use Rattle.cmh_frames.specs.Rules.{Accepts};
+ghost use Rattle.cmh_frames.specs.State.{State};
+ghost use Rattle.cmh_frames.specs.declared.event.Event.{Event};
 ghost use Rattle.cmh_controller.specs.Refusals.{Refuses};
 ghost use Rattle.cmh_controller.specs.declared.refusal.Refusal.TheVariants.{Memory};
 

@@ -16,4 +16,4 @@ pub use crate::laws::memory_law;
 pub use crate::prepared::Prepared;
 pub use crate::refusal::Refusal;
 pub use crate::replayed::{Replayed, replay};
-pub use cmh_model::{Entry, Event, Outcome, Sendings, Targets};
+pub use cmh_frames::{Entry, Event, Outcome, Sendings, Targets};

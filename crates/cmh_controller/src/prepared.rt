@@ -1,6 +1,6 @@
 //! The first half of a step.
 
-use cmh_model::Outcome;
+use cmh_frames::Outcome;
 
 /// A step that a controller has prepared: its outcome is known and nothing of it can fail any longer. It waits to be
 /// carried out or taken back.

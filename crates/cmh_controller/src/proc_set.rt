@@ -17,7 +17,7 @@ pub struct ProcSet {
 impl Model for ProcSet {
     ghost use Rattle.std.specs.FinSet as set;
     ghost use Rattle.std.specs.Coded.{coded_ℕ};
-    ghost use Rattle.cmh_model.specs.Relation.{Numbers};
+    ghost use Rattle.cmh_frames.specs.Relation.{Numbers};
 
     ghost Value = { Numbers };
 

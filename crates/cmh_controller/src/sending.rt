@@ -3,7 +3,7 @@
 ghost use Rattle.std.specs.Prelude.{◌≡◌, ℕ, [], ◌++◌, map, IfOk, OnOk, IsSome};
 ghost use Rattle.std.specs.List.{AllByRecursion};
 ghost use Rattle.cmh_frames.specs.Topology.{At, home, is_at};
-ghost use Rattle.cmh_model.specs.Rules.{AreTargets, replies, requests};
+ghost use Rattle.cmh_frames.specs.Rules.{AreTargets, replies, requests};
 ghost use Rattle.cmh_controller.specs.Destinations.{addressed, receiver_of};
 
 use cmh_frames::{Frame, Probe, ProcId, Reply, Request, SiteId, Topology};

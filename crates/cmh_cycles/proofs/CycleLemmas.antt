@@ -1,14 +1,19 @@
 -- From levels to the first of the shortest cycles.
-use Rattle.std.proofs.Common.{◌≡◌, ℕ, suc, ◌+◌, ◌-◌, ◌<◌, ◌≤◌, List, [], ◌∷◌, ◌++◌, length, map, get_or, ◌⊎◌, inl, inr, ⊎_elim, sym, ap, subst, refl, ◌∙◌, arith, append_assoc, append-nil, length-append}
+use Rattle.std.proofs.Common.{◌≡◌, ℕ, suc, true, true≢false, ◌+◌, ◌-◌, ◌<◌, ◌≤◌, List, [], ◌∷◌, ◌++◌, length, map, get_or, ◌⊎◌, inl, inr, ⊎_elim, sym, ap, subst, refl, ◌∙◌, arith, append_assoc, append-nil, length-append}
 use Rattle.std.specs.Prelude.{Contains}
 use Rattle.std.specs.List.{AllByRecursion}
-use Rattle.std.proofs.lemmas.Bool.{cases_lt}
+use Rattle.std.specs.declared.cmp.Ordering.TheVariants.{Less, Equal, Greater}
+use Rattle.std.specs.Ordering.{is_le, nat_cmp, ordering_then}
+use Rattle.std.specs.Cmp.{nat_cmp_is}
+use Rattle.std.specs.Cmp.Lexicographic.{slice_cmp}
+use Rattle.std.specs.declared.cmp.Ordering.{Ordering}
+use Rattle.std.proofs.lemmas.Bool.{cases_eq, cases_lt}
 use Rattle.std.proofs.lemmas.List.{get_or_default}
 use Rattle.std.proofs.lemmas.List.Kept.{AllPairs-from_increasing}
-use Rattle.cmh_model.specs.Paths.{IsPath, IsCycleOf}
-use Rattle.cmh_model.proofs.Beginnings.{empty_list}
+use Rattle.cmh_frames.specs.Paths.{IsPath, IsCycleOf}
+use Rattle.cmh_frames.proofs.Beginnings.{empty_list}
 use Rattle.cmh_cycles.specs.FoundCycles.{WaitsIn, IsCycleIn}
-use Rattle.cmh_cycles.specs.Cycles.{NotAbove, IsFirstCycleOf}
+use Rattle.cmh_cycles.specs.Cycles.{IsFirstCycleOf}
 use Rattle.cmh_cycles.specs.Graphs.{WaitsAt, AreAskers}
 use Rattle.cmh_cycles.specs.Inner.Levels.{IsIn, LeadBack}
 use Rattle.cmh_cycles.proofs.LevelLemmas.{in_level}
@@ -28,6 +33,39 @@ below_more (x ∷ xs) zs (y ∷ ys) h = ⊎_elim (λ l. inl l) (λ e. inr (e.0, 
 below_here : (xs : List ℕ) (k l : ℕ) (rest : List ℕ) → k < l → BelowBy (xs ++ k ∷ []) (xs ++ l ∷ rest)
 below_here [] k l rest h = inl h
 below_here (x ∷ xs) k l rest h = inr (refl, below_here xs k l rest h)
+
+-- number by number, the first list is the second or less
+abbrev NotAbove : List ℕ → List ℕ → Type 0
+NotAbove [] ys = Unit {0}
+NotAbove (x ∷ xs) [] = ⊥
+NotAbove (x ∷ xs) (y ∷ ys) = (x < y) ⊎ ((x ≡ y) × NotAbove xs ys)
+
+-- which is what comparing them says
+first_decides : (x y : ℕ) (o rest : Ordering) → o ≡ nat_cmp x y → is_le (ordering_then o rest) ≡ true → is_le (ordering_then (nat_cmp x y) rest) ≡ true
+first_decides x y o rest is le = subst (λ (p : Ordering). is_le (ordering_then p rest) ≡ true) is le
+
+compared : (xs ys : List ℕ) → NotAbove xs ys → is_le (slice_cmp nat_cmp xs ys) ≡ true
+compared [] [] h = refl
+compared [] (y ∷ ys) h = refl
+compared (x ∷ xs) [] h = absurd h
+compared (x ∷ xs) (y ∷ ys) h = ⊎_elim
+    (λ less. first_decides x y Less (slice_cmp nat_cmp xs ys) (nat_cmp_is x y Less less) refl)
+    (λ same. first_decides x y Equal (slice_cmp nat_cmp xs ys) (nat_cmp_is x y Equal same.0) (compared xs ys same.1))
+    h
+
+not_above : (xs ys : List ℕ) → is_le (slice_cmp nat_cmp xs ys) ≡ true → NotAbove xs ys
+not_above [] ys h = tt
+not_above (x ∷ xs) [] h = absurd (true≢false (sym h))
+not_above (x ∷ xs) (y ∷ ys) h = ⊎_elim
+    (λ less. inl less)
+    (λ least. ⊎_elim
+    (λ same. inr (same, not_above xs ys (at Equal (nat_cmp_is x y Equal same))))
+    (λ apart. absurd (true≢false (sym (at Greater (nat_cmp_is x y Greater (omega arith))))))
+    (cases_eq x y))
+    (cases_lt x y)
+  where
+    at : (o : Ordering) → o ≡ nat_cmp x y → is_le (ordering_then o (slice_cmp nat_cmp xs ys)) ≡ true
+    at o is = subst (λ (p : Ordering). is_le (ordering_then p (slice_cmp nat_cmp xs ys)) ≡ true) (sym is) h
 
 below_not_above : (xs ys : List ℕ) → BelowBy xs ys → NotAbove xs ys
 below_not_above [] ys h = absurd h
@@ -155,12 +193,12 @@ module _ (R : ℕ → ℕ → Type 0) (to : ℕ) (levels : List (List ℕ)) (bac
         let same : length other ≡ length levels + 1 = omega (arith, ge, shorter) in
         inr (
           omega (arith, w, none, same),
-          ⊎_elim
+          compared members other (⊎_elim
               (λ b. below_not_above members other b)
               (λ r. let m = ap length r.1 ∙ length-append members r.0 in
               let rest_none : r.0 ≡ [] = empty_list r.0 (omega (arith, m, w, none, same)) in
               subst (NotAbove members) (sym (r.1 ∙ ap (λ l. members ++ l) rest_none ∙ append-nil members)) (not_above_refl members))
-              (walk.others other h same),
+              (walk.others other h same)),
         ))
         (cases_lt (length levels + 1) (length other));
   }
@@ -225,7 +263,7 @@ module _ (waits : List (ℕ × ℕ)) (ps : List ℕ) (are : AreAskers waits ps) 
         let long' = ap length f.1 ∙ long_map f.0 in
         ⊎_elim
         (λ less. inl (omega (arith, less, long, long')))
-        (λ e. inr (long ∙ e.0 ∙ sym long', subst (NotAbove (map (λ c. get_or ps c 0) places)) (sym f.1) (not_above_to places f.0 f.3 e.1)))
+        (λ e. inr (long ∙ e.0 ∙ sym long', compared (map (λ c. get_or ps c 0) places) other (subst (NotAbove (map (λ c. get_or ps c 0) places)) (sym f.1) (not_above_to places f.0 f.3 (not_above places f.0 e.1)))))
         (h.first f.0 f.2);
   }
 

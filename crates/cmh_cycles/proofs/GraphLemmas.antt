@@ -11,10 +11,10 @@ use Rattle.std.proofs.Math.Seq.{get_or-append_seam}
 use Rattle.std.proofs.lemmas.List.{get_or_append_left, get_or_default}
 use Rattle.std.proofs.lemmas.List.Kept.{AllPairs-from_increasing}
 use Rattle.std.proofs.lemmas.Option.{none-some}
-use Rattle.cmh_model.specs.Relation.{pair_cmp}
+use Rattle.cmh_frames.specs.Relation.{pair_cmp}
 use Rattle.cmh_frames.proofs.Apart.{some_same}
 use Rattle.std.proofs.lemmas.List.Sorted.{searched}
-use Rattle.cmh_model.proofs.Members.{no_member, not_decreasing}
+use Rattle.cmh_frames.proofs.Members.{no_member, not_decreasing}
 use Rattle.cmh_waits.proofs.Ordered.{first_below}
 use Rattle.cmh_cycles.specs.Graphs.{WaitsAt, AreAskers}
 use Rattle.cmh_cycles.specs.Rows.{AreTwins, has_place, row_at, IsTable}

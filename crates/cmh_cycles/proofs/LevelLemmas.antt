@@ -5,8 +5,8 @@ use Rattle.std.proofs.Math.Bool.{or-false}
 use Rattle.std.proofs.Math.Seq.{get_or-append_seam}
 use Rattle.std.proofs.lemmas.Bool.{cases_eq, cases_lt, cases_Bool, eq-eqb, eqb-true, or_cases, or_left, or_right}
 use Rattle.std.proofs.lemmas.List.{get_or_append_left, get_or_past, get_or_default}
-use Rattle.cmh_model.specs.Paths.{IsPath, IsCycleOf}
-use Rattle.cmh_model.proofs.Beginnings.{empty_list}
+use Rattle.cmh_frames.specs.Paths.{IsPath, IsCycleOf}
+use Rattle.cmh_frames.proofs.Beginnings.{empty_list}
 use Rattle.cmh_cycles.specs.Inner.Levels.{IsIn, AreLevels, LeadBack}
 use Rattle.cmh_cycles.specs.Rows.{has_place, row_at}
 use Rattle.cmh_waits.proofs.BitLemmas.{no_bit}

@@ -1,16 +1,12 @@
 -- The first cycle through a process.
-use Rattle.std.specs.Prelude.{◌≡◌, ℕ, ◌<◌, ◌⊎◌, List, [], ◌∷◌, length}
-use Rattle.cmh_model.specs.Paths.{IsCycleOf}
+use Rattle.std.specs.Prelude.{◌≡◌, ℕ, ◌<◌, ◌⊎◌, true, List, length}
+use Rattle.std.specs.Ordering.{is_le, nat_cmp}
+use Rattle.std.specs.Cmp.Lexicographic.{slice_cmp}
+use Rattle.cmh_frames.specs.Paths.{IsCycleOf}
 
--- number by number, the first list is the second or less
-abbrev pub NotAbove : List ℕ → List ℕ → Type 0
-NotAbove [] ys = Unit {0}
-NotAbove (x ∷ xs) [] = ⊥
-NotAbove (x ∷ xs) (y ∷ ys) = (x < y) ⊎ ((x ≡ y) × NotAbove xs ys)
-
--- shorter, or as long and not above
+-- shorter, or as long and number by number the same or less
 abbrev pub ComesFirst : List ℕ → List ℕ → Type 0
-ComesFirst xs ys = (length xs < length ys) ⊎ ((length xs ≡ length ys) × NotAbove xs ys)
+ComesFirst xs ys = (length xs < length ys) ⊎ ((length xs ≡ length ys) × (is_le (slice_cmp nat_cmp xs ys) ≡ true))
 
 -- a shortest cycle through i, and of those the least by comparing them number by number
 pub record IsFirstCycleOf (R : ℕ → ℕ → Type 0) (i : ℕ) (members : List ℕ) : Type 0 where

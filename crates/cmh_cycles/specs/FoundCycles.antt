@@ -1,6 +1,6 @@
 -- Cycles of waits in a list of askers with their holders, as the search finds them.
 use Rattle.std.specs.Prelude.{ℕ, List, Contains}
-use Rattle.cmh_model.specs.Paths.{IsCycleOf}
+use Rattle.cmh_frames.specs.Paths.{IsCycleOf}
 
 -- j waits for k
 abbrev pub WaitsIn : List (ℕ × ℕ) → ℕ → ℕ → Type 0

@@ -10,7 +10,7 @@ ghost use Rattle.cmh_cycles.specs.Cycles.{ComesFirst, IsFirstCycleOf};
 ghost use Rattle.cmh_cycles.specs.Graphs.{IsGraph, WaitsAt};
 ghost use Rattle.cmh_cycles.specs.Inner.Levels.{LeadBack};
 ghost use Rattle.cmh_cycles.specs.Rows.{AreTwins, has_place, row_at};
-ghost use Rattle.cmh_model.specs.Paths.{IsCycleOf};
+ghost use Rattle.cmh_frames.specs.Paths.{IsCycleOf};
 
 use crate::graph::{Graph, place_of};
 use crate::row::Row;

@@ -2,7 +2,7 @@
 
 ghost use Rattle.std.specs.Prelude.{◌≡◌, ◌⊎◌, ℕ, ◌+◌, ◌<◌, ◌≤◌, ◌/◌, ◌^◌, ◌==◌, ◌||◌, ◌&&◌, length, slice_index, Contains, IfOk, MatchOption};
 ghost use Rattle.std.specs.List.Sorted.{IsStrictlyIncreasing, IsStrictlySortedBy};
-ghost use Rattle.cmh_model.specs.Relation.{pair_cmp};
+ghost use Rattle.cmh_frames.specs.Relation.{pair_cmp};
 ghost use Rattle.cmh_cycles.specs.Graphs.{AreAskers, IsGraph};
 ghost use Rattle.cmh_cycles.specs.Rows.{AreTwins, IsTable, has_place, row_at};
 

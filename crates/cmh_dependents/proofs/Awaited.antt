@@ -1,8 +1,8 @@
 -- For whom those that were found wait, and a cycle through the member at which the search began.
 use Rattle.std.proofs.Common.{inl, inr, ◌≡◌, ◌≢◌, ◌↔◌, ℕ, ◌<◌, Bool, true, false, not, ◌&&◌, ◌||◌, ◌==◌, length, get_or, nat_lt, refl, sym, ap, ◌∙◌, subst, true≢false}
 use Rattle.std.proofs.lemmas.Bool.{eq-eqb, ne_eqb, and_parts, and_from, or_cases, or_left, or_right, or_parts, cases_eq, lt-ltb, ltb-true, or_from}
-use Rattle.cmh_model.specs.Paths.{DependsOnItselfAmong}
-use Rattle.cmh_model.specs.Relation.{has}
+use Rattle.cmh_frames.specs.Paths.{DependsOnItselfAmong}
+use Rattle.cmh_frames.specs.Relation.{has}
 use Rattle.cmh_waits.specs.Held.{Held, IsMember}
 use Rattle.cmh_waits.specs.Rows.{is_set, joins}
 use Rattle.cmh_dependents.specs.Marks.{AreLeaving, AreReached, StaysHere}

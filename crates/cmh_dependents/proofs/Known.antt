@@ -8,9 +8,9 @@ use Rattle.std.proofs.lemmas.Bool.{and_parts, eq-eqb, ne_eqb, cases_Bool, cases_
 use Rattle.std.proofs.lemmas.List.{get_or-set_same, get_or-set_other, length-set}
 use Rattle.std.proofs.lemmas.List.Edits.{length-insert, get_or-insert_below, get_or-insert_at, get_or-insert_above}
 use Rattle.std.proofs.lemmas.List.Sorted.{searched}
-use Rattle.cmh_model.specs.Relation.{Relation, has, with_pair, without_pair, only_firsts}
-use Rattle.cmh_model.proofs.Members.{not_decreasing}
-use Rattle.cmh_model.proofs.Pairs.{has-with, has-without, has-only, same_relation}
+use Rattle.cmh_frames.specs.Relation.{Relation, has, with_pair, without_pair, only_firsts}
+use Rattle.cmh_frames.proofs.Members.{not_decreasing}
+use Rattle.cmh_frames.proofs.Pairs.{has-with, has-without, has-only, same_relation}
 use Rattle.cmh_waits.specs.Rows.{is_in, pairs_of, place_in}
 use Rattle.cmh_waits.proofs.ListLemmas.{in_insert, in_less}
 use Rattle.cmh_waits.proofs.Members.{among_is}

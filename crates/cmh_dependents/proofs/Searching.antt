@@ -5,8 +5,8 @@ use Rattle.std.specs.List.Sorted.{IsStrictlyIncreasing}
 use Rattle.std.proofs.lemmas.Bool.{eqb-true, eq-eqb, ne_eqb, and_parts, and_from, or_cases, or_left, or_right, or_parts, cases_Bool, cases_eq, lt-ltb, ltb-true, not-true}
 use Rattle.std.proofs.Math.Bool.{or-false}
 use Rattle.std.proofs.lemmas.Nat.Bits.{bit_at-lt, same_from_bits}
-use Rattle.cmh_model.specs.Paths.{IsPath, WaitsAmong}
-use Rattle.cmh_model.specs.Relation.{has}
+use Rattle.cmh_frames.specs.Paths.{IsPath, WaitsAmong}
+use Rattle.cmh_frames.specs.Relation.{has}
 use Rattle.cmh_waits.specs.Held.{Held, IsMember}
 use Rattle.cmh_waits.specs.Rows.{is_set}
 use Rattle.cmh_waits.proofs.RowLemmas.{in_at, found_place, same_place}

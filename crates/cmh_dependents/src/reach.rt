@@ -3,7 +3,7 @@
 ghost use Rattle.std.specs.Prelude.{◌≡◌, ◌≢◌, ℕ, ◌<◌, ◌≤◌, ◌↔◌, ◌==◌, ◌&&◌, ◌||◌, not, true, false, length, slice_index};
 ghost use Rattle.std.specs.Prelude.{Contains, IfOk, IsTrue};
 ghost use Rattle.std.specs.List.Sorted.{IsStrictlyIncreasing};
-ghost use Rattle.cmh_model.specs.Paths.{DependsOnItselfAmong, ReachesAmong};
+ghost use Rattle.cmh_frames.specs.Paths.{DependsOnItselfAmong, ReachesAmong};
 ghost use Rattle.cmh_waits.specs.Held.{IsMember};
 ghost use Rattle.cmh_waits.specs.Rows.{is_set};
 ghost use Rattle.cmh_dependents.specs.Marks.{AreLeaving, AreReached, IsMarked, StaysHere};

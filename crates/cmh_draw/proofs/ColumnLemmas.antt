@@ -1,10 +1,9 @@
 -- Columns of entries, pushed one after the other.
-use Rattle.std.proofs.Common.{◌≡◌, ℕ, ◌+◌, ◌<◌, List, [], ◌∷◌, ◌++◌, length, map, take, get_or, sym, ap, subst, ◌∙◌, arith}
+use Rattle.std.proofs.Common.{◌≡◌, ℕ, ◌+◌, ◌<◌, List, [], ◌∷◌, ◌++◌, length, map, take, get_or, sym, ap, subst, ◌∙◌, arith, refl}
 use Rattle.std.proofs.lemmas.List.{take_more, map-append}
 use Rattle.std.specs.List.{AllByRecursion}
-use Rattle.cmh_model.specs.Rules.{IsAscending}
-use Rattle.cmh_draw.specs.Columns.{AreColumns}
-use Rattle.cmh_draw.specs.declared.columns.Columns.{Columns}
+use Rattle.cmh_frames.specs.Rules.{IsAscending}
+use Rattle.cmh_draw.specs.Inner.Columns.{AreColumns}
 
 all_push : (m n : ℕ) (xs : List ℕ) → m < n → AllByRecursion (λ y. m < y) xs → AllByRecursion (λ y. m < y) (xs ++ n ∷ [])
 all_push m n [] less all = (less, tt)
@@ -19,17 +18,17 @@ pub below_push : (n : ℕ) (xs : List ℕ) → AllByRecursion (λ y. y < n) xs �
 below_push n [] below = (omega arith, tt)
 below_push n (x ∷ xs) below = (let less : x < n = below.0 in omega arith, below_push n xs below.1)
 
-columns_push : (lengths : List ℕ) (n : ℕ) (all : List Columns) (site : Columns) → AreColumns lengths all
-    → length site.columns.items ≡ n → IsAscending site.columns.items → AreColumns (lengths ++ n ∷ []) (all ++ site ∷ [])
+columns_push : (lengths : List ℕ) (n : ℕ) (all : List (List ℕ)) (site : List ℕ) → AreColumns lengths all
+    → length site ≡ n → IsAscending site → AreColumns (lengths ++ n ∷ []) (all ++ site ∷ [])
 columns_push [] n [] site are long up = (long, up, tt)
 columns_push [] n (other ∷ all) site are long up = absurd are
 columns_push (m ∷ lengths) n [] site are long up = absurd are
 columns_push (m ∷ lengths) n (other ∷ all) site are long up = (are.0, are.1, columns_push lengths n all site are.2 long up)
 
 -- the columns of one more site
-pub columns_more : {X : Type 0} → (count : X → ℕ) (ys xs : List X) → ys ≡ xs → (i : ℕ) (x : X) (all : List Columns) (site : Columns)
+pub columns_more : {X : Type 0} → (count : X → ℕ) (ys xs : List X) → ys ≡ xs → (i : ℕ) (x : X) (all : List (List ℕ)) (site : List ℕ)
     → i < length ys → x ≡ get_or ys i x → AreColumns (map count (take i xs)) all
-    → length site.columns.items ≡ count x → IsAscending site.columns.items
+    → length site ≡ count x → IsAscending site
     → AreColumns (map count (take (i + 1) xs)) (all ++ site ∷ [])
 columns_more {X} count ys xs same i x all site within is are long up =
     let within_too : i < length xs = subst (λ (l : List X). i < length l) same within in
@@ -37,3 +36,16 @@ columns_more {X} count ys xs same i x all site within is are long up =
     let longer : map count (take i xs) ++ count x ∷ [] ≡ map count (take (i + 1) xs) =
     sym (map-append count (take i xs) (x ∷ [])) ∙ ap (map count) (ap (λ y. take i xs ++ y ∷ []) is_too ∙ sym (take_more xs i x within_too)) in
     subst (λ (ns : List ℕ). AreColumns ns (all ++ site ∷ [])) longer (columns_push (map count (take i xs)) (count x) all site are long up)
+
+-- what a picture says of its columns
+pub lengths_from : (lengths : List ℕ) (columns : List (List ℕ)) → AreColumns lengths columns → map (λ (of : List ℕ). length of) columns ≡ lengths
+lengths_from [] [] are = refl
+lengths_from [] (site ∷ columns) are = absurd are
+lengths_from (n ∷ lengths) [] are = absurd are
+lengths_from (n ∷ lengths) (site ∷ columns) are = ap (λ m. m ∷ map (λ (of : List ℕ). length of) columns) are.0 ∙ ap (λ ns. n ∷ ns) (lengths_from lengths columns are.2)
+
+pub ascending_from : (lengths : List ℕ) (columns : List (List ℕ)) → AreColumns lengths columns → AllByRecursion IsAscending columns
+ascending_from [] [] are = tt
+ascending_from [] (site ∷ columns) are = absurd are
+ascending_from (n ∷ lengths) [] are = absurd are
+ascending_from (n ∷ lengths) (site ∷ columns) are = (are.1, ascending_from lengths columns are.2)

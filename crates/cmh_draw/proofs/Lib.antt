@@ -1,3 +1,5 @@
 pub mod EachLemmas
 pub mod ColumnLemmas
 pub mod SizeLemmas
+pub mod StepLemmas
+pub mod MarkLemmas

@@ -1,6 +1,5 @@
 pub mod Each
-pub mod Passages
-pub mod Columns
+pub mod Arrows
 pub mod Marks
 pub mod Kinds
-pub mod Sizes
+pub mod Inner

@@ -1,20 +1,43 @@
 //! In which column of a run each entry stands.
 
-ghost use Rattle.std.specs.Prelude.{◌≡◌, ◌≤◌, ◌↔◌, IfOk, IsTrue, length};
-ghost use Rattle.cmh_model.specs.Rules.{IsAscending};
-ghost use Rattle.cmh_draw.specs.Columns as spec;
-ghost use Rattle.cmh_draw.specs.Columns.{AreColumns, lengths_of};
+ghost use Rattle.std.specs.Prelude.{◌≡◌, ◌≤◌, ◌-◌, ◌↔◌, [], IfOk, IsTrue, get_or, length, slice_index};
+ghost use Rattle.cmh_frames.specs.Rules.{IsAscending};
+ghost use Rattle.cmh_draw.specs.Inner.Columns.{AreColumns, lengths_of};
 
-use crate::passages::{EntryAt, Passage};
+use crate::arrows::arrows_of;
+use crate::mark::{Arrow, EntrySpot};
 use cmh_audit::entries_at;
 use cmh_frames::{SiteId, Topology};
 use cmh_journal::Journal;
 use std::alloc::{AllocError, Global};
+use std::marker::Model;
 
 /// The column of each entry of a site, in their order.
 #[derive(Drop)]
 pub struct Columns {
-    pub columns: Vec<u32>,
+    columns: Vec<u32>,
+}
+
+impl Model for Columns {
+    ghost use Rattle.std.specs.Prelude.{ℕ, List};
+
+    ghost Value = { List ℕ };
+
+    ghost view = { λ c. c.columns.items };
+}
+
+impl Columns {
+    fn new(columns: Vec<u32>) -> Self
+        ensures { result ≡ columns.items }
+    {
+        Columns { columns }
+    }
+
+    pub fn as_slice(&self) -> &[u32]
+        ensures { result.now ≡ self.now }
+    {
+        &self.columns
+    }
 }
 
 /// The columns of the entries of each site: ascending, and as far to the left as they can be with the entry that sent a
@@ -23,11 +46,10 @@ pub fn columns_of(
     alloc: Global,
     topology: &Topology,
     journals: &[Journal],
-    passages: &[Passage],
 ) -> Result<Vec<Columns>, AllocError>
     ensures { IfOk result (λ columns. AreColumns (lengths_of topology.now journals.now) columns.items) }
 {
-    let found = search(alloc, topology.sites(), journals, passages)?;
+    let found = search(alloc, topology, journals)?;
     let mut all = Vec::new(alloc);
     for (row, site) in topology.sites().iter().enumerate() {
         let count = entries_at(journals, *site).len();
@@ -45,13 +67,13 @@ fn checked(
     row: usize,
 ) -> Result<Columns, AllocError>
     requires { count ≤ 1000000 }
-    ensures length { IfOk result (λ site. length site.columns.items ≡ count) }
-    ensures ascending { IfOk result (λ site. IsAscending site.columns.items) }
+    ensures length { IfOk result (λ site. length site ≡ count) }
+    ensures ascending { IfOk result (λ site. IsAscending site) }
 {
     if let Some(site) = found.get(row) {
-        if is_good(count, &site.columns) {
-            let columns = site.columns.to_vec(alloc)?;
-            return Ok(Columns { columns });
+        if is_good(count, site.as_slice()) {
+            let columns = site.as_slice().to_vec(alloc)?;
+            return Ok(Columns::new(columns));
         }
     }
     numbers_to(alloc, count)
@@ -73,28 +95,28 @@ fn is_ascending(columns: &[u32]) -> bool
 /// Each entry in the column of its number, from 0.
 fn numbers_to(alloc: Global, count: usize) -> Result<Columns, AllocError>
     requires { count ≤ 1000000 }
-    ensures length { IfOk result (λ site. length site.columns.items ≡ count) }
-    ensures ascending { IfOk result (λ site. IsAscending site.columns.items) }
+    ensures length { IfOk result (λ site. length site ≡ count) }
+    ensures ascending { IfOk result (λ site. IsAscending site) }
 {
     let mut columns = Vec::new(alloc);
     for i in 0..count {
         columns.push(i as u32)?;
     }
-    Ok(Columns { columns })
+    Ok(Columns::new(columns))
 }
 
 /// The column of an entry; 0 where there is no such entry.
 pub fn column_of(columns: &[Columns], row: u32, number: usize) -> u32
-    ensures { result ≡ spec.column_of columns.now row number }
+    ensures { result ≡ slice_index (get_or columns.now row []) (number - 1) }
 {
     match columns.get(row as usize) {
-        Some(site) => column_in(&site.columns, number),
+        Some(site) => column_in(site.as_slice(), number),
         None => 0,
     }
 }
 
 fn column_in(columns: &[u32], number: usize) -> u32
-    ensures { result ≡ spec.number_in columns.now number }
+    ensures { result ≡ slice_index columns.now (number - 1) }
 {
     match columns.get(number.saturating_sub(1)) {
         Some(column) => *column,
@@ -105,21 +127,21 @@ fn column_in(columns: &[u32], number: usize) -> u32
 /// Of each entry of a site the one that sent what it got.
 #[derive(Drop)]
 struct Sources {
-    sources: Vec<Option<EntryAt>>,
+    sources: Vec<Option<EntrySpot>>,
 }
 
-/// Looks for the columns. Of what it answers nothing is promised.
+/// Looks for the columns, by the arrows between entries that have none yet. Of what it answers nothing is promised.
 fn search(
     alloc: Global,
-    sites: &[SiteId],
+    topology: &Topology,
     journals: &[Journal],
-    passages: &[Passage],
 ) -> Result<Vec<Columns>, AllocError> {
-    let sources = sources_of(alloc, sites, journals, passages)?;
+    let arrows = arrows_of(alloc, topology, journals, &[])?;
+    let sources = sources_of(alloc, topology.sites(), journals, &arrows)?;
     let mut found = Vec::new(alloc);
-    for _ in sites {
+    for _ in topology.sites() {
         let columns = Vec::new(alloc);
-        found.push(Columns { columns })?;
+        found.push(Columns::new(columns))?;
     }
     let mut is_stuck = false;
     for _ in 0..u64::MAX {
@@ -144,7 +166,7 @@ fn sources_of(
     alloc: Global,
     sites: &[SiteId],
     journals: &[Journal],
-    passages: &[Passage],
+    arrows: &[Arrow],
 ) -> Result<Vec<Sources>, AllocError> {
     let mut all = Vec::new(alloc);
     for site in sites {
@@ -152,11 +174,11 @@ fn sources_of(
         sources.resize(entries_at(journals, *site).len(), None)?;
         all.push(Sources { sources })?;
     }
-    for passage in passages {
-        if let Some(at) = passage.got {
-            if let Some(site) = all.get_mut(at.row as usize) {
+    for arrow in arrows {
+        if let Some(at) = arrow.got {
+            if let Some(site) = all.get_mut(at.spot.row as usize) {
                 if let Some(source) = site.sources.get_mut(at.number.saturating_sub(1)) {
-                    *source = Some(passage.from);
+                    *source = Some(arrow.from);
                 }
             }
         }
@@ -189,7 +211,7 @@ fn take(
 
 /// The column of the next entry of a site, if it can be placed.
 fn next_column(row: usize, sources: &Sources, found: &[Columns], is_free: bool) -> Option<u32> {
-    let placed = &found.get(row)?.columns;
+    let placed = found.get(row)?.as_slice();
     let source = *sources.sources.get(placed.len())?;
     let behind = match placed.last() {
         Some(column) => column.saturating_add(1),
@@ -197,8 +219,8 @@ fn next_column(row: usize, sources: &Sources, found: &[Columns], is_free: bool) 
     };
     match source {
         Some(at) => match found
-            .get(at.row as usize)?
-            .columns
+            .get(at.spot.row as usize)?
+            .as_slice()
             .get(at.number.saturating_sub(1))
         {
             Some(column) => Some(behind.max(column.saturating_add(1))),

@@ -1,8 +1,6 @@
 //! What a picture is made of.
 
-use crate::passages::Sent;
-use cmh_frames::{ProcId, SiteId};
-use cmh_model::Event;
+use cmh_frames::{Event, Frame, ProcId, SiteId};
 
 /// A place in a picture: a column from the left and a row from the top, both from 0.
 #[derive(Clone, Copy, Debug)]
@@ -27,7 +25,9 @@ pub enum Mark {
     Wait(Wait),
     Entry(EntryMark),
     Arrow(Arrow),
-    Stop(Stop),
+    /// An entry that can't be taken: no run of these journals gets further. In a picture of waits it stands in the row
+    /// of its site's place, in column 0.
+    Stop(EntrySpot),
 }
 
 /// A site: its place among those of the topology, from 0, and how long it is. In a picture of waits it is a box round so
@@ -66,17 +66,13 @@ pub struct EntryMark {
     pub declared: Option<ProcId>,
 }
 
-/// A frame from the entry that sent it to the one that got it. Where none did it is lost, or waits on its link.
+/// A frame from the entry that sent it, with its place among all that this entry sent, from 0, to the entry that got it.
+/// Where none did it is lost, or waits on its link.
 #[derive(Clone, Copy, Debug)]
 pub struct Arrow {
-    pub sent: Sent,
     pub from: EntrySpot,
+    pub place: usize,
+    pub to: SiteId,
+    pub frame: Frame,
     pub got: Option<EntrySpot>,
-}
-
-/// An entry that can't be taken: no run of these journals gets further. In a picture of waits it stands in the
-/// row of its site's place, in column 0.
-#[derive(Clone, Copy, Debug)]
-pub struct Stop {
-    pub at: EntrySpot,
 }

@@ -1,19 +1,21 @@
 //! The run as a space-time diagram: a line a site, a mark an entry, an arrow a frame.
 
-ghost use Rattle.std.specs.Prelude.{◌≡◌, ◌≤◌, ◌++◌, IfOk, OnOk, length, map, option_map, Option};
-ghost use Rattle.cmh_draw.specs.Each.{each_from, number_from};
+ghost use Rattle.std.specs.Prelude.{◌≡◌, ◌≤◌, ◌++◌, IfOk, OnOk, length, map};
+ghost use Rattle.cmh_draw.specs.Arrows.{arrows_of};
+ghost use Rattle.cmh_draw.specs.Each.{number_from};
+ghost use Rattle.cmh_draw.specs.Inner.Marks.{entry_marks, stop_mark};
 ghost use Rattle.cmh_draw.specs.Marks as spec;
 ghost use Rattle.cmh_draw.specs.Marks.{IsRunPicture};
+ghost use Rattle.cmh_draw.specs.declared.mark.Mark.TheVariants.{Arrow as Arrow_mark};
 
-use crate::columns::{Columns, column_of, columns_of};
-use crate::mark::{Arrow, EntryMark, EntrySpot, Mark, Site, Spot, Stop};
-use crate::passages::{EntryAt, Passage, passages_of};
+use crate::arrows::{arrows_of, spot_of};
+use crate::columns::{Columns, columns_of};
+use crate::mark::{Arrow, EntryMark, Mark, Site};
 use crate::picture::{Kind, Picture};
 use crate::size::width_of;
 use cmh_audit::{Verdict, entries_at};
-use cmh_frames::{SiteId, Topology};
+use cmh_frames::{Entry, SiteId, Topology};
 use cmh_journal::Journal;
-use cmh_model::Entry;
 use std::alloc::{AllocError, Global};
 
 /// The picture of the run from which the journals come: each site, each frame that was sent, and each entry. Where they
@@ -30,12 +32,9 @@ pub fn run_picture(
 ) -> Result<Picture, AllocError>
     ensures { IfOk result (IsRunPicture topology.now journals.now verdict.now) }
 {
-    let passages = passages_of(alloc, topology, journals)?;
-    let columns = columns_of(alloc, topology, journals, &passages)?;
+    let columns = columns_of(alloc, topology, journals)?;
     let width = width_of(&columns);
-    let marks = marks_of(
-        alloc, topology, journals, verdict, &passages, &columns, width,
-    )?;
+    let marks = marks_of(alloc, topology, journals, verdict, &columns, width)?;
     Ok(Picture {
         kind: Kind::Run,
         columns: width,
@@ -49,16 +48,18 @@ fn marks_of(
     topology: &Topology,
     journals: &[Journal],
     verdict: &Verdict,
-    passages: &[Passage],
     columns: &[Columns],
     width: u32,
 ) -> Result<Vec<Mark>, AllocError>
     ensures { IfOk result (λ marks. marks.items
-        ≡ spec.marks_of topology.now journals.now verdict.now passages.now columns.now width) }
+        ≡ spec.site_marks topology.now (λ site. width) ++ map Arrow_mark (arrows_of topology.now journals.now columns.now)
+        ++ spec.entry_marks topology.now journals.now columns.now
+        ++ spec.stop_marks topology.now columns.now verdict.now) }
 {
+    let arrows = arrows_of(alloc, topology, journals, columns)?;
     let mut marks = Vec::new(alloc);
     add_sites(topology, width, &mut marks)?;
-    add_frames(columns, passages, &mut marks)?;
+    add_arrows(&arrows, &mut marks)?;
     add_all_entries(alloc, topology, journals, columns, &mut marks)?;
     match verdict {
         Verdict::Accepted(_) => {}
@@ -68,7 +69,7 @@ fn marks_of(
 }
 
 fn add_sites(topology: &Topology, width: u32, marks: &mut Vec<Mark>) -> Result<(), AllocError>
-    ensures { OnOk result (marks.new.items ≡ marks.old.items ++ spec.site_marks topology.now width) }
+    ensures { OnOk result (marks.new.items ≡ marks.old.items ++ spec.site_marks topology.now (λ site. width)) }
 {
     for (row, site) in topology.sites().iter().enumerate() {
         marks.push(Mark::Site(Site {
@@ -80,22 +81,11 @@ fn add_sites(topology: &Topology, width: u32, marks: &mut Vec<Mark>) -> Result<(
     Ok(())
 }
 
-fn add_frames(
-    columns: &[Columns],
-    passages: &[Passage],
-    marks: &mut Vec<Mark>,
-) -> Result<(), AllocError>
-    ensures { OnOk result (marks.new.items ≡ marks.old.items ++ spec.frame_marks columns.now passages.now) }
+fn add_arrows(arrows: &[Arrow], marks: &mut Vec<Mark>) -> Result<(), AllocError>
+    ensures { OnOk result (marks.new.items ≡ marks.old.items ++ map Arrow_mark arrows.now) }
 {
-    for passage in passages {
-        let from = passage.from;
-        let from = spot_of(columns, from.site, from.row, from.number);
-        let got = spot_if(columns, &passage.got);
-        marks.push(Mark::Arrow(Arrow {
-            sent: passage.sent,
-            from,
-            got,
-        }))?;
+    for arrow in arrows {
+        marks.push(Mark::Arrow(*arrow))?;
     }
     Ok(())
 }
@@ -108,7 +98,7 @@ fn add_all_entries(
     marks: &mut Vec<Mark>,
 ) -> Result<(), AllocError>
     ensures { OnOk result (marks.new.items
-        ≡ marks.old.items ++ spec.all_entry_marks topology.now journals.now columns.now) }
+        ≡ marks.old.items ++ spec.entry_marks topology.now journals.now columns.now) }
 {
     for (row, site) in topology.sites().iter().enumerate() {
         let entries = entries_at(journals, *site);
@@ -125,11 +115,11 @@ fn add_entries(
     entries: &[Entry],
     marks: &mut Vec<Mark>,
 ) -> Result<(), AllocError>
-    ensures { OnOk result (marks.new.items ≡ marks.old.items ++ spec.entry_marks columns.now row site entries.now) }
+    ensures { OnOk result (marks.new.items ≡ marks.old.items ++ entry_marks columns.now row site entries.now) }
 {
     for (i, entry) in entries.iter().enumerate() {
         let number = i + 1;
-        let at = spot_of(columns, site, row, number);
+        let at = spot_of(columns, row, site, number);
         let event = entry.event.copy(alloc)?;
         marks.push(Mark::Entry(EntryMark {
             at,
@@ -147,12 +137,12 @@ pub fn add_stops(
     stops: &[(SiteId, usize)],
     marks: &mut Vec<Mark>,
 ) -> Result<(), AllocError>
-    ensures { OnOk result (marks.new.items ≡ marks.old.items ++ spec.stop_marks topology.now columns.now stops.now) }
+    ensures { OnOk result (marks.new.items ≡ marks.old.items ++ map (stop_mark topology.now columns.now) stops.now) }
 {
     for (site, number) in stops {
         let row = row_of(topology.sites(), *site);
-        let at = spot_of(columns, *site, row, *number);
-        marks.push(Mark::Stop(Stop { at }))?;
+        let at = spot_of(columns, row, *site, *number);
+        marks.push(Mark::Stop(at))?;
     }
     Ok(())
 }
@@ -168,24 +158,4 @@ pub fn row_of(sites: &[SiteId], site: SiteId) -> u32
         }
     }
     0
-}
-
-fn spot_of(columns: &[Columns], site: SiteId, row: u32, number: usize) -> EntrySpot
-    ensures { result ≡ spec.spot_of columns.now site row number }
-{
-    let column = column_of(columns, row, number);
-    EntrySpot {
-        site,
-        number,
-        spot: Spot { column, row },
-    }
-}
-
-fn spot_if(columns: &[Columns], at: &Option<EntryAt>) -> Option<EntrySpot>
-    ensures { result ≡ option_map (spec.spot_at_entry columns.now) at.now }
-{
-    match at {
-        Some(at) => Some(spot_of(columns, at.site, at.row, at.number)),
-        None => None,
-    }
 }

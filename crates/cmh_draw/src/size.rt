@@ -2,7 +2,8 @@
 
 ghost use Rattle.std.specs.Prelude.{◌≤◌, length};
 ghost use Rattle.std.specs.List.{AllByRecursion};
-ghost use Rattle.cmh_draw.specs.Sizes.{AreWithin, HasRoom};
+ghost use Rattle.cmh_frames.specs.Topology.{sites_of, members_of};
+ghost use Rattle.cmh_draw.specs.Inner.Columns.{AreWithin};
 
 use crate::columns::Columns;
 use cmh_frames::Topology;
@@ -13,7 +14,7 @@ pub fn width_of(columns: &[Columns]) -> u32
 {
     let mut width = 1;
     for site in columns {
-        width = larger(width, last_of(&site.columns).saturating_add(1));
+        width = larger(width, last_of(site.as_slice()).saturating_add(1));
     }
     width
 }
@@ -31,7 +32,7 @@ fn last_of(columns: &[u32]) -> u32
 
 /// How many processes the largest site has, and 1 at least.
 pub fn height_of(topology: &Topology) -> u32
-    ensures { HasRoom topology.now result }
+    ensures { AllByRecursion (λ site. length (members_of topology.now site) ≤ result) (sites_of topology.now) }
 {
     let mut height = 1;
     for site in topology.sites() {

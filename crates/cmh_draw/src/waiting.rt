@@ -1,9 +1,12 @@
 //! Who waits for whom at the end.
 
-ghost use Rattle.std.specs.Prelude.{◌≡◌, ◌≤◌, ◌++◌, ◌==◌, IfOk, OnOk, length, Option};
+ghost use Rattle.std.specs.Prelude.{◌≡◌, ◌≤◌, ◌++◌, ◌==◌, [], IfOk, OnOk, length, map, unwrap_or};
 ghost use Rattle.std.specs.List.{list_any};
 ghost use Rattle.cmh_audit.specs.Reports.{cycle_of};
-ghost use Rattle.cmh_draw.specs.Each.{each_from, number_from};
+ghost use Rattle.cmh_frames.specs.Topology.{members_of};
+ghost use Rattle.cmh_draw.specs.Each.{number_from};
+ghost use Rattle.cmh_draw.specs.Inner.Marks.{member_marks, wait_mark};
+ghost use Rattle.cmh_draw.specs.Inner.Steps as inner;
 ghost use Rattle.cmh_draw.specs.Marks as spec;
 ghost use Rattle.cmh_draw.specs.Marks.{IsWaitsPicture};
 
@@ -48,7 +51,7 @@ pub fn waits_picture(
 }
 
 fn add_homes(topology: &Topology, marks: &mut Vec<Mark>) -> Result<(), AllocError>
-    ensures { OnOk result (marks.new.items ≡ marks.old.items ++ spec.home_marks topology.now) }
+    ensures { OnOk result (marks.new.items ≡ marks.old.items ++ spec.site_marks topology.now (λ site. length (members_of topology.now site))) }
 {
     for (column, site) in topology.sites().iter().enumerate() {
         let length = topology.members(*site).len() as u32;
@@ -62,7 +65,7 @@ fn add_homes(topology: &Topology, marks: &mut Vec<Mark>) -> Result<(), AllocErro
 }
 
 fn add_waits(topology: &Topology, report: &Report, marks: &mut Vec<Mark>) -> Result<(), AllocError>
-    ensures { OnOk result (marks.new.items ≡ marks.old.items ++ spec.report_marks topology.now report.now) }
+    ensures { OnOk result (marks.new.items ≡ marks.old.items ++ map (wait_mark topology.now report.now) report.now.waits) }
 {
     for (asker, holder) in report.waits() {
         let from = spot_of(topology, *asker);
@@ -102,7 +105,7 @@ fn add_processes(
 ) -> Result<(), AllocError>
     requires { length members.now ≤ 64 }
     ensures { OnOk result (marks.new.items ≡ marks.old.items
-        ++ spec.member_marks declared.now column site members.now) }
+        ++ member_marks declared.now column site members.now) }
 {
     for (row, process) in members.iter().enumerate() {
         let spot = Spot {
@@ -165,7 +168,7 @@ fn is_on_cycle(report: &Report, asker: ProcId, holder: ProcId) -> bool
 }
 
 fn is_on_cycle_of(report: &Report, process: ProcId, asker: ProcId, holder: ProcId) -> bool
-    ensures { result ≡ spec.is_step_of (cycle_of report.now process) asker holder }
+    ensures { result ≡ inner.has_step asker holder (unwrap_or (cycle_of report.now process) []) }
 {
     match report.cycle(process) {
         Some(members) => has_step(members, asker, holder),
@@ -175,7 +178,7 @@ fn is_on_cycle_of(report: &Report, process: ProcId, asker: ProcId, holder: ProcI
 
 /// Whether the asker stands right before the holder.
 fn has_step(members: &[ProcId], asker: ProcId, holder: ProcId) -> bool
-    ensures { result ≡ spec.has_step asker holder members.now }
+    ensures { result ≡ inner.steps asker holder members.now }
 {
     for (i, member) in members.iter().enumerate() {
         if *member == asker && begins_with(&members[i + 1..], holder) {
@@ -186,7 +189,7 @@ fn has_step(members: &[ProcId], asker: ProcId, holder: ProcId) -> bool
 }
 
 fn begins_with(members: &[ProcId], process: ProcId) -> bool
-    ensures { result ≡ spec.begins_with process members.now }
+    ensures { result ≡ inner.begins_with process members.now }
 {
     match members.split_first() {
         Some((first, _)) => *first == process,

@@ -1,5 +1,5 @@
 -- The headline from what the crates below promise.
-use Rattle.std.proofs.Common.{◌≡◌, ◌<◌, ◌≤◌, ◌⊎◌, ℕ, zero, suc, Bool, true, false, List, [], ◌∷◌, ◌++◌, length, take, map, get_or, ◌==◌, if◌then◌else◌, refl, sym, ap, subst, ◌∙◌, inl, inr, arith}
+use Rattle.std.proofs.Common.{◌≡◌, ◌<◌, ◌≤◌, ◌⊎◌, ℕ, zero, suc, Bool, true, false, IfOk, List, [], ◌∷◌, ◌++◌, length, take, map, get_or, ◌==◌, if◌then◌else◌, refl, sym, ap, subst, ◌∙◌, inl, inr, arith}
 use Rattle.std.specs.Prelude.{Contains}
 use Rattle.std.specs.List.{AllByRecursion, AllZip}
 use Rattle.std.proofs.lemmas.Bool.{cases_eq, cases_Bool, eq-eqb, ne_eqb}
@@ -7,25 +7,38 @@ use Rattle.std.proofs.lemmas.List.Elements.{recursion_from_All}
 use Rattle.std.proofs.lemmas.Map.Made.{Contains-tail}
 use Rattle.cmh_frames.specs.Edition.{starts_at_ask}
 use Rattle.cmh_frames.specs.declared.edition.Edition.{Edition}
-use Rattle.cmh_frames.specs.Topology.{Topology, is_site, sites_of}
-use Rattle.cmh_model.specs.declared.journal.Entry.{Entry}
-use Rattle.cmh_model.specs.declared.journal.WorldEvent.{WorldEvent}
-use Rattle.cmh_model.specs.Laws.{bit, count_of, DarkPath, StopsAnywhere, StrangersSilent}
-use Rattle.cmh_model.specs.LastAsker.{LastAskerDeclared}
-use Rattle.cmh_model.specs.Runs.{IsBeginningOf, IsRun, IsDrained, ComesFrom, entries_of}
-use Rattle.cmh_model.specs.Stops.{stopped, stop_at}
-use Rattle.cmh_model.proofs.Members.{found_at, found_from}
+use Rattle.cmh_frames.specs.Topology.{Topology, is_site, sites_of, lookup}
+use Rattle.cmh_frames.specs.declared.journal.Entry.{Entry}
+use Rattle.cmh_frames.specs.declared.journal.WorldEvent.{WorldEvent}
+use Rattle.cmh_frames.specs.Laws.{bit, count_of, DarkPath}
+use Rattle.cmh_frames.specs.LastAsker.{LastAskerDeclared}
+use Rattle.cmh_frames.specs.Runs.{IsBeginningOf, IsRun, IsDrained, ComesFrom, entries_of, ComeFromRun}
+use Rattle.cmh_frames.specs.Stops.{stopped, IsConsistent}
+use Rattle.cmh_frames.proofs.Members.{found_at, found_from}
 use Rattle.cmh_journal.specs.declared.tail.Tail.{Tail}
 use Rattle.cmh_journal.specs.File.{IsCut, IsFileOf, Writes, tail_of}
 use Rattle.cmh_journal.specs.Journal.{Journal}
-use Rattle.cmh_audit.specs.Journals.{journal_of, NoneAt, OneEach}
+use Rattle.cmh_audit.specs.Journals.{journal_of, NoneAt}
+use Rattle.cmh_audit.specs.Inner.Places.{OneEach}
 use Rattle.cmh_audit.specs.Reports.{Reports}
 use Rattle.cmh_audit.specs.Set.{IsSet}
-use Rattle.cmh_audit.specs.Verdicts.{IfAccepted, IsVerdictOn}
+use Rattle.cmh_audit.proofs.SetLemmas.{set_parts}
+use Rattle.cmh_audit.specs.Verdicts.{IsVerdictOn, as_result}
 use Rattle.cmh_audit.specs.declared.verdict.Verdict.{Verdict}
 use Rattle.cmh_audit.specs.declared.verdict.Verdict.TheVariants.{Accepted, Refused}
-use Rattle.cmh_files.specs.Audits.{AreFilesOf}
-use Rattle.cmh_files.specs.Headline.{IsFileWith, IsCutFileOf, FilesHold, AreFilesOfRun, AreFilesOfStop, AreCutFilesOf, Headline}
+use Rattle.cmh_frames.specs.Journals.{IsLawful}
+use Rattle.cmh_files.specs.Headline.{FilesHold, AreFilesOfRun, AreCutFilesOf, Headline}
+
+-- what the headline says of one file, by names
+abbrev IsFileWith : Edition → ℕ → List Entry → List ℕ → Type 0
+IsFileWith edition s entries bytes = (tail : List ℕ) × Writes edition s entries tail bytes
+
+abbrev IsCutFileOf : Edition → ℕ → List Entry → List ℕ → Type 0
+IsCutFileOf edition s entries bytes =
+    (file : List ℕ) × Writes edition s entries [] file × IsBeginningOf bytes file × (7 ≤ length bytes)
+
+abbrev AreFilesOfStop : Topology → (ℕ → ℕ) → List WorldEvent → List (List ℕ) → Type 0
+AreFilesOfStop t stop events files = FilesHold t (stopped stop events) files
 
 -- ---- journals that are read, by their sites
 
@@ -64,7 +77,7 @@ once_counted s (j ∷ js) one c = elim (cases_eq j.site s) [
 -- a site that has no journal of a set is none of the topology's
 stranger_of : (t : Topology) (js : List Journal) → IsSet t js → (s : ℕ) → NoneAt s js → is_site t s ≡ false
 stranger_of t js set s none = elim (cases_Bool (is_site t s)) [
-  | inl is ↦ absurd (missing (recursion_from_All (λ site. Contains (map (λ (j : Journal). j.site) js) site) (sites_of t) set.present) (found_at (sites_of t) s is))
+  | inl is ↦ absurd (missing (recursion_from_All (λ site. Contains (map (λ (j : Journal). j.site) js) site) (sites_of t) (set_parts t js set).present) (found_at (sites_of t) s is))
   | inr not ↦ not
 ]
   where
@@ -83,7 +96,7 @@ stranger_of t js set s none = elim (cases_Bool (is_site t s)) [
 -- of a set each site of the topology has one journal, and no other site has any
 sites_once : (t : Topology) (js : List Journal) → IsSet t js → (s : ℕ) → count_of (λ q. q == s) (map (λ (j : Journal). j.site) js) ≡ bit (is_site t s)
 sites_once t js set s = elim (journal_or_none s js) [
-  | inl c ↦ once_counted s js set.once c ∙ sym (ap bit (known js (recursion_from_All (λ (j : Journal). Contains (sites_of t) j.site) js set.known) c.0 c.1 c.2))
+  | inl c ↦ once_counted s js (set_parts t js set).once c ∙ sym (ap bit (known js (recursion_from_All (λ (j : Journal). Contains (sites_of t) j.site) js (set_parts t js set).known) c.0 c.1 c.2))
   | inr none ↦ none_counted s js none ∙ sym (ap bit (stranger_of t js set s none))
 ]
   where
@@ -115,30 +128,34 @@ OneJournal = (edition : Edition) (site : ℕ) (entries : List Entry) (left bytes
     → Writes edition site entries left bytes → IsFileOf journal tail bytes
     → (journal.edition ≡ edition) × (journal.site ≡ site) × (journal.entries ≡ entries) × (tail ≡ tail_of left)
 
--- the files that were read hold what the journals have
-held : (e : Edition) (journals : ℕ → List Entry) (js : List Journal) (ts : List Tail) (files : List (List ℕ)) → AreFilesOf js ts files
-    → AllByRecursion (λ (j : Journal). j.edition ≡ e) js → AllByRecursion (λ (j : Journal). journals j.site ≡ j.entries) js
-    → AllZip (λ s bytes. IsFileWith e s (journals s) bytes) (map (λ (j : Journal). j.site) js) files
-held e journals [] [] [] are editions each = tt
-held e journals (j ∷ js) (t ∷ ts) (f ∷ fs) are editions each = (
-  (are.0.left, subst (λ es. Writes e j.site es are.0.left f) (sym each.0) (subst (λ d. Writes d j.site j.entries are.0.left f) editions.0 are.0.writes)),
-  held e journals js ts fs are.1 editions.1 each.1,
+-- files that were read: each is that of the journal at its place, with what is left after its entries
+abbrev AreFiles : List (Journal × List ℕ) → List (List ℕ) → Type 0
+AreFiles reads files = AllZip (λ one file. Writes one.0.edition one.0.site one.0.entries one.1 file) reads files
+
+abbrev journals_in : List (Journal × List ℕ) → List Journal
+journals_in reads = map (λ one. one.0) reads
+
+-- they hold what the journals have
+held : (e : Edition) (journals : ℕ → List Entry) (reads : List (Journal × List ℕ)) (files : List (List ℕ)) → AreFiles reads files
+    → AllByRecursion (λ (j : Journal). j.edition ≡ e) (journals_in reads) → AllByRecursion (λ (j : Journal). journals j.site ≡ j.entries) (journals_in reads)
+    → AllZip (λ s bytes. IsFileWith e s (journals s) bytes) (map (λ (j : Journal). j.site) (journals_in reads)) files
+held e journals [] [] are editions each = tt
+held e journals (one ∷ reads) (f ∷ fs) are editions each = (
+  (one.1, subst (λ es. Writes e one.0.site es one.1 f) (sym each.0) (subst (λ d. Writes d one.0.site one.0.entries one.1 f) editions.0 are.0)),
+  held e journals reads fs are.1 editions.1 each.1,
 )
-held e journals [] [] (f ∷ fs) are editions each = absurd are
-held e journals [] (t ∷ ts) files are editions each = absurd are
-held e journals (j ∷ js) [] files are editions each = absurd are
-held e journals (j ∷ js) (t ∷ ts) [] are editions each = absurd are
+held e journals [] (f ∷ fs) are editions each = absurd are
+held e journals (one ∷ reads) [] are editions each = absurd are
 
 -- the journals that were read are those that the files hold
-read_back : OneJournal → (e : Edition) (journals : ℕ → List Entry) (js : List Journal) (ts : List Tail) (sites : List ℕ) (files : List (List ℕ)) → AreFilesOf js ts files
-    → AllZip (λ s bytes. IsFileWith e s (journals s) bytes) sites files → AllByRecursion (λ (j : Journal). j.entries ≡ journals j.site) js
-read_back one e journals [] ts sites files are hold = tt
-read_back one e journals (j ∷ js) (t ∷ ts) (s ∷ sites) (f ∷ fs) are hold =
-    let same = one e s (journals s) hold.0.0 f j t hold.0.1 are.0 in
-    (same.2 ∙ ap journals (sym same.1), read_back one e journals js ts sites fs are.1 hold.1)
-read_back one e journals (j ∷ js) [] sites files are hold = absurd are
-read_back one e journals (j ∷ js) (t ∷ ts) sites [] are hold = absurd are
-read_back one e journals (j ∷ js) (t ∷ ts) [] (f ∷ fs) are hold = absurd hold
+read_back : OneJournal → (e : Edition) (journals : ℕ → List Entry) (reads : List (Journal × List ℕ)) (sites : List ℕ) (files : List (List ℕ)) → AreFiles reads files
+    → AllZip (λ s bytes. IsFileWith e s (journals s) bytes) sites files → AllByRecursion (λ (j : Journal). j.entries ≡ journals j.site) (journals_in reads)
+read_back law e journals [] sites files are hold = tt
+read_back law e journals (one ∷ reads) (s ∷ sites) (f ∷ fs) are hold =
+    let same = law e s (journals s) hold.0.0 f one.0 (tail_of one.1) hold.0.1 (record { left = one.1; writes = are.0; tail_is = refl }) in
+    (same.2 ∙ ap journals (sym same.1), read_back law e journals reads sites fs are.1 hold.1)
+read_back law e journals (one ∷ reads) sites [] are hold = absurd are
+read_back law e journals (one ∷ reads) [] (f ∷ fs) are hold = absurd hold
 
 -- so each site's journal is what they hold of it, or it has none
 journal_held : (journals : ℕ → List Entry) (js : List Journal) → AllByRecursion (λ (j : Journal). j.entries ≡ journals j.site) js → (s : ℕ) → (journal_of js s ≡ journals s) ⊎ (NoneAt s js × (journal_of js s ≡ []))
@@ -171,20 +188,20 @@ module _ (begins : Beginnings) (edition : Edition) (events : List WorldEvent) wh
   marks [] (f ∷ fs) cut = []
   marks (s ∷ sites) [] cut = []
   marks (s ∷ sites) (f ∷ fs) cut =
-      let left = begins edition s (entries_of s events) cut.0.file f cut.0.writes cut.0.begins cut.0.has_header in
+      let left = begins edition s (entries_of s events) cut.0.0 f cut.0.1 cut.0.2 cut.0.3 in
       (s, length left.so_far) ∷ marks sites fs cut.1
 
   -- a mark of another site changes nothing
   with_mark : (x n : ℕ) (pairs : List (ℕ × ℕ)) (sites : List ℕ) (files : List (List ℕ)) → count_of (λ q. q == x) sites ≡ 0
-      → AllZip (λ s bytes. IsFileWith edition s (stopped (stop_at pairs) events s) bytes) sites files
-      → AllZip (λ s bytes. IsFileWith edition s (stopped (stop_at ((x, n) ∷ pairs)) events s) bytes) sites files
+      → AllZip (λ s bytes. IsFileWith edition s (stopped (lookup 0 pairs) events s) bytes) sites files
+      → AllZip (λ s bytes. IsFileWith edition s (stopped (lookup 0 ((x, n) ∷ pairs)) events s) bytes) sites files
   with_mark x n pairs [] [] none are = tt
   with_mark x n pairs [] (f ∷ fs) none are = absurd are
   with_mark x n pairs (s ∷ sites) [] none are = absurd are
   with_mark x n pairs (s ∷ sites) (f ∷ fs) none are = elim (cases_eq s x) [
     | inl same ↦ let first = ap bit (eq-eqb s x same) in absurd (omega (arith, first, none))
     | inr far ↦
-        let skip : stop_at ((x, n) ∷ pairs) s ≡ stop_at pairs s = ap (λ b. if b then n else stop_at pairs s) (ne_eqb x s (λ e. far (sym e))) in (
+        let skip : lookup 0 ((x, n) ∷ pairs) s ≡ lookup 0 pairs s = ap (λ b. if b then n else lookup 0 pairs s) (ne_eqb x s (λ e. far (sym e))) in (
           (are.0.0, subst (λ m. Writes edition s (take m (entries_of s events)) are.0.0 f) (sym skip) are.0.1),
           with_mark x n pairs sites fs (omega (arith, none)) are.1,
         )
@@ -192,15 +209,15 @@ module _ (begins : Beginnings) (edition : Edition) (events : List WorldEvent) wh
 
   -- of sites that stand once, what is left is the file of the stop at these marks
   marked : (sites : List ℕ) (files : List (List ℕ)) (cut : AllZip (λ s bytes. IsCutFileOf edition s (entries_of s events) bytes) sites files) → ((s : ℕ) → count_of (λ q. q == s) sites ≤ 1)
-      → AllZip (λ s bytes. IsFileWith edition s (stopped (stop_at (marks sites files cut)) events s) bytes) sites files
+      → AllZip (λ s bytes. IsFileWith edition s (stopped (lookup 0 (marks sites files cut)) events s) bytes) sites files
   unfolding marks
   marked [] [] cut once = tt
   marked [] (f ∷ fs) cut once = absurd cut
   marked (s ∷ sites) [] cut once = absurd cut
   marked (s ∷ sites) (f ∷ fs) cut once =
-      let left = begins edition s (entries_of s events) cut.0.file f cut.0.writes cut.0.begins cut.0.has_header in
+      let left = begins edition s (entries_of s events) cut.0.0 f cut.0.1 cut.0.2 cut.0.3 in
       let pairs = marks sites fs cut.1 in
-      let at : stop_at ((s, length left.so_far) ∷ pairs) s ≡ length left.so_far = ap (λ b. if b then length left.so_far else stop_at pairs s) (eq-eqb s s refl) in
+      let at : lookup 0 ((s, length left.so_far) ∷ pairs) s ≡ length left.so_far = ap (λ b. if b then length left.so_far else lookup 0 pairs s) (eq-eqb s s refl) in
       let kept : take (length left.so_far) (entries_of s events) ≡ left.so_far = ap (take (length left.so_far)) (sym left.begins.1) ∙ take_front left.so_far left.begins.0 in
       let first = ap bit (eq-eqb s s refl) in
       let here = once s in (
@@ -210,13 +227,16 @@ module _ (begins : Beginnings) (edition : Edition) (events : List WorldEvent) wh
 
 -- ---- the headline
 
-module _ (t : Topology) (one : OneJournal) (begins : Beginnings) (strangers : StrangersSilent t) (js : List Journal) (ts : List Tail) (files : List (List ℕ)) (are : AreFilesOf js ts files) (set : IsSet t js) where
+module _ (t : Topology) (one : OneJournal) (begins : Beginnings) (strangers : (s : ℕ) (journal : List Entry) → is_site t s ≡ false → IsLawful t s journal → journal ≡ []) (reads : List (Journal × List ℕ)) (files : List (List ℕ)) (are : AreFiles reads files) (set : IsSet t (journals_in reads)) where
+  abbrev js : List Journal
+  js = journals_in reads
+
   -- the files of a run are those of journals that come from it
   files_of : (events : List WorldEvent) → ComesFrom (journal_of js) events → AreFilesOfRun t events files
   files_of events comes = record {
     sites = map (λ (j : Journal). j.site) js;
     once = sites_once t js set;
-    each = held t.edition (λ s. entries_of s events) js ts files are (recursion_from_All (λ (j : Journal). j.edition ≡ t.edition) js set.edition) (there js (each_here js set.once));
+    each = held t.edition (λ s. entries_of s events) reads files are (recursion_from_All (λ (j : Journal). j.edition ≡ t.edition) js (set_parts t js set).edition) (there js (each_here js (set_parts t js set).once));
   }
     where
       there : (some : List Journal) → AllByRecursion (λ (j : Journal). journal_of js j.site ≡ j.entries) some → AllByRecursion (λ (j : Journal). entries_of j.site events ≡ j.entries) some
@@ -225,7 +245,7 @@ module _ (t : Topology) (one : OneJournal) (begins : Beginnings) (strangers : St
 
   -- and if the files hold some journals, these are the ones that were read
   held_by : (journals : ℕ → List Entry) → FilesHold t journals files → ((s : ℕ) → is_site t s ≡ false → journals s ≡ []) → (s : ℕ) → journals s ≡ journal_of js s
-  held_by journals hold none s = elim (journal_held journals js (read_back one t.edition journals js ts hold.sites files are hold.each) s) [
+  held_by journals hold none s = elim (journal_held journals js (read_back one t.edition journals reads hold.sites files are hold.each) s) [
     | inl same ↦ sym same
     | inr nothing ↦ none s (stranger_of t js set s nothing.0) ∙ sym nothing.1
   ]
@@ -242,7 +262,7 @@ module _ (t : Topology) (one : OneJournal) (begins : Beginnings) (strangers : St
 
   cut_back : (events : List WorldEvent) → AreCutFilesOf t events files → (stop : ℕ → ℕ) × AreFilesOfStop t stop events files
   cut_back events cut = (
-    stop_at (marks begins t.edition events cut.sites files cut.each),
+    lookup 0 (marks begins t.edition events cut.sites files cut.each),
     record {
       sites = cut.sites;
       once = cut.once;
@@ -256,7 +276,7 @@ module _ (t : Topology) (one : OneJournal) (begins : Beginnings) (strangers : St
 
   pub headline : ((events : List WorldEvent) → IsRun t events → DarkPath t events)
       → (starts_at_ask t.edition ≡ true → (events : List WorldEvent) → IsRun t events → IsDrained events → LastAskerDeclared events)
-      → ((events : List WorldEvent) → IsRun t events → StopsAnywhere t events)
+      → ((events : List WorldEvent) → IsRun t events → (stop : ℕ → ℕ) → IsConsistent stop events → ComeFromRun t (stopped stop events))
       → (verdict : Verdict) → IsVerdictOn t js verdict → Headline t files verdict
   headline dark drained stops verdict v = record {
     accepted = (
@@ -272,12 +292,12 @@ module _ (t : Topology) (one : OneJournal) (begins : Beginnings) (strangers : St
     cut_anywhere = λ events run cut. cut_back events cut;
   }
     where
-      report : (verdict : Verdict) → IfAccepted verdict (λ report. (events : List WorldEvent) → IsRun t events → ComesFrom (journal_of js) events → Reports t events report)
-          → IfAccepted verdict (λ report. (events : List WorldEvent) → IsRun t events → AreFilesOfRun t events files → Reports t events report)
+      report : (verdict : Verdict) → IfOk (as_result verdict) (λ report. (events : List WorldEvent) → IsRun t events → ComesFrom (journal_of js) events → Reports t events report)
+          → IfOk (as_result verdict) (λ report. (events : List WorldEvent) → IsRun t events → AreFilesOfRun t events files → Reports t events report)
       report (Accepted r) h = λ events run of. h events run (comes_back events run of)
       report (Refused stops) h = tt
 
-      silent : (verdict : Verdict) → IfAccepted verdict (λ report. (events : List WorldEvent) → IsRun t events → ComesFrom (journal_of js) events → Reports t events report)
-          → starts_at_ask t.edition ≡ true → IfAccepted verdict (λ report. report.in_transit ≡ 0 → (events : List WorldEvent) → IsRun t events → AreFilesOfRun t events files → LastAskerDeclared events)
+      silent : (verdict : Verdict) → IfOk (as_result verdict) (λ report. (events : List WorldEvent) → IsRun t events → ComesFrom (journal_of js) events → Reports t events report)
+          → starts_at_ask t.edition ≡ true → IfOk (as_result verdict) (λ report. report.in_transit ≡ 0 → (events : List WorldEvent) → IsRun t events → AreFilesOfRun t events files → LastAskerDeclared events)
       silent (Accepted r) h two = λ none events run of. drained two events run ((h events run (comes_back events run of)).drained.0 none)
       silent (Refused stops) h two = tt

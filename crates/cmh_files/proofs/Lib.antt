@@ -1,4 +1,13 @@
+pub mod LineLemmas
+pub mod BadEntries
+pub mod TurnLemmas
+pub mod StopLemmas
+pub mod ReasonLemmas
 pub mod FileLemmas
 pub mod Headlines
 pub mod ShowLemmas
 pub mod RunLemmas
+mod ReadLemmas
+mod CommonStops
+mod WalkLemmas
+mod LengthLemmas

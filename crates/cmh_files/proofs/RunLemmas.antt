@@ -1,12 +1,12 @@
 -- The lines of a run, one after the other.
 use Rattle.std.proofs.Common.{◌≡◌, ℕ, ◌+◌, ◌<◌, List, ◌++◌, Option, None, Some, length, take, get_or, sym, ap, ◌∙◌, append-nil}
 use Rattle.std.proofs.lemmas.List.{get_or_default}
-use Rattle.cmh_model.specs.declared.journal.Entry.{Entry}
-use Rattle.cmh_model.specs.declared.journal.WorldEvent.{WorldEvent}
+use Rattle.cmh_frames.specs.declared.journal.Entry.{Entry}
+use Rattle.cmh_frames.specs.declared.journal.WorldEvent.{WorldEvent}
 use Rattle.cmh_journal.specs.Journal.{Journal}
 use Rattle.cmh_audit.specs.declared.step.Step.{Step}
 use Rattle.cmh_audit.specs.Runs.{event_at}
-use Rattle.cmh_show.specs.RunLines.{run_line_text}
+use Rattle.cmh_files.specs.RunLines.{run_line_text}
 use Rattle.cmh_frames.proofs.ListLemmas.{texts_written}
 use Rattle.cmh_files.specs.RunAudits.{event_line, run_text, step_text}
 

@@ -1,13 +1,12 @@
 -- An audit: from the bytes of its files to the auditor's verdict.
-use Rattle.std.specs.Prelude.{◌≡◌, ℕ, ◌+◌, Bool, true, ◌⊎◌, List, [], ◌∷◌, ◌++◌, length, ⊤, Option, Some}
+use Rattle.std.specs.Prelude.{◌≡◌, ℕ, ◌+◌, Bool, true, ◌⊎◌, List, [], ◌∷◌, ◌++◌, length, map, ⊤, Option, Some}
+use Rattle.std.specs.List.{AllByRecursion, AllZip, flat_map}
 use Rattle.std.specs.List.Sorted.{IsPermutation, IsSorted}
 use Rattle.std.specs.Io.KnownBytes.{Appends}
 use Rattle.cmh_frames.specs.Topology.{Topology}
-use Rattle.cmh_model.specs.Relation.{pair_cmp}
+use Rattle.cmh_frames.specs.Relation.{pair_cmp}
 use Rattle.cmh_journal.specs.declared.journal.JournalFault.{JournalFault}
-use Rattle.cmh_journal.specs.declared.tail.Tail.{Tail}
-use Rattle.cmh_journal.specs.declared.tail.Tail.TheVariants.{Whole, Cut}
-use Rattle.cmh_journal.specs.File.{IsFileOf, IsFault}
+use Rattle.cmh_journal.specs.File.{IsFault, Writes}
 use Rattle.cmh_journal.specs.Journal.{Journal}
 use Rattle.cmh_audit.specs.Set as set
 use Rattle.cmh_audit.specs.Set.{IsSet}
@@ -15,37 +14,26 @@ use Rattle.cmh_audit.specs.Verdicts.{IsVerdictOn}
 use Rattle.cmh_audit.specs.declared.verdict.Verdict.{Verdict}
 use Rattle.cmh_audit.specs.declared.verdict.Verdict.TheVariants.{Accepted, Refused}
 use Rattle.cmh_console.specs.Device.{Writing}
-use Rattle.cmh_show.specs.AuditTexts.{cuts_text, verdict_text}
+use Rattle.cmh_files.specs.AuditTexts.{cuts_text, verdict_text}
 use Rattle.cmh_console.specs.Faults.{NamesFault}
 use Rattle.cmh_files.specs.Headline.{Headline}
-use Rattle.cmh_console.specs.TopologyFile.{SaysTopology, OfTopology, IsFaultOfFile, IsOfNoTopology}
+use Rattle.cmh_console.specs.TopologyFile.{SaysTopology, SaysNoRows, OfTopology, IsOfNoTopology}
 use Rattle.cmh_console.specs.declared.faults.Fault as faults
 use Rattle.cmh_console.specs.declared.faults.Fault.TheVariants.{Json, Topology as NoTopology, Journal as NoJournal, Set as NoSet, Output, Memory}
-use Rattle.cmh_console.specs.declared.topology_file.TopologyFileFault.TheVariants.{Json as NoJson}
 
 -- ---- the files
 
--- each is the file of the journal at its place, with the tail at its place
-abbrev pub AreFilesOf : List Journal → List Tail → List (List ℕ) → Type 0
-AreFilesOf [] [] [] = ⊤
-AreFilesOf (j ∷ js) (t ∷ ts) (f ∷ fs) = IsFileOf j t f × AreFilesOf js ts fs
-AreFilesOf journals tails files = ⊥
-
-abbrev pub cut_of : ℕ → Tail → List (ℕ × ℕ)
-cut_of site Whole = []
-cut_of site (Cut bytes) = (site, bytes) ∷ []
-
--- the sites whose journal was cut off, with how many bytes stand after its last entry
-abbrev pub cuts_of : List Journal → List Tail → List (ℕ × ℕ)
-cuts_of [] tails = []
-cuts_of (j ∷ js) [] = []
-cuts_of (j ∷ js) (t ∷ ts) = cut_of j.site t ++ cuts_of js ts
+-- of a journal, and what is left of its file after its entries: its site, and how many bytes are left, if any are
+abbrev pub cut_of : Journal × List ℕ → List (ℕ × ℕ)
+cut_of (journal, []) = []
+cut_of (journal, left) = (journal.site, length left) ∷ []
 
 -- the files are those of the journals, of which just these were cut off, ascending by their sites
 pub record AreRead (files : List (List ℕ)) (journals : List Journal) (cuts : List (ℕ × ℕ)) : Type 0 where
-  pub tails : List Tail
-  pub are_files : AreFilesOf journals tails files
-  pub cuts_are : IsPermutation (cuts_of journals tails) cuts
+  pub reads : List (Journal × List ℕ)
+  pub journals_are : journals ≡ map (λ one. one.0) reads
+  pub are_files : AllZip (λ one file. Writes one.0.edition one.0.site one.0.entries one.1 file) reads files
+  pub cuts_are : IsPermutation (flat_map cut_of reads) cuts
   pub ascending : IsSorted pair_cmp cuts
 
 -- ---- the audit
@@ -87,20 +75,12 @@ pub record IsFirstFaulty (files : List (List ℕ)) (place : ℕ) (fault : Journa
   pub behind : List (List ℕ)
   pub files_are : files ≡ before ++ bytes ∷ behind
   pub place_is : place ≡ length before + 1
-  pub journals : List Journal
-  pub tails : List Tail
-  pub are_files : AreFilesOf journals tails before
+  pub readable : AllByRecursion (λ file. (j : Journal) × (left : List ℕ) × Writes j.edition j.site j.entries left file) before
   pub fault_is : IsFault bytes fault
-
--- the first fault of the journals' files
-abbrev pub IsFaultOfFiles : List (List ℕ) → faults.Fault → Type 0
-IsFaultOfFiles files (NoJournal place fault) = IsFirstFaulty files place fault
-IsFaultOfFiles files Memory = ⊤
-IsFaultOfFiles files fault = ⊥
 
 -- the first fault of an audit's files
 abbrev pub IsAuditFault : List ℕ → List (List ℕ) → faults.Fault → Type 0
-IsAuditFault topology files Json = IsFaultOfFile topology NoJson
+IsAuditFault topology files Json = SaysNoRows topology
 IsAuditFault topology files (NoTopology fault) = IsOfNoTopology topology fault
 IsAuditFault topology files (NoJournal place fault) = OfTopology topology (λ world. IsFirstFaulty files place fault)
 IsAuditFault topology files (NoSet fault) = OfTopology topology (λ world.

@@ -6,10 +6,10 @@ use Rattle.cmh_journal.specs.Journal.{Journal}
 use Rattle.cmh_audit.specs.declared.verdict.Verdict.{Verdict}
 use Rattle.cmh_audit.specs.declared.verdict.Verdict.TheVariants.{Accepted, Refused}
 use Rattle.cmh_console.specs.Device.{Writing}
-use Rattle.cmh_show.specs.AuditTexts.{cuts_text, verdict_text}
+use Rattle.cmh_files.specs.AuditTexts.{cuts_text, verdict_text}
 use Rattle.cmh_files.specs.Audits.{Audits, IsCause, status_of}
 use Rattle.cmh_console.specs.Faults.{NamesFault}
-use Rattle.cmh_show.specs.ReasonLines.{AreReasonLines}
+use Rattle.cmh_files.specs.ReasonLines.{AreReasonLines}
 
 -- after a verdict on these journals: a line for each stop, with its reason
 abbrev pub AreReasons : Topology → List Journal → Verdict → List ℕ → Type 0

@@ -1,19 +1,18 @@
 -- The headline: what a verdict on files says of the world whose sites wrote them.
-use Rattle.std.specs.Prelude.{◌≡◌, ℕ, ◌≤◌, true, ◌↔◌, List, [], length, ◌==◌}
+use Rattle.std.specs.Prelude.{◌≡◌, ℕ, ◌≤◌, true, ◌↔◌, List, [], length, ◌==◌, IfOk}
 use Rattle.std.specs.List.{AllZip}
-use Rattle.cmh_frames.specs.declared.edition.Edition.{Edition}
 use Rattle.cmh_frames.specs.Edition.{starts_at_ask}
 use Rattle.cmh_frames.specs.Topology.{Topology, is_site}
-use Rattle.cmh_model.specs.declared.journal.Entry.{Entry}
-use Rattle.cmh_model.specs.declared.journal.WorldEvent.{WorldEvent}
-use Rattle.cmh_model.specs.Laws.{bit, count_of}
-use Rattle.cmh_model.specs.Runs.{IsBeginningOf, IsRun, entries_of}
-use Rattle.cmh_model.specs.Stops.{stopped, IsConsistent}
-use Rattle.cmh_model.specs.Waits.{IsDeclared, OnCycle}
-use Rattle.cmh_model.specs.LastAsker.{LastAskerDeclared}
+use Rattle.cmh_frames.specs.declared.journal.Entry.{Entry}
+use Rattle.cmh_frames.specs.declared.journal.WorldEvent.{WorldEvent}
+use Rattle.cmh_frames.specs.Laws.{bit, count_of}
+use Rattle.cmh_frames.specs.Runs.{IsBeginningOf, IsRun, entries_of}
+use Rattle.cmh_frames.specs.Stops.{stopped, IsConsistent}
+use Rattle.cmh_frames.specs.Waits.{IsDeclared, OnCycle}
+use Rattle.cmh_frames.specs.LastAsker.{LastAskerDeclared}
 use Rattle.cmh_journal.specs.File.{Writes}
 use Rattle.cmh_audit.specs.Reports.{Reports}
-use Rattle.cmh_audit.specs.Verdicts.{IsAccepted, IfAccepted}
+use Rattle.cmh_audit.specs.Verdicts.{IsAccepted, as_result}
 use Rattle.cmh_audit.specs.declared.verdict.Verdict.{Verdict}
 
 -- ---- whose files they are
@@ -24,33 +23,20 @@ pub record AreOneForEachSite {X : Type 0} (t : Topology) (IsOf : ℕ → X → T
   pub once : (s : ℕ) → count_of (λ q. q == s) sites ≡ bit (is_site t s)
   pub each : AllZip IsOf sites things
 
--- The bytes are the file of a journal of the site with these entries, and a tail after them or none.
-abbrev pub IsFileWith : Edition → ℕ → List Entry → List ℕ → Type 0
-IsFileWith edition s entries bytes = (tail : List ℕ) × Writes edition s entries tail bytes
-
--- The bytes are a beginning of the file of such a journal, with its header at least.
-pub record IsCutFileOf (edition : Edition) (s : ℕ) (entries : List Entry) (bytes : List ℕ) : Type 0 where
-  pub file : List ℕ
-  pub writes : Writes edition s entries [] file
-  pub begins : IsBeginningOf bytes file
-  pub has_header : 7 ≤ length bytes
-
--- the files of all sites hold these journals, which are given by site number
+-- The files of all sites are those of journals with these entries, given by site number, and a tail after them or none.
 abbrev pub FilesHold : Topology → (ℕ → List Entry) → List (List ℕ) → Type 0
-FilesHold t journals files = AreOneForEachSite t (λ s bytes. IsFileWith t.edition s (journals s) bytes) files
+FilesHold t journals files =
+    AreOneForEachSite t (λ s bytes. (tail : List ℕ) × Writes t.edition s (journals s) tail bytes) files
 
 -- they hold what the run has of each site
 abbrev pub AreFilesOfRun : Topology → List WorldEvent → List (List ℕ) → Type 0
 AreFilesOfRun t events files = FilesHold t (λ s. entries_of s events) files
 
--- they hold what the run has of each site up to its stop
-abbrev pub AreFilesOfStop : Topology → (ℕ → ℕ) → List WorldEvent → List (List ℕ) → Type 0
-AreFilesOfStop t stop events files = FilesHold t (stopped stop events) files
-
--- each is what is left of a file of the run that was cut off somewhere
+-- Each is what is left of such a file that was cut off somewhere: a beginning of it, with its header at least.
 abbrev pub AreCutFilesOf : Topology → List WorldEvent → List (List ℕ) → Type 0
 AreCutFilesOf t events files = AreOneForEachSite t
-    (λ s bytes. IsCutFileOf t.edition s (entries_of s events) bytes) files
+    (λ s bytes. (file : List ℕ) × Writes t.edition s (entries_of s events) [] file
+    × IsBeginningOf bytes file × (7 ≤ length bytes)) files
 
 -- ---- the headline
 
@@ -62,14 +48,14 @@ pub record Headline (t : Topology) (files : List (List ℕ)) (verdict : Verdict)
   pub no_false_deadlock : (events : List WorldEvent) → IsRun t events → AreFilesOfRun t events files
       → (i : ℕ) → IsDeclared events i → OnCycle events i
   -- and the report is true
-  pub report : IfAccepted verdict (λ report. (events : List WorldEvent) → IsRun t events
+  pub report : IfOk (as_result verdict) (λ report. (events : List WorldEvent) → IsRun t events
       → AreFilesOfRun t events files → Reports t events report)
   -- in edition 2, if no frame is in transit, the process of each cycle that asked last is declared
-  pub no_silent_deadlock : starts_at_ask t.edition ≡ true → IfAccepted verdict (λ report. report.in_transit ≡ 0
+  pub no_silent_deadlock : starts_at_ask t.edition ≡ true → IfOk (as_result verdict) (λ report. report.in_transit ≡ 0
       → (events : List WorldEvent) → IsRun t events → AreFilesOfRun t events files → LastAskerDeclared events)
   -- files of a consistent stop of a run are accepted
   pub stops : (events : List WorldEvent) (stop : ℕ → ℕ) → IsRun t events → IsConsistent stop events
-      → AreFilesOfStop t stop events files → IsAccepted verdict
+      → FilesHold t (stopped stop events) files → IsAccepted verdict
   -- and files that were cut off, each wherever it was, are those of a stop
   pub cut_anywhere : (events : List WorldEvent) → IsRun t events → AreCutFilesOf t events files
-      → (stop : ℕ → ℕ) × AreFilesOfStop t stop events files
+      → (stop : ℕ → ℕ) × FilesHold t (stopped stop events) files

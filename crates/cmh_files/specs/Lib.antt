@@ -1,5 +1,14 @@
+pub mod EntryTexts
+pub mod Shown
+pub mod RunLines
+pub mod AuditTexts
+pub mod Reasons
+pub mod ReasonLines
 pub mod Audits
 pub mod Headline
 pub mod Shows
 pub mod Explains
 pub mod RunAudits
+pub mod Inner
+pub mod Stops
+pub mod Readings

@@ -3,15 +3,15 @@ use Rattle.std.specs.Prelude.{◌≡◌, ℕ, ◌+◌, true, ◌⊎◌, List, []
 use Rattle.std.specs.List.{flat_map}
 use Rattle.std.specs.Io.KnownBytes.{Appends}
 use Rattle.cmh_frames.specs.Topology.{Topology}
-use Rattle.cmh_model.specs.declared.journal.WorldEvent.{WorldEvent}
+use Rattle.cmh_frames.specs.declared.journal.WorldEvent.{WorldEvent}
 use Rattle.cmh_journal.specs.Journal.{Journal}
 use Rattle.cmh_audit.specs.declared.step.Step.{Step}
 use Rattle.cmh_audit.specs.declared.verdict.Verdict.{Verdict}
 use Rattle.cmh_audit.specs.declared.verdict.Verdict.TheVariants.{Accepted, Refused}
 use Rattle.cmh_audit.specs.Runs.{IsRunOf, event_at}
-use Rattle.cmh_show.specs.RunLines.{run_line_text}
+use Rattle.cmh_files.specs.RunLines.{run_line_text}
 use Rattle.cmh_console.specs.Device.{Writing}
-use Rattle.cmh_show.specs.AuditTexts.{cuts_text, verdict_text}
+use Rattle.cmh_files.specs.AuditTexts.{cuts_text, verdict_text}
 use Rattle.cmh_files.specs.Audits.{Audits, IsCause, status_of}
 use Rattle.cmh_console.specs.Faults.{NamesFault}
 

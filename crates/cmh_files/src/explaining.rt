@@ -2,17 +2,17 @@
 
 ghost use Rattle.std.specs.Prelude.{◌≡◌, ◌++◌, ℕ, List, true, OnOk, IfOk, IfErr, map, string_bytes};
 ghost use Rattle.cmh_audit.specs.Stops.{AreStops};
-ghost use Rattle.cmh_audit.specs.Verdicts.{IfRefused};
-ghost use Rattle.cmh_show.specs.AuditTexts.{cuts_text, verdict_text};
+ghost use Rattle.cmh_audit.specs.Verdicts.{as_result};
+ghost use Rattle.cmh_files.specs.AuditTexts.{cuts_text, verdict_text};
 ghost use Rattle.cmh_files.specs.Audits.{IsCause};
 ghost use Rattle.cmh_files.specs.Explains.{AreReasons, ExplainEnds, WroteExplained};
 ghost use Rattle.cmh_console.specs.Status.{IsStatus};
 
 use crate::auditing::{Audited, audit_files};
+use crate::reason_lines;
 use cmh_audit::Verdict;
 use cmh_console::{Fault, Output};
-use cmh_show::reason_lines;
-use cmh_stored::list_journals;
+use cmh_journal::list_journals;
 use std::alloc::{AllocError, Global};
 use std::io::Write;
 
@@ -61,7 +61,7 @@ fn explain_into<W: Write>(
 
 /// The lines of the audit, and then those of the reasons.
 fn explained_text(alloc: Global, audited: &Audited<'_>) -> Result<String, AllocError>
-    requires { IfRefused audited.now.verdict
+    requires { IfErr (as_result audited.now.verdict)
         (λ stops. AreStops audited.now.world audited.now.journals.items stops.rows) }
     ensures { IfOk result (λ text. (reasons : List ℕ)
         × AreReasons audited.now.world audited.now.journals.items audited.now.verdict reasons
@@ -76,7 +76,7 @@ fn explained_text(alloc: Global, audited: &Audited<'_>) -> Result<String, AllocE
 
 /// The lines of the reasons; none where the journals come from a run.
 fn reasons_of(alloc: Global, audited: &Audited<'_>) -> Result<String, AllocError>
-    requires { IfRefused audited.now.verdict
+    requires { IfErr (as_result audited.now.verdict)
         (λ stops. AreStops audited.now.world audited.now.journals.items stops.rows) }
     ensures { IfOk result (λ text.
         AreReasons audited.now.world audited.now.journals.items audited.now.verdict (string_bytes text)) }

@@ -1,12 +1,11 @@
 //! The headline as a law: what an auditor's verdict says of the files that were read.
 
 ghost use Rattle.std.specs.Prelude.{List, ℕ};
-ghost use Rattle.cmh_journal.specs.declared.tail.Tail.{Tail};
 ghost use Rattle.cmh_journal.specs.Journal.{Journal};
 ghost use Rattle.cmh_audit.specs.Set.{IsSet};
 ghost use Rattle.cmh_audit.specs.Verdicts.{IsVerdictOn};
 ghost use Rattle.cmh_audit.specs.declared.verdict.Verdict.{Verdict};
-ghost use Rattle.cmh_files.specs.Audits.{AreFilesOf};
+ghost use Rattle.cmh_files.specs.Audits.{AreRead};
 ghost use Rattle.cmh_files.specs.Headline.{Headline};
 
 use cmh_frames::Topology;
@@ -21,8 +20,8 @@ use cmh_world::{
 /// cycle, and the report is true; in edition 2, with no frame in transit, the last asker of each cycle is declared.
 /// Files of a consistent stop of a run are accepted, and files that were cut off are those of a stop.
 pub fn headline_law(topology: &Topology)
-    ensures headline { (files : List (List ℕ)) (journals : List Journal) (tails : List Tail) (verdict : Verdict)
-        → AreFilesOf journals tails files → IsSet topology.now journals → IsVerdictOn topology.now journals verdict
+    ensures headline { (files : List (List ℕ)) (journals : List Journal) (cuts : List (ℕ × ℕ)) (verdict : Verdict)
+        → AreRead files journals cuts → IsSet topology.now journals → IsVerdictOn topology.now journals verdict
         → Headline topology.now files verdict }
 {
     one_file_law();

@@ -4,9 +4,9 @@ ghost use Rattle.std.specs.Prelude.{◌≡◌, ◌+◌, MatchOption, None, Some}
 ghost use Rattle.cmh_audit.specs.Runs.{event_at};
 ghost use Rattle.cmh_files.specs.RunAudits as spec;
 
+use crate::RunLine;
 use cmh_audit::Step;
 use cmh_journal::Journal;
-use cmh_show::RunLine;
 use std::fmt;
 
 /// The entries of a run, one a line, in its order.

@@ -4,7 +4,7 @@ ghost use Rattle.std.specs.Prelude.{◌≡◌, ◌↔◌, true, OnOk, IfOk, IfEr
 ghost use Rattle.cmh_audit.specs.Journals.{journal_of};
 ghost use Rattle.cmh_audit.specs.Set.{IsSet};
 ghost use Rattle.cmh_audit.specs.Verdicts.{IsAccepted};
-ghost use Rattle.cmh_model.specs.Runs.{ComeFromRun};
+ghost use Rattle.cmh_frames.specs.Runs.{ComeFromRun};
 ghost use Rattle.cmh_files.specs.Audits.{IsCause};
 ghost use Rattle.cmh_files.specs.RunAudits.{AreStepsToTell, RunEnds, WroteRun};
 ghost use Rattle.cmh_console.specs.Status.{IsStatus};
@@ -13,7 +13,7 @@ use crate::auditing::{Audited, audit_files};
 use crate::run_lines::RunLines;
 use cmh_audit::{AuditMemory, Step, Verdict, run_of};
 use cmh_console::{Fault, Output};
-use cmh_stored::list_journals;
+use cmh_journal::list_journals;
 use std::alloc::Global;
 use std::io::Write;
 

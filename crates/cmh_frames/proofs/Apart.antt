@@ -4,8 +4,11 @@ use Rattle.std.specs.List.{list_any, AllByRecursion, IsDistinct}
 use Rattle.std.proofs.lemmas.Bool.{cases_eq, cases_Bool, eqb-true, eq-eqb, ne_eqb, and_parts, and_from, or_cases, or_parts, or_left, or_right}
 use Rattle.std.proofs.lemmas.Map.Keys.{IsDistinct-cons}
 use Rattle.std.proofs.lemmas.Option.{none-some}
-use Rattle.cmh_frames.specs.Rows.{Row, has_site, has_process, repeats_site, repeats_among, repeats_process}
-use Rattle.cmh_frames.specs.Topology.{home_in, members_in, is_named}
+use Rattle.cmh_frames.specs.Rows.{Row, repeats}
+use Rattle.cmh_frames.proofs.Words.{has_site, is_named, repeats_site}
+use Rattle.cmh_frames.specs.Inner.Twice.{has_process, repeats_among, repeats_process}
+use Rattle.cmh_frames.specs.Topology.{home_in}
+use Rattle.cmh_frames.specs.Inner.Kept.{members_in}
 use Rattle.cmh_frames.specs.Inner.Kept.{AreApart}
 
 pub some_same : {a b : ℕ} → Some a ≡ Some b → a ≡ b
@@ -96,6 +99,12 @@ distinct_members (row ∷ rows) s h =
 pub any_site : (rows : List Row) (s : ℕ) → list_any (λ q. q == s) (map (λ (row : Row). row.0) rows) ≡ has_site rows s
 any_site [] s = refl
 any_site (row ∷ rows) s = ap (λ b. (row.0 == s) || b) (any_site rows s)
+
+-- the check of all rows, site by site
+pub sites_repeat : (rows : List Row) → repeats (map (λ (row : Row). row.0) rows) ≡ repeats_site rows
+sites_repeat [] = refl
+sites_repeat (row ∷ rows) =
+    ap (λ b. b || repeats (map (λ (row : Row). row.0) rows)) (any_site rows row.0) ∙ ap (λ b. has_site rows row.0 || b) (sites_repeat rows)
 
 pub distinct_sites : (rows : List Row) → repeats_site rows ≡ false → IsDistinct (λ x y. x == y) (map (λ (row : Row). row.0) rows)
 unfolding IsDistinct

@@ -18,11 +18,16 @@ use Rattle.cmh_frames.specs.declared.rows.TopologyFault.{TopologyFault}
 use Rattle.cmh_frames.specs.declared.rows.TopologyFault.TheVariants.{Limit, RepeatedSite, RepeatedProcess, BadNumber}
 use Rattle.cmh_frames.specs.Edition.{site_limit, member_limit}
 use Rattle.cmh_frames.specs.Number.{IsNumber, is_number}
-use Rattle.cmh_frames.specs.Rows.{Row, is_bad, is_over_limit, has_site, repeats_site, repeats_process, has_bad_number, fault_of}
-use Rattle.cmh_frames.specs.Topology.{Topology, home_in, members_in, IsTopologyOf}
+use Rattle.cmh_frames.specs.Rows.{Row, is_over_limit, has_bad_number, fault_of, repeats, all_members}
+use Rattle.cmh_frames.proofs.Words.{has_site, repeats_site}
+use Rattle.cmh_frames.specs.Inner.Twice.{repeats_process}
+use Rattle.cmh_frames.specs.Inner.Kept.{is_bad}
+use Rattle.cmh_frames.specs.Topology.{Topology, home_in, IsTopologyOf}
+use Rattle.cmh_frames.specs.Inner.Kept.{members_in}
 use Rattle.cmh_frames.specs.Inner.Kept.{AreApart, HasNumbers, AreTidy, AreInOrder, HasMembersOf}
-use Rattle.cmh_frames.proofs.Apart.{some_same, not_both, eqb_comm, home_first, home_later, members_first, members_later, home_has_row, apart, distinct_members, distinct_sites, any_site, named_at}
+use Rattle.cmh_frames.proofs.Apart.{some_same, not_both, eqb_comm, home_first, home_later, members_first, members_later, home_has_row, apart, distinct_members, distinct_sites, any_site, named_at, sites_repeat}
 use Rattle.cmh_frames.proofs.Homes.{at_home}
+use Rattle.cmh_frames.proofs.Repeats.{processes_repeat}
 
 -- what a sort ensures of numbers
 pub in_order : (xs ys : List ℕ) → IsPermutation xs ys → IsSorted nat_cmp ys → AreInOrder xs ys
@@ -55,8 +60,8 @@ none_of false false false false h = (refl, refl, refl, refl)
 
 pub no_fault : (edition : Edition) (rows : List Row) → fault_of edition rows ≡ None → NoFault edition rows
 no_fault edition rows h =
-    let parts = none_of (is_over_limit edition rows) (repeats_site rows) (repeats_process rows) (has_bad_number rows) h in
-    record { within = parts.0; sites = parts.1; processes = parts.2; numbers = parts.3 }
+    let parts = none_of (is_over_limit edition rows) (repeats (map (λ (row : Row). row.0) rows)) (repeats (all_members rows)) (has_bad_number rows) h in
+    record { within = parts.0; sites = sym (sites_repeat rows) ∙ parts.1; processes = sym (processes_repeat rows) ∙ parts.2; numbers = parts.3 }
 
 -- each site's processes have numbers, and are few
 pub good_members : (rows : List Row) (s : ℕ) → has_bad_number rows ≡ false → list_any is_bad (members_in rows s) ≡ false
@@ -231,7 +236,7 @@ module _ (edition : Edition) (given rows : List Row) (sites : List ℕ) (free : 
       record {
         no_fault = free;
         edition_is = edition_is;
-        sites = λ s. ap (λ (rs : List Row). list_any (λ q. q == s) (map (λ (row : Row). row.0) rs)) rows_are ∙ same_sites s;
+        sites = λ s. ap (λ (rs : List Row). list_any (λ q. q == s) (map (λ (row : Row). row.0) rs)) rows_are ∙ same_sites s ∙ sym (any_site given s);
         places = λ p s.
             let same = ap (λ rs. home_in rs p) rows_are ∙ same_home given rows p given_apart all (λ r h. sym (any_site rows r) ∙ same_sites r ∙ h) in
             let named = named_at given p s given_apart in

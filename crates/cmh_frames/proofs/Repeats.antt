@@ -1,9 +1,11 @@
 -- Processes that are named twice, found from the last row and its last process to the first.
-use Rattle.std.proofs.Common.{◌≡◌, ℕ, suc, zero, ◌+◌, ◌-◌, ◌<◌, Bool, true, false, ◌||◌, ◌==◌, List, [], ◌∷◌, length, drop, get_or, sym, ap, ◌∙◌, inl, inr, arith}
+use Rattle.std.proofs.Common.{◌≡◌, ℕ, suc, zero, ◌+◌, ◌-◌, ◌<◌, Bool, true, false, ◌||◌, ◌==◌, List, [], ◌∷◌, length, drop, get_or, sym, ap, ◌∙◌, inl, inr, arith, refl, ◌++◌}
 use Rattle.std.specs.List.{list_any}
 use Rattle.std.proofs.Math.Seq.{drop-cons}
 use Rattle.std.proofs.lemmas.Bool.{cases_eq, eq-eqb, ne_eqb, or_left, or_right}
-use Rattle.cmh_frames.specs.Rows.{Row, has_process, repeats_among, repeats_process}
+use Rattle.cmh_frames.specs.Rows.{Row, repeats, all_members}
+use Rattle.cmh_frames.specs.Inner.Twice.{has_process, repeats_among, repeats_process}
+use Rattle.std.proofs.lemmas.List.Folds.{list_any-append}
 
 -- one item more of a list, from its last to its first
 pub drop_back : {X : Type 0} (xs : List X) (later : ℕ) (x : X) → later < length xs → x ≡ get_or xs (length xs - 1 - later) x → drop (length xs - (later + 1)) xs ≡ x ∷ drop (length xs - later) xs
@@ -67,3 +69,24 @@ module _ (rows : List Row) (later : ℕ) (row : Row) (within : later < length ro
 
   pub row_named : (p : ℕ) → has_process (drop (length rows - (later + 1)) rows) p ≡ (list_any (λ q. q == p) row.1 || has_process (drop (length rows - later) rows) p)
   row_named p = ap (λ rs. has_process rs p) (drop_back rows later row within row_is)
+
+-- ---- the check of all rows, row by row
+
+or_assoc : (a b c : Bool) → ((a || b) || c) ≡ (a || (b || c))
+or_assoc true b c = refl
+or_assoc false b c = refl
+
+named_in : (rows : List Row) (p : ℕ) → list_any (λ q. q == p) (all_members rows) ≡ has_process rows p
+named_in [] p = refl
+named_in (row ∷ rows) p = list_any-append (λ q. q == p) row.1 (all_members rows) ∙ ap (λ b. list_any (λ q. q == p) row.1 || b) (named_in rows p)
+
+repeats-append : (rows : List Row) (ps : List ℕ) → repeats (ps ++ all_members rows) ≡ (repeats_among rows ps || repeats (all_members rows))
+repeats-append rows [] = refl
+repeats-append rows (p ∷ ps) =
+    ap (λ b. b || repeats (ps ++ all_members rows)) (list_any-append (λ q. q == p) ps (all_members rows) ∙ ap (λ b. list_any (λ q. q == p) ps || b) (named_in rows p))
+    ∙ ap (λ b. (list_any (λ q. q == p) ps || has_process rows p) || b) (repeats-append rows ps)
+    ∙ sym (or_assoc (list_any (λ q. q == p) ps || has_process rows p) (repeats_among rows ps) (repeats (all_members rows)))
+
+pub processes_repeat : (rows : List Row) → repeats (all_members rows) ≡ repeats_process rows
+processes_repeat [] = refl
+processes_repeat (row ∷ rows) = repeats-append rows row.1 ∙ ap (λ b. repeats_among rows row.1 || b) (processes_repeat rows)

@@ -5,3 +5,17 @@ pub mod Topology
 pub mod Wire
 pub mod Texts
 pub mod Inner
+pub mod Relation
+pub mod State
+pub mod Paths
+pub mod Rules
+pub mod Journals
+pub mod Runs
+pub mod Waits
+pub mod Stops
+pub mod Laws
+pub mod Declarations
+pub mod LastAsker
+pub mod Settling
+pub mod Scripts
+pub mod DoneText

@@ -1,12 +1,13 @@
 -- Which process is at which site.
-use Rattle.std.specs.Prelude.{◌≡◌, ◌↔◌, ℕ, ◌≤◌, Bool, true, false, ◌&&◌, List, [], ◌∷◌, ◌++◌, length, ◌==◌, if◌then◌else◌}
+use Rattle.std.specs.Prelude.{◌≡◌, ◌↔◌, ℕ, ◌≤◌, Bool, true, false, ◌&&◌, List, [], ◌∷◌, length, ◌==◌, if◌then◌else◌}
 use Rattle.std.specs.Prelude.{Option, None, Some, unwrap_or, map, IsTrue}
+use Rattle.std.specs.Option.{option_map_or}
 use Rattle.std.specs.List.{list_any}
 use Rattle.std.specs.List.Sorted.{IsStrictlyIncreasing}
 use Rattle.cmh_frames.specs.declared.edition.Edition.{Edition}
 use Rattle.cmh_frames.specs.Edition.{site_limit, member_limit}
 use Rattle.cmh_frames.specs.Number.{IsNumber}
-use Rattle.cmh_frames.specs.Rows.{Row, fault_of, has_site}
+use Rattle.cmh_frames.specs.Rows.{Row, fault_of}
 
 -- the sites in ascending order, each with its processes in ascending order
 pub record Topology : Type 0 where
@@ -25,25 +26,22 @@ home t p = home_in t.rows p
 abbrev pub At : Topology → ℕ → ℕ → Type 0
 At t p s = home t p ≡ Some s
 
-abbrev pub is_some_of : Option ℕ → ℕ → Bool
-is_some_of None s = false
-is_some_of (Some q) s = q == s
-
 -- whether the process is at the site
 abbrev pub is_at : Topology → ℕ → ℕ → Bool
-is_at t p s = is_some_of (home t p) s
+is_at t p s = option_map_or (λ q. q == s) (home t p) false
 
 -- the site of a process, where it has one
 abbrev pub site_of : Topology → ℕ → ℕ
 site_of t p = unwrap_or (home t p) 0
 
-abbrev pub members_in : List (ℕ × List ℕ) → ℕ → List ℕ
-members_in [] s = []
-members_in (row ∷ rows) s = if row.0 == s then row.1 else members_in rows s
+-- what stands beside the number where it comes first, or else `none`
+abbrev pub lookup : {X : Type 0} → X → List (ℕ × X) → ℕ → X
+lookup none [] n = none
+lookup none (pair ∷ pairs) n = if pair.0 == n then pair.1 else lookup none pairs n
 
 -- the processes of a site
 abbrev pub members_of : Topology → ℕ → List ℕ
-members_of t s = members_in t.rows s
+members_of t s = lookup [] t.rows s
 
 abbrev pub sites_of : Topology → List ℕ
 sites_of t = map (λ (row : ℕ × List ℕ). row.0) t.rows
@@ -54,16 +52,13 @@ is_site t s = list_any (λ q. q == s) (sites_of t)
 
 -- ---- a topology and the rows that were given for it
 
--- whether a row of the site names the process
-abbrev pub is_named : List Row → ℕ → ℕ → Bool
-is_named rows p s = list_any (λ (row : Row). (row.0 == s) && list_any (λ q. q == p) row.1) rows
-
 -- the topology of just these rows, which have no fault
 pub record IsTopologyOf (edition : Edition) (rows : List Row) (t : Topology) : Type 0 where
   pub no_fault : fault_of edition rows ≡ None
   pub edition_is : t.edition ≡ edition
-  pub sites : (s : ℕ) → is_site t s ≡ has_site rows s
-  pub places : (p s : ℕ) → At t p s ↔ IsTrue (is_named rows p s)
+  pub sites : (s : ℕ) → is_site t s ≡ list_any (λ q. q == s) (map (λ (row : Row). row.0) rows)
+  pub places : (p s : ℕ)
+      → At t p s ↔ IsTrue (list_any (λ (row : Row). (row.0 == s) && list_any (λ q. q == p) row.1) rows)
   pub sites_ascend : IsStrictlyIncreasing (sites_of t)
   pub members_ascend : (s : ℕ) → IsStrictlyIncreasing (members_of t s)
 
@@ -80,7 +75,6 @@ pub record IsWellFormed (t : Topology) : Type 0 where
   pub few_sites : length (sites_of t) ≤ site_limit t.edition
   pub few_members : (s : ℕ) → length (members_of t s) ≤ member_limit t.edition
 
--- all processes of the rows
-abbrev pub all_members : List Row → List ℕ
-all_members [] = []
-all_members (row ∷ rows) = row.1 ++ all_members rows
+-- whether there is a number, and it is this one
+abbrev pub is_some_of : Option ℕ → ℕ → Bool
+is_some_of o n = option_map_or (λ q. q == n) o false

@@ -1,6 +1,6 @@
 -- How frames stand on the wire. A frame: its kind, and then its numbers in two bytes each, the greater first.
 -- A link: the hello of the site that sends, and then its frames.
-use Rattle.std.specs.Prelude.{◌≡◌, ◌≢◌, ℕ, ◌+◌, ◌<◌, ◌≤◌, ◌==◌, List, [], ◌∷◌, ◌++◌, length, take, if◌then◌else◌, ⊤}
+use Rattle.std.specs.Prelude.{◌≡◌, ◌≢◌, ℕ, ◌+◌, ◌<◌, ◌≤◌, ◌==◌, List, [], ◌∷◌, ◌++◌, length, take, flat_map, if◌then◌else◌, ⊤}
 use Rattle.byteorder.specs.Endian.{big_bytes}
 use Rattle.cmh_frames.specs.Number.{IsNumber}
 use Rattle.cmh_frames.specs.declared.edition.Edition.{Edition}
@@ -26,22 +26,14 @@ pub record Spells (bytes : List ℕ) (f : Frame) : Type 0 where
   pub frame : IsFrame f
   pub bytes_are : bytes ≡ spelling f
 
--- how long the spellings of a kind are
-abbrev pub length_of_kind : ℕ → ℕ
-length_of_kind kind = if kind == 3 then 7 else 5
-
 pub record IsKind (kind : ℕ) : Type 0 where
   pub least : 1 ≤ kind
   pub most : kind ≤ 3
 
--- no bytes, or a kind with fewer bytes than its length
+-- no bytes, or a kind with fewer bytes than its spellings have: those of a probe have seven, and the others five
 abbrev pub IsShort : List ℕ → Type 0
 IsShort [] = ⊤
-IsShort (kind ∷ body) = IsKind kind × (length body + 1 < length_of_kind kind)
-
--- the bytes begin with no spelling
-abbrev pub BeginsNoFrame : List ℕ → Type 0
-BeginsNoFrame bytes = (f : Frame) (more : List ℕ) → IsFrame f → bytes ≢ spelling f ++ more
+IsShort (kind ∷ body) = IsKind kind × (length body + 1 < (if kind == 3 then 7 else 5))
 
 -- the bytes begin with the spelling of a frame
 pub record BeginsFrame (bytes : List ℕ) : Type 0 where
@@ -54,7 +46,7 @@ pub record BeginsFrame (bytes : List ℕ) : Type 0 where
 abbrev pub IsFront : List ℕ → Front → Type 0
 IsFront bytes (Whole f n) = (n ≤ length bytes) × Spells (take n bytes) f
 IsFront bytes Short = IsShort bytes
-IsFront bytes Bad = ¬ IsShort bytes × BeginsNoFrame bytes
+IsFront bytes Bad = ¬ IsShort bytes × ((f : Frame) (more : List ℕ) → IsFrame f → bytes ≢ spelling f ++ more)
 
 -- ---- a link's bytes
 
@@ -64,8 +56,7 @@ hello edition site = 67 ∷ 77 ∷ 72 ∷ number_of edition ∷ big_bytes 2 site
 
 -- the spellings of frames, in order
 abbrev pub spelled : List Frame → List ℕ
-spelled [] = []
-spelled (f ∷ fs) = spelling f ++ spelled fs
+spelled frames = flat_map spelling frames
 
 -- what a site writes on a link for these frames
 abbrev pub link_bytes : Edition → ℕ → List Frame → List ℕ

@@ -1,12 +1,13 @@
 //! The rows that are given for a topology, and what can be wrong with them.
 
-ghost use Rattle.std.specs.Prelude.{◌≡◌, ℕ, false, IfErr, IfOk, length, nat_lt, None};
+ghost use Rattle.std.specs.Prelude.{◌≡◌, ◌==◌, ℕ, false, IfErr, IfOk, length, map, nat_lt, None};
 ghost use Rattle.std.specs.List.{list_any, sum_by};
 ghost use Rattle.cmh_frames.specs.Edition.{process_limit};
 ghost use Rattle.cmh_frames.specs.Inner.Marks.{has_mark};
 ghost use Rattle.cmh_frames.specs.Rows as spec;
-ghost use Rattle.cmh_frames.specs.Rows.{fault_of, IsFaultOf};
-ghost use Rattle.cmh_frames.specs.Topology.{members_in};
+ghost use Rattle.cmh_frames.specs.Rows.{all_members, fault_of, repeats, IsFaultOf, Row};
+ghost use Rattle.cmh_frames.specs.Inner.Twice.{repeats_process as names_again};
+ghost use Rattle.cmh_frames.specs.Inner.Kept.{is_bad as is_no_number, members_in};
 
 use crate::edition::Edition;
 use crate::marks::{WORDS, is_marked, mark};
@@ -122,7 +123,7 @@ fn is_crowded(edition: Edition, rows: &[SiteRow]) -> bool
 }
 
 fn repeats_site(rows: &[SiteRow]) -> bool
-    ensures { result ≡ spec.repeats_site rows.now }
+    ensures { result ≡ repeats (map (λ (row : Row). row.0) rows.now) }
 {
     for (i, row) in rows.iter().enumerate() {
         if has_site(&rows[i + 1..], row.site) {
@@ -133,7 +134,7 @@ fn repeats_site(rows: &[SiteRow]) -> bool
 }
 
 fn has_site(rows: &[SiteRow], site: u16) -> bool
-    ensures { result ≡ spec.has_site rows.now site }
+    ensures { result ≡ list_any (λ q. q == site) (map (λ (row : Row). row.0) rows.now) }
 {
     for row in rows {
         if row.site == site {
@@ -145,7 +146,7 @@ fn has_site(rows: &[SiteRow], site: u16) -> bool
 
 /// Whether a process is named twice.
 fn repeats_process(rows: &[SiteRow]) -> bool
-    ensures { result ≡ spec.repeats_process rows.now }
+    ensures { result ≡ repeats (all_members rows.now) }
 {
     let mut named = [0; WORDS];
     names_twice(rows, &mut named)
@@ -156,7 +157,7 @@ fn repeats_process(rows: &[SiteRow]) -> bool
 fn names_twice(rows: &[SiteRow], named: &mut [u64]) -> bool
     requires all { length named.old ≡ 1024 }
     requires unmarked { (p : ℕ) → has_mark named.old p ≡ false }
-    ensures { result ≡ spec.repeats_process rows.now }
+    ensures { result ≡ names_again rows.now }
 {
     for later in 0..rows.len() {
         let row = &rows[rows.len() - 1 - later];
@@ -183,13 +184,13 @@ fn has_bad_number(rows: &[SiteRow]) -> bool
 }
 
 fn any_bad(numbers: &[u16]) -> bool
-    ensures { result ≡ list_any spec.is_bad numbers.now }
+    ensures { result ≡ list_any is_no_number numbers.now }
 {
     numbers.iter().any(|number| is_bad(*number))
 }
 
 fn is_bad(number: u16) -> bool
-    ensures { result ≡ spec.is_bad number }
+    ensures { result ≡ is_no_number number }
 {
     !is_number(number)
 }

@@ -1,1 +1,3 @@
+mod Named
+mod Porting
 pub mod Taking

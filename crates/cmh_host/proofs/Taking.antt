@@ -5,10 +5,10 @@ use Rattle.std.specs.Io.KnownBytes.{Appends, Keeps}
 use Rattle.std.proofs.lemmas.List.{append-nil}
 use Rattle.std.proofs.lemmas.Grind.{flat_map-append}
 use Rattle.cmh_frames.specs.Topology.{Topology}
-use Rattle.cmh_model.specs.declared.event.Event.{Event}
-use Rattle.cmh_model.specs.declared.journal.Entry.{Entry}
-use Rattle.cmh_model.specs.declared.journal.Outcome.{Outcome}
-use Rattle.cmh_model.specs.Journals.{value}
+use Rattle.cmh_frames.specs.declared.event.Event.{Event}
+use Rattle.cmh_frames.specs.declared.journal.Entry.{Entry}
+use Rattle.cmh_frames.specs.declared.journal.Outcome.{Outcome}
+use Rattle.cmh_frames.specs.Journals.{value}
 use Rattle.cmh_controller.proofs.Replaying.{not_accepted}
 use Rattle.cmh_controller.specs.Refusals.{Refuses}
 use Rattle.cmh_controller.specs.declared.refusal.Refusal.{Refusal}
@@ -22,7 +22,7 @@ use Rattle.cmh_station.specs.Questions.{CanStep}
 use Rattle.cmh_station.specs.declared.refusal.StationRefusal.{StationRefusal}
 use Rattle.cmh_station.specs.declared.refusal.StationRefusal.TheVariants.{Rule, Sealed, Full, Disk}
 use Rattle.cmh_host.specs.SiteReplies.{reply_text}
-use Rattle.cmh_host.specs.Steps.{WasRefused, WasStepped}
+use Rattle.cmh_host.specs.Steps.{WasStepped}
 use Rattle.cmh_host.specs.Together.{AreStepped, AreTaken, FirstRefused, WereAnswered, answer_text, reply_of}
 use Rattle.cmh_host.specs.declared.site_reply.SiteReply.{SiteReply}
 use Rattle.cmh_host.specs.declared.site_reply.SiteReply.TheVariants.{Refused}
@@ -41,7 +41,7 @@ journaled_at t site entries = record {
 }
 
 refused_at : (t : Topology) (site : ℕ) (entries : List Entry) (event : Event) (reason : Refusal) → (length entries < entry_limit)
-    → Refuses t site (value t site entries) event reason → WasRefused event (Rule reason)
+    → Refuses t site (value t site entries) event reason → WasStepped event (Refused (Rule reason))
 refused_at t site entries event reason room refused =
     (journaled_at t site entries, journaled_at t site entries, (refl, room, refused, refl))
 
@@ -52,8 +52,8 @@ taken_one t site entries event (Ok outcome) h = (
   journaled_at t site (entries ++ entry_for event outcome ∷ []),
   outcome.sent,
   (
-    record { was_open = refl; not_full = h.0; step = record { accepts = h.1; sends = h.2 }; event_is = refl },
-    record { topology = refl; site = refl; entries = refl; links = tt; not_sealed = refl; failures = refl; known = refl; synced = tt },
+    record { was_open = refl; not_full = h.0; step = record { accepts = h.1; sends = h.2 } },
+    record { is = record { topology = refl; site = refl; entries = refl; not_sealed = refl; known = refl; synced = tt }; failures = refl; links = tt },
   ),
   refl,
 )
@@ -83,14 +83,15 @@ taken_all a b events answers stepped = taken_each a.topology a.site a.entries ev
 
 -- the first event of a batch was accepted, and the sink failed
 failed_at : (a : Journaled) (event : Event) (answer : Result Outcome StationRefusal) → CanStep a event → IsAnswer a.topology a.site a.entries event answer
-    → WasRefused event Disk
+    → WasStepped event (Refused Disk)
 failed_at a event (Ok outcome) can h = (
   journaled_at a.topology a.site a.entries,
   record (journaled_at a.topology a.site a.entries) { sealed = true; failures = 1 },
   (
     entry_for event outcome,
-    record { was_open = refl; not_full = h.0; step = record { accepts = h.1; sends = h.2 }; event_is = refl },
-    record { sealed = refl; failures = refl; topology = refl; site = refl; entries = refl; links = refl; known = record { part = []; begins = (_, refl); told = refl }; synced = omega arith },
+    refl,
+    record { was_open = refl; not_full = h.0; step = record { accepts = h.1; sends = h.2 } },
+    record { is = refl; known = record { part = []; begins = (_, refl); told = refl }; synced = omega arith },
   ),
 )
 failed_at a event (Err refusal) can h = absurd (excluded refusal h)
@@ -118,7 +119,7 @@ first_failed a b [] first can some is s = absurd (omega (arith, some))
 first_failed a b (event ∷ events) first can some is s = go s.answers s.answered s.some
   where
     go : (answers : List (Result Outcome StationRefusal)) → AreAnswers a.topology a.site a.entries (take (length answers) (event ∷ events)) answers
-        → 0 < length (made (take (length answers) (event ∷ events)) answers) → WasRefused event Disk
+        → 0 < length (made (take (length answers) (event ∷ events)) answers) → WasStepped event (Refused Disk)
     go [] h some = absurd (omega (arith, some))
     go (answer ∷ answers) h some = failed_at a event answer (subst (CanStep a) is can) h.0
 

@@ -1,3 +1,7 @@
+pub mod Ports
+pub mod Setting
+pub mod Shelves
+pub mod SiteScript
 pub mod Opening
 pub mod SiteReplies
 pub mod Steps

@@ -2,8 +2,8 @@
 use Rattle.std.specs.Prelude.{ℕ, List, [], ◌++◌, codes, flat_map}
 use Rattle.std.specs.Fmt.{decimal}
 use Rattle.cmh_frames.specs.Texts.{processes_text}
-use Rattle.cmh_table.specs.Table.{number_of, state_text}
-use Rattle.cmh_model.specs.Texts.{done_text}
+use Rattle.cmh_carriers.specs.Table.{number_of, state_text}
+use Rattle.cmh_frames.specs.DoneText.{done_text}
 use Rattle.cmh_station.specs.Journaled as station
 use Rattle.cmh_host.specs.declared.site_reply.ClosedLink.{ClosedLink}
 use Rattle.cmh_host.specs.declared.site_reply.LinkEnds.{LinkEnds}

@@ -1,16 +1,11 @@
 -- What a running site answers to an event, and to a question.
 use Rattle.std.specs.Prelude.{◌≡◌, ℕ, All, Contains, List, length, ⊤}
 use Rattle.cmh_frames.specs.declared.frame.Frame.{Frame}
-use Rattle.cmh_model.specs.declared.event.Event.{Event}
+use Rattle.cmh_frames.specs.declared.event.Event.{Event}
 use Rattle.cmh_station.specs.Journaled.{Journaled}
 use Rattle.cmh_station.specs.Steps.{NotStepped, Stepped}
-use Rattle.cmh_station.specs.declared.refusal.StationRefusal.{StationRefusal}
 use Rattle.cmh_host.specs.declared.site_reply.SiteReply.{SiteReply}
 use Rattle.cmh_host.specs.declared.site_reply.SiteReply.TheVariants.{Taken, Refused, Declared, Links}
-
--- a station refused the event
-abbrev pub WasRefused : Event → StationRefusal → Type 0
-WasRefused event refusal = (before : Journaled) × (after : Journaled) × NotStepped before event refusal after
 
 -- A station took the event, by the rules, and its entry was kept, or it refused the event. Which station it was is not told:
 -- what comes out of a lock is known by its type alone.
@@ -18,12 +13,11 @@ abbrev pub WasStepped : Event → SiteReply → Type 0
 WasStepped event (Taken done) =
     (before : Journaled) × (after : Journaled) × (sent : List (ℕ × Frame))
     × Stepped before event sent done.declared after × (done.sent ≡ length sent)
-WasStepped event (Refused refusal) = WasRefused event refusal
+WasStepped event (Refused refusal) = (before : Journaled) × (after : Journaled) × NotStepped before event refusal after
 WasStepped event reply = ⊥
 
 abbrev pub IsDeclared : ℕ → SiteReply → Type 0
-IsDeclared site (Declared named processes) = named ≡ site
-IsDeclared site reply = ⊥
+IsDeclared site reply = (processes : List ℕ) × (reply ≡ Declared site processes)
 
 -- these processes are told
 abbrev pub IsListOf : List ℕ → SiteReply → Type 0

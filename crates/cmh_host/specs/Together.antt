@@ -1,11 +1,11 @@
 -- Events that a station is given together.
 use Rattle.std.specs.Prelude.{ℕ, List, [], ◌∷◌, length, Option, Result, Ok, Err, flat_map}
 use Rattle.std.specs.Io.KnownBytes.{Appends}
-use Rattle.cmh_model.specs.declared.event.Event.{Event}
-use Rattle.cmh_model.specs.declared.journal.Outcome.{Outcome}
+use Rattle.cmh_frames.specs.declared.event.Event.{Event}
+use Rattle.cmh_frames.specs.declared.journal.Outcome.{Outcome}
 use Rattle.cmh_station.specs.declared.refusal.StationRefusal.{StationRefusal}
 use Rattle.cmh_host.specs.SiteReplies.{reply_text}
-use Rattle.cmh_host.specs.Steps.{WasRefused, WasStepped}
+use Rattle.cmh_host.specs.Steps.{WasStepped}
 use Rattle.cmh_host.specs.declared.site_reply.SiteReply.{SiteReply}
 use Rattle.cmh_host.specs.declared.site_reply.SiteReply.TheVariants.{Taken, Refused}
 
@@ -35,7 +35,7 @@ AreTaken (event ∷ events) (answer ∷ answers) = WasStepped event (reply_of an
 -- the first of these events was refused
 abbrev pub FirstRefused : List Event → StationRefusal → Type 0
 FirstRefused [] refusal = ⊥
-FirstRefused (event ∷ events) refusal = WasRefused event refusal
+FirstRefused (event ∷ events) refusal = WasStepped event (Refused refusal)
 
 -- a reply for each event was written
 pub record WereAnswered (events : List Event) (old new : Option (List ℕ)) : Type 0 where

@@ -3,9 +3,8 @@
 ghost use Rattle.std.specs.Prelude.{Some, flat_map};
 ghost use Rattle.cmh_host.specs.SiteReplies.{closed_text, ends_text, reply_text};
 
-use cmh_frames::{ProcessesText, SiteId};
+use cmh_frames::{Done, ProcessesText, SiteId};
 use cmh_links::{LinkFault, LinkState};
-use cmh_model::Done;
 use cmh_station::{Declared, StationRefusal};
 use std::fmt;
 

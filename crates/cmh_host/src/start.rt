@@ -4,11 +4,10 @@ ghost use Rattle.std.specs.Prelude.{◌≡◌, ◌⊎◌, IfOk, IfErr};
 
 use crate::starting::{Opened, RunningSite, Speakers, fault_of, open_station, start_threads};
 use crate::system::System;
-use cmh_carriers::{TcpDial, TcpListen};
+use crate::{Disk, NewJournal, Ports, can_be_made, make_journal};
+use cmh_carriers::{Note, Noting, Origin, Speaker, TcpDial, TcpListen};
 use cmh_console::Fault;
 use cmh_frames::{SiteId, Topology};
-use cmh_notes::{Note, Noting, Origin, Speaker};
-use cmh_running::{Disk, NewJournal, Ports, can_be_made, make_journal};
 use std::alloc::Global;
 use std::fs::File;
 use std::net::{Net, TcpListener, TcpStream};

@@ -3,19 +3,17 @@
 ghost use Rattle.std.specs.Prelude.{◌≡◌, ◌⊎◌, IfOk, IfErr};
 ghost use Rattle.cmh_host.specs.Opening.{IsNewStation};
 ghost use Rattle.cmh_frames.specs.Topology.{sites_of};
-ghost use Rattle.cmh_model.specs.Runs.{IsBeginningOf};
+ghost use Rattle.cmh_frames.specs.Runs.{IsBeginningOf};
 ghost use Rattle.cmh_host.specs.Steps.{AreLinksOf, IsDeclared, IsLinks, IsListOf, WasStepped};
 
 use crate::site_reply::{LinkEnds, SiteReply};
 use crate::system::System;
-use cmh_carriers::{Dial, TcpDial, TcpListen};
+use crate::{JournalSink, NoFile};
+use cmh_carriers::{Dial, Note, Speaker, TcpDial, TcpListen};
 use cmh_console::Fault;
-use cmh_frames::{SiteId, Topology};
+use cmh_frames::{Done, Event, SiteId, Topology};
 use cmh_journal::Sink;
 use cmh_links::{LinkFault, LinkState, SharedLinks, SiteThreads};
-use cmh_model::{Done, Event};
-use cmh_notes::{Note, Speaker};
-use cmh_running::{JournalSink, NoFile};
 use cmh_station::{
     BoardReader, KeptBoard, LinkTap, Listing, ParkingTap, SharedStation, Station, StationRefusal,
 };

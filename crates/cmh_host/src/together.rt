@@ -5,12 +5,12 @@ ghost use Rattle.std.specs.Io.KnownBytes.{Appends};
 ghost use Rattle.cmh_station.specs.Journaled.{batch_limit};
 ghost use Rattle.cmh_host.specs.Together.{AreTaken, FirstRefused, WereAnswered, answer_text, reply_of};
 
+use crate::JournalSink;
 use crate::site_reply::SiteReply;
 use crate::starting::{FileStation, note_seal, step};
+use cmh_carriers::Speaker;
 use cmh_console::{Fault, Output};
-use cmh_model::{Done, Event, Outcome};
-use cmh_notes::Speaker;
-use cmh_running::JournalSink;
+use cmh_frames::{Done, Event, Outcome};
 use cmh_station::{KeptBoard, Station, StationRefusal};
 use std::io::Write;
 use std::sync::Wait;

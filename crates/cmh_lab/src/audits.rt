@@ -6,11 +6,9 @@ use crate::object::{
 };
 use cmh_audit::{Report, Stops, Totals, Verdict, audit, check_set, run_of};
 use cmh_console::Words;
-use cmh_frames::Topology;
-use cmh_journal::Journal;
+use cmh_frames::{Outcome, Topology};
+use cmh_journal::{Journal, read_stored};
 use cmh_lab_lines::{Answer, Unanswered};
-use cmh_model::Outcome;
-use cmh_stored::read_stored;
 use std::alloc::Global;
 
 /// `audit NAME T B..`: the verdict, or `set` and the number of the fault. The verdict has the name from then on.

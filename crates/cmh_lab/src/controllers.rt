@@ -6,8 +6,8 @@ use crate::object::{
 };
 use cmh_console::Words;
 use cmh_controller::{Controller, Refusal, Replayed, replay};
+use cmh_frames::{Event, Outcome};
 use cmh_lab_lines::{Answer, Unanswered, event};
-use cmh_model::{Event, Outcome};
 use std::alloc::Global;
 use std::mem::replace;
 
@@ -95,22 +95,23 @@ pub fn of_controller(
             let copy = driven.controller.copy(objects.alloc)?;
             keep_driven(objects, name, copy, answer)
         }
-        _ => match manner_of(call) {
-            Some(manner) => given(driven, manner, word(words)?, objects, words, answer),
-            None => given(driven, Manner::Step, call, objects, words, answer),
-        },
+        _ => given(driven, call, objects, words, answer),
     }
 }
 
-/// Gives a controller the event that the words spell or name.
+/// Gives a controller the event that the words spell or name: those after the call, or the call itself where it says no
+/// manner.
 fn given(
     driven: &mut Driven,
-    manner: Manner,
-    first: &[u8],
+    call: &[u8],
     objects: &Objects,
     words: &mut Words<'_>,
     answer: &mut Answer,
 ) -> Called {
+    let (manner, first) = match manner_of(call) {
+        Some(manner) => (manner, word(words)?),
+        None => (Manner::Step, call),
+    };
     if let Some(Object::Event(event)) = objects.get(first) {
         return give(objects.alloc, driven, manner, event, answer);
     }

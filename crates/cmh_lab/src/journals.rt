@@ -7,12 +7,13 @@ use crate::object::{
     Called, Object, Objects, bytes, journal, keep, put_declared, refused, site, word,
 };
 use cmh_console::Words;
-use cmh_frames::{Edition, SiteId};
-use cmh_journal::{Journal, JournalFault, Tail, encode_entry, encode_header, read_journal};
+use cmh_files::{EntryText, EventText};
+use cmh_frames::{Edition, Entry, Event, SiteId};
+use cmh_journal::{
+    Journal, JournalFault, StoredEntry, StoredJournal, StoredOutcome, Tail, encode_entry,
+    encode_header, list_journals, read_journal, read_stored,
+};
 use cmh_lab_lines::{Answer, Unanswered, edition, size};
-use cmh_model::{Entry, Event};
-use cmh_show::{EntryText, EventText};
-use cmh_stored::{StoredEntry, StoredJournal, StoredOutcome, list_journals, read_stored};
 use std::alloc::{AllocError, Global};
 
 /// `journal NAME EDITION SITE`: one without entries.

@@ -6,9 +6,8 @@ use crate::object::{
 };
 use cmh_console::Words;
 use cmh_dependents::{DependentSets, local_reach, on_local_cycle};
-use cmh_frames::{Frame, ProcId, Reply, Request};
+use cmh_frames::{Frame, ProcId, Reply, Request, is_ascending};
 use cmh_lab_lines::{Answer, Unanswered, frame, processes, size};
-use cmh_model::is_ascending;
 use cmh_rules::{ProbeVerdict, StartVerdict, on_probe, start};
 use cmh_waits::LocalWaits;
 use std::alloc::Global;

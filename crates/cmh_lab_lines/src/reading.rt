@@ -4,8 +4,7 @@ ghost use Rattle.std.specs.Prelude.{◌≢◌, ◌≤◌, IfOk};
 
 use crate::answer::Unanswered;
 use cmh_console::Words;
-use cmh_frames::{Edition, Frame, Probe, ProcId, Reply, Request, SiteId, SiteRow};
-use cmh_model::{Event, Targets};
+use cmh_frames::{Edition, Event, Frame, Probe, ProcId, Reply, Request, SiteId, SiteRow, Targets};
 use std::alloc::Global;
 
 /// The value of a digit.

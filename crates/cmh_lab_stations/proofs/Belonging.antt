@@ -1,19 +1,19 @@
 -- Taps stay those of their links, whatever a station does.
-use Rattle.std.proofs.Common.{◌≡◌, ℕ, zero, suc, ◌<◌, List, [], ◌∷◌, length, get_or, set, map, refl, sym, ◌∙◌, subst, arith}
+use Rattle.std.proofs.Common.{◌≡◌, ℕ, zero, suc, ◌<◌, List, [], ◌∷◌, length, get_or, set, map, flat_map, refl, ap, sym, ◌∙◌, subst, arith}
 use Rattle.std.specs.Prelude.{Result, Ok, Err, IfOk, IfErr, Option, Some, None, IfSome}
 use Rattle.std.specs.Option.{option_map}
 use Rattle.std.proofs.lemmas.Option.{none-some, same_Some}
 use Rattle.cmh_frames.specs.declared.frame.Frame.{Frame}
-use Rattle.cmh_model.specs.declared.event.Event.{Event}
-use Rattle.cmh_model.specs.declared.journal.Entry.{Entry}
-use Rattle.cmh_model.specs.declared.journal.Outcome.{Outcome}
-use Rattle.cmh_board.specs.Fronts.{Front}
+use Rattle.cmh_frames.specs.declared.event.Event.{Event}
+use Rattle.cmh_frames.specs.declared.journal.Entry.{Entry}
+use Rattle.cmh_frames.specs.declared.journal.Outcome.{Outcome}
+use Rattle.cmh_shared.specs.Fronts.{Front}
 use Rattle.std.specs.List.{AllZip}
-use Rattle.cmh_ring.specs.Links.{IsTapOf, Link, Released, Tap, queued}
+use Rattle.cmh_shared.specs.Links.{IsTapOf, Link, Released, Tap, queued}
 use Rattle.cmh_station.specs.Batches.{GrewByAny, NotSteppedAll, SteppedAll, made}
 use Rattle.cmh_station.specs.Journaled.{Journaled}
 use Rattle.cmh_station.specs.Stations.{Station}
-use Rattle.cmh_station.specs.Steps.{Grew, NotStepped, Stepped, WasSealed, sent_of}
+use Rattle.cmh_station.specs.Steps.{Grew, NotStepped, Stepped, WasSealed}
 use Rattle.cmh_station.specs.declared.refusal.StationRefusal.{StationRefusal}
 use Rattle.cmh_station.specs.declared.refusal.StationRefusal.TheVariants.{Rule, Sealed, Disk, Full}
 use Rattle.cmh_controller.specs.declared.refusal.Refusal.TheVariants.{UnknownProcess, NotHere, BadTargets, Blocked, NotBlocked, NotOwed, AlreadyDeclared, Unlawful, Memory}
@@ -29,7 +29,7 @@ released [] (l' ∷ ls') r ts p = absurd r
 released (l ∷ ls) [] r ts p = absurd r
 released (l ∷ ls) (l' ∷ ls') r [] p = absurd p
 released (l ∷ ls) (l' ∷ ls') r (t ∷ ts) p =
-    (record { to = p.0.to ∙ sym r.0.to; ring = p.0.ring ∙ sym r.0.ring }, released ls ls' r.1 ts p.1)
+    (record { to = p.0.to ∙ ap (λ (l : Link). l.to) (sym r.0.link_is); ring = p.0.ring ∙ ap (λ (l : Link). l.ring) (sym r.0.link_is) }, released ls ls' r.1 ts p.1)
 
 queue_keeps : (sent : List (ℕ × Frame)) (ls : List Link) → KeepsTaps ls (map (queued sent) ls)
 queue_keeps sent [] [] p = tt
@@ -41,16 +41,18 @@ pub same : (a b : Journaled) → b ≡ a → KeepsTaps a.links b.links
 same a b e ts p = subst (λ (j : Journaled). AllZip IsTapOf j.links ts) (sym e) p
 
 grew : (a : Journaled) (more : List Entry) (b : Journaled) → Grew a more b → KeepsTaps a.links b.links
-grew a more b g ts p = released (map (queued (sent_of more)) a.links) b.links g.links ts (queue_keeps (sent_of more) a.links ts p)
+grew a more b g ts p =
+    let sent : List (ℕ × Frame) = flat_map (λ (entry : Entry). entry.sent) more in
+    released (map (queued sent) a.links) b.links g.links ts (queue_keeps sent a.links ts p)
 
 was_sealed : (a : Journaled) (more : List Entry) (b : Journaled) → WasSealed a more b → KeepsTaps a.links b.links
-was_sealed a more b w ts p = subst (λ (ls : List Link). AllZip IsTapOf ls ts) (sym w.links) p
+was_sealed a more b w ts p = subst (λ (ls : List Link). AllZip IsTapOf ls ts) (ap (λ (j : Journaled). j.links) (sym w.is)) p
 
 not_stepped : (a : Journaled) (event : Event) (refusal : StationRefusal) (b : Journaled) → NotStepped a event refusal b → KeepsTaps a.links b.links
 not_stepped a event Sealed b n = same a b n.1
 not_stepped a event Full b n = same a b n.2
 not_stepped a event (Rule refusal) b n = same a b n.3
-not_stepped a event Disk b n = was_sealed a (n.0 ∷ []) b n.2
+not_stepped a event Disk b n = was_sealed a (n.0 ∷ []) b n.3
 
 -- whatever a step answered
 pub stepped : {S : Type 0} (a b : Station S) (event : Event) (answer : Result Outcome StationRefusal)

@@ -5,11 +5,10 @@ use crate::object::{Objects, bytes, topology};
 use crate::telling::put_lines;
 use cmh_audit::{audit, check_set};
 use cmh_console::Words;
+use cmh_files::VerdictText;
 use cmh_frames::Topology;
-use cmh_journal::Tail;
+use cmh_journal::{StoredJournal, Tail, read_stored};
 use cmh_lab_lines::{Answer, Unanswered};
-use cmh_show::VerdictText;
-use cmh_stored::{StoredJournal, read_stored};
 use std::alloc::Global;
 use std::sync::Wait;
 

@@ -7,7 +7,7 @@ use crate::core_station::open_core;
 use crate::disk::Disk;
 use crate::left::Left;
 use crate::object::{Object, Objects, topology};
-use crate::station::open;
+use crate::station::{NewStation, open};
 use crate::telling::put_refusal;
 use cmh_console::Words;
 use cmh_frames::Topology;
@@ -133,7 +133,13 @@ pub fn make_station<R: Wait + Copy + Drop>(
     let site = words.site().ok_or(Unanswered::BadLine)?;
     let disk = new_disk(alloc, words)?;
     let readers = readers(words)?;
-    match open(rt, alloc, topology(objects, of)?, site, disk, readers) {
+    let wanted = NewStation {
+        topology: topology(objects, of)?,
+        site,
+        disk,
+        readers,
+    };
+    match open(rt, alloc, wanted) {
         Ok(opened) => {
             objects.put(name, Object::Station(opened))?;
             answer.word("ok")

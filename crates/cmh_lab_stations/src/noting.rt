@@ -3,10 +3,10 @@
 use crate::links::{fault_of, state_of};
 use crate::making::word;
 use crate::object::{Object, Objects};
+use cmh_carriers::{Meter, Note, Noted, Origin};
 use cmh_console::Words;
 use cmh_frames::SiteId;
 use cmh_lab_lines::{Answer, Unanswered, number};
-use cmh_notes::{Meter, Note, Noted, Origin};
 use std::sync::Wait;
 
 fn site(words: &mut Words<'_>) -> Result<SiteId, Unanswered> {

@@ -6,11 +6,10 @@ use crate::hands::{Frames, Hands};
 use crate::left::Left;
 use crate::shared::Shared;
 use crate::station::Opened;
-use cmh_carriers::MemIncoming;
+use cmh_carriers::{MemIncoming, Meter};
 use cmh_frames::Topology;
 use cmh_lab_lines::{Slots, Unanswered};
 use cmh_links::SharedLinks;
-use cmh_notes::Meter;
 use std::sync::Wait;
 
 /// What a name stands for.

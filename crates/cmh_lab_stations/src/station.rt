@@ -13,9 +13,8 @@ use crate::stepping::{Stepping, Steps, call_stepping, look};
 use crate::taps::take_from;
 use crate::telling::{put_processes, put_refusal};
 use cmh_console::Words;
-use cmh_frames::{Frame, SiteId, Topology};
+use cmh_frames::{Event, Frame, Outcome, SiteId, Topology};
 use cmh_lab_lines::{Answer, Unanswered};
-use cmh_model::{Event, Outcome};
 use cmh_station::{BoardReader, KeptBoard, LinkTap, Station, StationRefusal, Told};
 use std::alloc::Global;
 use std::marker::Model;
@@ -46,18 +45,29 @@ impl<R: Wait + Copy + Drop> Model for Opened<R> {
     ghost invariant = { λ s. BelongTo s.station s.taps.items s.first s.second s.told };
 }
 
+/// What a line says of a new station: its site, its sink, and how many readers its board has.
+pub struct NewStation<'a> {
+    pub topology: &'a Topology,
+    pub site: SiteId,
+    pub disk: Disk,
+    pub readers: usize,
+}
+
 /// The station of a site, or the refusal and the sink.
 pub fn open<R: Wait + Copy + Drop>(
     rt: R,
     alloc: Global,
-    topology: &Topology,
-    site: SiteId,
-    disk: Disk,
-    readers: usize,
+    wanted: NewStation<'_>,
 ) -> Result<Opened<R>, (StationRefusal, Disk)>
-    requires fresh { failures_of disk ≡ 0 }
-    requires few { readers ≤ 2 }
+    requires fresh { failures_of wanted.disk ≡ 0 }
+    requires few { wanted.readers ≤ 2 }
 {
+    let NewStation {
+        topology,
+        site,
+        disk,
+        readers,
+    } = wanted;
     let (station, taps, mut readers) = match Station::new(
         rt, alloc, topology, site, disk, readers,
     ) {

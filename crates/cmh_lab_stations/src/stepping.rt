@@ -6,10 +6,9 @@ ghost use Rattle.cmh_station.specs.Journaled.{batch_limit};
 use crate::disk::Disk;
 use crate::telling::{put_entries, put_step, put_steps};
 use cmh_console::{Words, number};
-use cmh_frames::{Frame, ProcId, SiteId};
+use cmh_frames::{Entry, Event, Frame, Outcome, ProcId, SiteId, Targets};
 use cmh_journal::Sink;
 use cmh_lab_lines::{Answer, Unanswered, event, size};
-use cmh_model::{Entry, Event, Outcome, Targets};
 use cmh_station::{BATCH_LIMIT, StationRefusal};
 use std::alloc::Global;
 

@@ -2,10 +2,9 @@
 
 use cmh_console::Words;
 use cmh_controller::Refusal;
-use cmh_frames::{Frame, ProcId, SiteId};
+use cmh_files::EntryText;
+use cmh_frames::{Entry, Frame, Outcome, ProcId, SiteId};
 use cmh_lab_lines::{Answer, Unanswered, number};
-use cmh_model::{Entry, Outcome};
-use cmh_show::EntryText;
 use cmh_station::StationRefusal;
 
 /// `refused` and the number.

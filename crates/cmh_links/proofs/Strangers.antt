@@ -1,5 +1,5 @@
 -- Connections of sites that are not expected.
-use Rattle.std.proofs.Common.{◌≡◌, ℕ, Bool, List, [], ◌++◌, Contains, Option, Some, None, refl, ap, sym, ◌∙◌, subst, ⊎_elim, true, false}
+use Rattle.std.proofs.Common.{◌≡◌, ℕ, Bool, List, [], ◌++◌, Contains, Option, Some, None, refl, ap, sym, ◌∙◌, subst, MatchBool, true, false}
 use Rattle.cmh_frames.specs.Wire.{hello, spelled}
 use Rattle.cmh_frames.specs.declared.frame.Frame.{Frame}
 use Rattle.cmh_journal.specs.Sink.{known_and}
@@ -9,9 +9,10 @@ use Rattle.cmh_reader.specs.declared.standing.Standing.TheVariants.{Stranger}
 use Rattle.cmh_reader.proofs.Hellos.{one_hello}
 use Rattle.cmh_reader.proofs.OneReading.{reads_once}
 use Rattle.cmh_station.specs.declared.refusal.StationRefusal.{StationRefusal}
-use Rattle.cmh_loops.specs.declared.reading.ReaderEnd.{ReaderEnd}
-use Rattle.cmh_loops.specs.declared.reading.ReaderEnd.TheVariants.{NoLink, Refused, Closed}
-use Rattle.cmh_loops.specs.Reading.{AreRead, EndedBy, Stopped, from_sender}
+use Rattle.cmh_links.specs.declared.reading.ReaderEnd.{ReaderEnd}
+use Rattle.cmh_links.specs.declared.reading.ReaderEnd.TheVariants.{NoLink, Refused, Closed}
+use Rattle.cmh_links.specs.Reading.{EndedBy, Stopped}
+use Rattle.cmh_links.proofs.Stopping.{from_sender}
 
 -- a stream that begins with such a hello has no frames
 no_more : (reader : Reader) (bytes : List ℕ) (all : List Frame) → BeginsStrange reader.edition reader.senders bytes → HasMore reader.edition reader.senders bytes all → ⊥
@@ -22,12 +23,13 @@ no_more reader bytes all strange more =
     let one : strange.site ≡ more.sender = (one_hello reader.edition strange.site more.sender strange.behind (fs ++ more.rest) strange.number more.splits.number same).0 in
     strange.unexpected (subst (λ (s : ℕ). Contains reader.senders s) (sym one) more.splits.expected)
 
-no_sender : (reader : Reader) (bytes : List ℕ) (all : List Frame) → BeginsStrange reader.edition reader.senders bytes → AreRead reader bytes all → sender_of reader.standing ≡ None
-no_sender reader bytes all strange read =
-    ⊎_elim
-    (λ (r : (reader.starved ≡ false) × StandsFor reader bytes all). ap sender_of (reads_once reader.edition reader.senders bytes all [] reader.standing Stranger r.1 (strange, refl)).1)
-    (λ (r : (reader.starved ≡ true) × HasMore reader.edition reader.senders bytes all). absurd (no_more reader bytes all strange r.1))
-    read
+no_sender : (reader : Reader) (bytes : List ℕ) (all : List Frame) → BeginsStrange reader.edition reader.senders bytes
+    → MatchBool reader.starved (HasMore reader.edition reader.senders bytes all) (StandsFor reader bytes all) → sender_of reader.standing ≡ None
+no_sender reader bytes all strange read = by reader.starved read
+  where
+    by : (starved : Bool) → MatchBool starved (HasMore reader.edition reader.senders bytes all) (StandsFor reader bytes all) → sender_of reader.standing ≡ None
+    by false stands = ap sender_of (reads_once reader.edition reader.senders bytes all [] reader.standing Stranger stands (strange, refl)).1
+    by true more = absurd (no_more reader bytes all strange more)
 
 ended : (end : ReaderEnd) (reader : Reader) (got all : List Frame) (refused : Option StationRefusal) (over : Bool) (n m : ℕ) → sender_of reader.standing ≡ None → EndedBy end reader got all refused over n m → end ≡ NoLink
 ended NoLink reader got all refused over n m none cause = refl

@@ -1,2 +1,5 @@
+pub mod Writing
+pub mod Reading
+pub mod Lent
 pub mod Threads
 pub mod TurnedAway

@@ -5,9 +5,9 @@ use Rattle.cmh_journal.specs.Sink.{known_and}
 use Rattle.cmh_reader.specs.Reader.{Reader}
 use Rattle.cmh_reader.specs.Stream.{BeginsStrange}
 use Rattle.cmh_station.specs.declared.refusal.StationRefusal.{StationRefusal}
-use Rattle.cmh_loops.specs.declared.reading.ReaderEnd.{ReaderEnd}
-use Rattle.cmh_loops.specs.declared.reading.ReaderEnd.TheVariants.{NoLink}
-use Rattle.cmh_loops.specs.Reading.{Stopped}
+use Rattle.cmh_links.specs.declared.reading.ReaderEnd.{ReaderEnd}
+use Rattle.cmh_links.specs.declared.reading.ReaderEnd.TheVariants.{NoLink}
+use Rattle.cmh_links.specs.Reading.{Stopped}
 
 -- how many connections of a site stand at once
 abbrev pub connection_limit : ℕ

@@ -1,18 +1,21 @@
-//! The threads of a site, which run the loops of its links.
+//! The threads of a site, and the loops with which they read and write its links, over any carriers.
 #![tactic(auto)]
 
 mod accepting;
 mod dialler;
+mod lent;
 mod opening;
+mod reading;
 mod seats;
 mod shared;
 mod threads;
 mod turned_away;
 mod watching;
+mod writing;
 
+pub use crate::lent::{Lent, lent_law};
+pub use crate::reading::{Handover, ReaderEnd, run_reader};
 pub use crate::threads::{LinkView, SiteThreads};
 pub use crate::turned_away::stranger_law;
-pub use cmh_loops::{
-    FrameSource, Handover, Lent, Next, ReaderEnd, lent_law, run_reader, run_writer,
-};
-pub use cmh_table::{LinkFault, LinkState, LinkTable, SharedLinks};
+pub use crate::writing::{FrameSource, Next, run_writer};
+pub use cmh_carriers::{LinkFault, LinkState, LinkTable, SharedLinks};

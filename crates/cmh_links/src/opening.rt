@@ -2,19 +2,17 @@
 
 ghost use Rattle.std.specs.Prelude.{◌≡◌, ℕ, ◌+◌, ◌-◌, ◌<◌, ◌^◌, Bool, false, [], ◌∷◌, Option, Some, IfOk, OnOk, OnErr, length, not};
 ghost use Rattle.cmh_links.specs.Threads.{closed_with, is_failed, is_idle, leads_to};
-ghost use Rattle.cmh_loops.specs.Writing.{Wrote};
-ghost use Rattle.cmh_table.specs.declared.table.LinkFault.{LinkFault};
+ghost use Rattle.cmh_links.specs.Writing.{Wrote};
+ghost use Rattle.cmh_carriers.specs.declared.table.LinkFault.{LinkFault};
 
 use crate::dialler::Dialler;
+use crate::run_writer;
 use crate::seats::{Seat, Seats};
 use crate::shared::{Shared, TapSource};
-use cmh_carriers::{Dial, IoFault, Line, Outgoing};
+use cmh_carriers::{Dial, IoFault, Line, LinkFault, Note, Outgoing};
 use cmh_frames::SiteId;
 use cmh_journal::Sink;
-use cmh_loops::run_writer;
-use cmh_notes::Note;
 use cmh_station::{LinkTap, Listing, ParkingTap};
-use cmh_table::LinkFault;
 use std::sync::atomic::Ordering;
 use std::sync::{Arc, Wait};
 use std::thread;

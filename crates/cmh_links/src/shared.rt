@@ -2,17 +2,15 @@
 
 ghost use Rattle.std.specs.Prelude.{◌≡◌, ◌==◌, ◌≤◌, [], ◌∷◌, ◌++◌, None, Some, filter, length, not, true, IfOk, OnOk};
 ghost use Rattle.std.specs.Arc.{arc_value};
-ghost use Rattle.cmh_station.specs.Journaled.{others};
-ghost use Rattle.cmh_loops.specs.Writing.{Gave};
+ghost use Rattle.cmh_frames.specs.Topology.{sites_of};
+ghost use Rattle.cmh_links.specs.Writing.{Gave};
 
 use crate::seats::Seat;
-use cmh_carriers::Line;
+use crate::{FrameSource, Handover, Next};
+use cmh_carriers::{Line, LinkTable, Note, SharedLinks, Speaker};
 use cmh_frames::{Edition, Frame, SiteId, Topology};
 use cmh_journal::Sink;
-use cmh_loops::{FrameSource, Handover, Next};
-use cmh_notes::{Note, Speaker};
 use cmh_station::{Listing, ParkingTap, SharedStation, StationRefusal};
-use cmh_table::{LinkTable, SharedLinks};
 use std::alloc::{AllocError, Global};
 use std::sync::atomic::{AtomicBool, AtomicU16, AtomicU64, Ordering};
 use std::sync::{Arc, Wait};
@@ -54,7 +52,8 @@ impl<S: Sink, B: Listing> Shared<S, B> {
     ) -> Result<Arc<Shared<S, B>>, AllocError>
         ensures edition { IfOk result (λ shared. (arc_value shared).edition ≡ topology.now.edition) }
         ensures site { IfOk result (λ shared. (arc_value shared).site ≡ site) }
-        ensures others { IfOk result (λ shared. (arc_value shared).others.items ≡ others topology.now site) }
+        ensures others { IfOk result (λ shared. (arc_value shared).others.items ≡
+            filter (λ s. not (s == site)) (sites_of topology.now)) }
     {
         let others = others_of(alloc, topology, site)?;
         let table = LinkTable::new(alloc, topology, site)?;
@@ -96,7 +95,7 @@ impl<S: Sink, B: Listing> Shared<S, B> {
 
 /// The sites of a topology but for one.
 fn others_of(alloc: Global, topology: &Topology, site: SiteId) -> Result<Vec<SiteId>, AllocError>
-    ensures { IfOk result (λ sites. sites.items ≡ others topology.now site) }
+    ensures { IfOk result (λ sites. sites.items ≡ filter (λ s. not (s == site)) (sites_of topology.now)) }
 {
     let mut sites = Vec::new(alloc);
     for other in topology.sites() {
@@ -148,7 +147,7 @@ impl<R: Wait + Drop, S: Sink, B: Listing, L: Line + Drop> Handover for StationHa
 
     /// The station, for as long as it is locked, takes the frames. The threads that write are woken then. A link is claimed
     /// before, by a good hello.
-    #[tactic(auto, using(cmh_loops::proofs::Batches::handed_untold, cmh_loops::proofs::Batches::some_left))]
+    #[tactic(auto, using(crate::proofs::Batches::handed_untold, crate::proofs::Batches::some_left))]
     fn hand_all(&mut self, from: SiteId, frames: &[Frame]) -> Result<(), StationRefusal> {
         self.seat.tell();
         let mut station = self.shared.station.lock(&self.rt);

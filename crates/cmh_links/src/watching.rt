@@ -2,9 +2,8 @@
 
 use crate::seats::Seats;
 use crate::shared::Shared;
-use cmh_carriers::Line;
+use cmh_carriers::{Line, Note};
 use cmh_journal::Sink;
-use cmh_notes::Note;
 use cmh_station::Listing;
 use std::sync::atomic::Ordering;
 use std::sync::{Arc, Wait};

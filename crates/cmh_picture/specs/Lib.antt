@@ -2,3 +2,4 @@ pub mod Formats
 pub mod Names
 pub mod PictureTexts
 pub mod Draws
+pub mod Inner

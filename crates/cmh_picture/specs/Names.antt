@@ -1,29 +1,22 @@
 -- What each mark stands for, in words.
-use Rattle.std.specs.Prelude.{ℕ, List, ◌++◌, codes, Option, None, Some}
+use Rattle.std.specs.Prelude.{ℕ, List, ◌++◌, codes}
 use Rattle.std.specs.Fmt.{decimal}
+use Rattle.std.specs.Option.{option_map_or}
 use Rattle.cmh_frames.specs.Texts.{declared_text, frame_text}
-use Rattle.cmh_show.specs.EntryTexts.{event_text}
+use Rattle.cmh_files.specs.EntryTexts.{event_text}
 use Rattle.cmh_draw.specs.declared.mark.EntrySpot.{EntrySpot}
-use Rattle.cmh_draw.specs.declared.mark.Arrow as marks
 use Rattle.cmh_draw.specs.declared.mark.Mark.{Mark}
 use Rattle.cmh_draw.specs.declared.mark.Mark.TheVariants.{Site, Process, Wait, Entry, Arrow, Stop}
 
 abbrev pub entry_name : EntrySpot → List ℕ
 entry_name at = codes "site " ++ decimal at.site ++ codes " entry " ++ decimal at.number
 
-abbrev pub got_name : Option EntrySpot → List ℕ
-got_name None = codes ": lost or waiting"
-got_name (Some got) = codes " entry " ++ decimal got.number
-
-abbrev pub arrow_name : marks.Arrow → List ℕ
-arrow_name arrow =
-    frame_text arrow.sent.frame ++ codes " from " ++ entry_name arrow.from ++ codes " to site " ++ decimal arrow.sent.to
-    ++ got_name arrow.got
-
 abbrev pub name_of : Mark → List ℕ
 name_of (Site of) = codes "site " ++ decimal of.site
 name_of (Process of) = codes "process " ++ decimal of.process ++ codes " at site " ++ decimal of.site
 name_of (Wait wait) = decimal wait.asker ++ codes " waits for " ++ decimal wait.holder
 name_of (Entry entry) = entry_name entry.at ++ codes ": " ++ event_text entry.event ++ declared_text entry.declared
-name_of (Arrow arrow) = arrow_name arrow
-name_of (Stop stop) = codes "site " ++ decimal stop.at.site ++ codes " stops at entry " ++ decimal stop.at.number
+name_of (Arrow arrow) =
+    frame_text arrow.frame ++ codes " from " ++ entry_name arrow.from ++ codes " to site " ++ decimal arrow.to
+    ++ option_map_or (λ got. codes " entry " ++ decimal got.number) arrow.got (codes ": lost or waiting")
+name_of (Stop at) = codes "site " ++ decimal at.site ++ codes " stops at entry " ++ decimal at.number

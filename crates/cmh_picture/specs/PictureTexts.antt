@@ -1,28 +1,20 @@
--- The text of a picture: a first word, a head, a text for each mark, in their order, and a foot.
-use Rattle.std.specs.Prelude.{◌≡◌, ℕ, List, [], ◌∷◌, ◌++◌, codes}
+-- The text of a picture.
+use Rattle.std.specs.Prelude.{◌≡◌, ℕ, List, [], ◌∷◌, ◌++◌, codes, ⊤}
 use Rattle.cmh_draw.specs.declared.mark.Mark.{Mark}
 use Rattle.cmh_picture.specs.Names.{name_of}
 use Rattle.cmh_picture.specs.declared.format.Format.{Format}
 use Rattle.cmh_picture.specs.declared.format.Format.TheVariants.{Dot, Svg}
 
--- a text with the name of a mark in it was added; what else it says is not promised
-pub record AddsMark (mark : Mark) (old new : List ℕ) : Type 0 where
-  pub before : List ℕ
-  pub after : List ℕ
-  pub is : new ≡ old ++ (before ++ (name_of mark ++ after))
-
--- from one text to another by a text for each mark
-abbrev pub AddsMarks : List Mark → List ℕ → List ℕ → Type 0
-AddsMarks [] old new = new ≡ old
-AddsMarks (mark ∷ marks) old new = (text : List ℕ) × AddsMark mark old text × AddsMarks marks text new
-
 abbrev pub first_word : Format → List ℕ
 first_word Dot = codes "digraph "
 first_word Svg = codes "<svg "
 
-pub record IsDrawn (format : Format) (marks : List Mark) (text : List ℕ) : Type 0 where
-  pub head : List ℕ
-  pub drawn : List ℕ
-  pub foot : List ℕ
-  pub are_added : AddsMarks marks (first_word format ++ head) drawn
-  pub is : text ≡ drawn ++ foot
+-- the name of each mark stands in the text, one after the other; what stands before, between and after is not promised
+abbrev pub HasNames : List Mark → List ℕ → Type 0
+HasNames [] text = ⊤
+HasNames (mark ∷ marks) text =
+    (before : List ℕ) × (after : List ℕ) × (text ≡ before ++ (name_of mark ++ after)) × HasNames marks after
+
+-- the format's first word, and then the name of each mark
+abbrev pub IsDrawn : Format → List Mark → List ℕ → Type 0
+IsDrawn format marks text = (rest : List ℕ) × (text ≡ first_word format ++ rest) × HasNames marks rest

@@ -7,9 +7,8 @@ use crate::look::{Look, look_of};
 use crate::point::Point;
 use crate::scene::Scene;
 use crate::svg_run::{is_below, way_of};
-use cmh_draw::{Arrow, EntryMark, EntrySpot, Kind, Mark, Process, Site, Spot, Stop, Wait};
-use cmh_frames::{Frame, SiteId};
-use cmh_model::Event;
+use cmh_draw::{Arrow, EntryMark, EntrySpot, Kind, Mark, Process, Site, Spot, Wait};
+use cmh_frames::{Event, Frame, SiteId};
 use std::alloc::{AllocError, Global};
 use std::fmt;
 
@@ -69,9 +68,9 @@ fn add_home(home: Site, text: &mut String) -> Result<(), AllocError> {
     )
 }
 
-fn add_halt(stop: Stop, text: &mut String) -> Result<(), AllocError> {
-    let site = stop.at.site;
-    let number = stop.at.number;
+fn add_halt(stop: EntrySpot, text: &mut String) -> Result<(), AllocError> {
+    let site = stop.site;
+    let number = stop.number;
     write!(
         text,
         "subgraph cluster_{site} {{ label=\"site {site} stops at entry {number}\" }}\n"
@@ -257,16 +256,16 @@ fn add_open(
     text: &mut String,
 ) -> Result<(), AllocError> {
     let words = OpenText {
-        frame: arrow.sent.frame,
-        to: arrow.sent.to,
+        frame: arrow.frame,
+        to: arrow.to,
     };
     let length = length_of(alloc, &words)?;
     let at = scene.layout.point(arrow.from.spot);
     let at = left_of(at, length, 42).moved(0, place_of(arrow).saturating_mul(13));
     let node = Node { at: arrow.from };
     let position = Position { at };
-    let look = look_of_frame(&arrow.sent.frame);
-    let place = arrow.sent.place;
+    let look = look_of_frame(&arrow.frame);
+    let place = arrow.place;
     write!(
         text,
         "{node}_{place} [label=\"{words}\", {LABEL}, {position}]\n"
@@ -284,14 +283,14 @@ fn add_edge(
     got: &EntrySpot,
     text: &mut String,
 ) -> Result<(), AllocError> {
-    let look = look_of_frame(&arrow.sent.frame);
+    let look = look_of_frame(&arrow.frame);
     let from = Node { at: arrow.from };
     let way = way_of(layout, arrow, got);
     let got = Node { at: *got };
     let Some(past) = way.past else {
         return write!(text, "{from} -> {got} [{look}]\n");
     };
-    let place = arrow.sent.place;
+    let place = arrow.place;
     let off = Position { at: way.off };
     let past = Position { at: past };
     write!(
@@ -313,17 +312,16 @@ fn add_edge(
 fn add_stop(
     alloc: Global,
     scene: Scene<'_>,
-    stop: Stop,
+    stop: EntrySpot,
     text: &mut String,
 ) -> Result<(), AllocError> {
-    let node = Node { at: stop.at };
-    let words = StopText {
-        number: stop.at.number,
-    };
+    let number = stop.number;
+    let at = scene.layout.point(stop.spot);
+    let node = Node { at: stop };
+    let words = StopText { number };
     let length = length_of(alloc, &words)?;
     write!(text, "{node} [shape=Msquare, height=0.36, width=0.36]\n")?;
-    let at = right_of(scene.layout.point(stop.at.spot), length, 0);
-    add_label(text, node, "stop", at, words)
+    add_label(text, node, "stop", right_of(at, length, 0), words)
 }
 
 /// The name of an entry's node.

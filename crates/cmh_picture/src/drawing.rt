@@ -10,7 +10,7 @@ use crate::picture_text::picture_text;
 use cmh_console::{Fault, Output};
 use cmh_draw::{Kind, Picture, run_picture, waits_picture};
 use cmh_files::{Audited, audit_files};
-use cmh_stored::list_journals;
+use cmh_journal::list_journals;
 use std::alloc::{AllocError, Global};
 use std::io::Write;
 

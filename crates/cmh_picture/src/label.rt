@@ -1,8 +1,7 @@
 //! The words of labels.
 
-use cmh_frames::{Frame, ProcId, SiteId};
-use cmh_model::Event;
-use cmh_show::EventText;
+use cmh_files::EventText;
+use cmh_frames::{Event, Frame, ProcId, SiteId};
 use std::fmt;
 
 /// What a process did. Of many that it asked, the first are named and the others counted.

@@ -4,7 +4,7 @@ use crate::format::Format;
 use crate::label::StepText;
 use crate::point::Point;
 use cmh_draw::{Arrow, EntryMark, Mark, Spot};
-use cmh_model::Event;
+use cmh_frames::Event;
 use std::alloc::{AllocError, Global};
 use std::fmt;
 
@@ -107,7 +107,7 @@ impl Longest {
     }
 
     fn add_arrow(&mut self, alloc: Global, arrow: &Arrow) -> Result<(), AllocError> {
-        let length = length_of(alloc, &arrow.sent.frame)?;
+        let length = length_of(alloc, &arrow.frame)?;
         if arrow.got.is_some() {
             self.label = self.label.max(length);
         } else {
@@ -146,7 +146,7 @@ impl Longest {
 
 /// The place of a frame among those of its entry, at most 99.
 pub fn place_of(arrow: &Arrow) -> i32 {
-    arrow.sent.place.min(99) as i32
+    arrow.place.min(99) as i32
 }
 
 /// How many characters a text has, at most 200.

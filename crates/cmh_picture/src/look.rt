@@ -1,8 +1,7 @@
 //! How entries and frames look.
 
 use cmh_draw::EntryMark;
-use cmh_frames::Frame;
-use cmh_model::Event;
+use cmh_frames::{Event, Frame};
 
 /// How an entry looks.
 #[derive(Clone, Copy)]

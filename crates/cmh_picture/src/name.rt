@@ -1,11 +1,14 @@
 //! The name of a mark: what it stands for, in words.
 
-ghost use Rattle.std.specs.Prelude.{Some};
+ghost use Rattle.std.specs.Prelude.{◌++◌, Some, codes};
+ghost use Rattle.std.specs.Fmt.{decimal};
+ghost use Rattle.std.specs.Option.{option_map_or};
+ghost use Rattle.cmh_draw.specs.declared.mark.Mark.TheVariants as marks;
 ghost use Rattle.cmh_picture.specs.Names as spec;
 
 use cmh_draw::{Arrow, EntrySpot, Mark};
+use cmh_files::EventText;
 use cmh_frames::DeclaredText;
-use cmh_show::EventText;
 use std::fmt;
 
 /// The name of a mark. A browser shows it where a reader points at the mark.
@@ -48,8 +51,8 @@ impl<'a> fmt::Display for MarkName<'a> {
                 write!(f, "{name}")
             }
             Mark::Stop(stop) => {
-                let site = stop.at.site;
-                let number = stop.at.number;
+                let site = stop.site;
+                let number = stop.number;
                 write!(f, "site {site} stops at entry {number}")
             }
         }
@@ -77,14 +80,14 @@ struct ArrowName<'a> {
 }
 
 impl<'a> fmt::Display for ArrowName<'a> {
-    ghost output = { λ name. Some (spec.arrow_name name.arrow.now) };
+    ghost output = { λ name. Some (spec.name_of (marks.Arrow name.arrow.now)) };
 
     fn fmt<W: fmt::Write>(&self, f: &mut fmt::Formatter<W>) -> fmt::Result {
-        let frame = self.arrow.sent.frame;
+        let frame = self.arrow.frame;
         let from = EntryName {
             at: self.arrow.from,
         };
-        let to = self.arrow.sent.to;
+        let to = self.arrow.to;
         let got = GotName {
             got: self.arrow.got,
         };
@@ -99,7 +102,8 @@ struct GotName {
 }
 
 impl fmt::Display for GotName {
-    ghost output = { λ name. Some (spec.got_name name.got) };
+    ghost output = { λ name. Some
+        (option_map_or (λ got. codes " entry " ++ decimal got.number) name.got (codes ": lost or waiting")) };
 
     fn fmt<W: fmt::Write>(&self, f: &mut fmt::Formatter<W>) -> fmt::Result {
         match self.got {

@@ -1,7 +1,8 @@
 //! The text of a picture.
 
 ghost use Rattle.std.specs.Prelude.{IfOk, OnOk, string_bytes};
-ghost use Rattle.cmh_picture.specs.PictureTexts.{AddsMark, IsDrawn};
+ghost use Rattle.cmh_picture.specs.Inner.Adding.{AddsMark, IsMade};
+ghost use Rattle.cmh_picture.specs.PictureTexts.{IsDrawn};
 ghost use Rattle.cmh_picture.specs.declared.format.Format.TheVariants.{Dot, Svg};
 
 use crate::format::Format;
@@ -26,6 +27,18 @@ pub fn picture_text(alloc: Global, format: Format, picture: &Picture) -> Result<
         layout,
         processes: &processes,
     };
+    let text = text_of(alloc, format, picture, scene)?;
+    Ok(text)
+}
+
+fn text_of(
+    alloc: Global,
+    format: Format,
+    picture: &Picture,
+    scene: Scene<'_>,
+) -> Result<String, AllocError>
+    ensures { IfOk result (λ text. IsMade format picture.now.marks.items (string_bytes text)) }
+{
     match format {
         Format::Svg => svg_text(alloc, picture, scene),
         Format::Dot => dot_text(alloc, picture, scene),
@@ -33,7 +46,7 @@ pub fn picture_text(alloc: Global, format: Format, picture: &Picture) -> Result<
 }
 
 fn svg_text(alloc: Global, picture: &Picture, scene: Scene<'_>) -> Result<String, AllocError>
-    ensures { IfOk result (λ text. IsDrawn Svg picture.now.marks.items (string_bytes text)) }
+    ensures { IfOk result (λ text. IsMade Svg picture.now.marks.items (string_bytes text)) }
 {
     let head = svg::head_of(alloc, scene)?;
     let mut text = format!(in alloc; "<svg {head}")?;
@@ -63,7 +76,7 @@ fn add_svg(
 }
 
 fn dot_text(alloc: Global, picture: &Picture, scene: Scene<'_>) -> Result<String, AllocError>
-    ensures { IfOk result (λ text. IsDrawn Dot picture.now.marks.items (string_bytes text)) }
+    ensures { IfOk result (λ text. IsMade Dot picture.now.marks.items (string_bytes text)) }
 {
     let head = dot::head_of(alloc, picture.kind)?;
     let mut text = format!(in alloc; "digraph {head}")?;

@@ -38,8 +38,8 @@ pub fn class_of(mark: &Mark) -> &'static str {
             Look::Got => "got",
             Look::Declared => "declared",
         },
-        Mark::Arrow(arrow) if arrow.got.is_some() => word_of(&arrow.sent.frame),
-        Mark::Arrow(arrow) => match arrow.sent.frame {
+        Mark::Arrow(arrow) if arrow.got.is_some() => word_of(&arrow.frame),
+        Mark::Arrow(arrow) => match arrow.frame {
             Frame::Request(_) => "request open",
             Frame::Reply(_) => "reply open",
             Frame::Probe(_) => "probe open",

@@ -7,9 +7,8 @@ use crate::look::{Look, look_of, word_of};
 use crate::point::Point;
 use crate::scene::Scene;
 use crate::svg::add_label;
-use cmh_draw::{Arrow, EntryMark, EntrySpot, Site, Spot, Stop};
-use cmh_frames::{Frame, ProcId, SiteId};
-use cmh_model::Event;
+use cmh_draw::{Arrow, EntryMark, EntrySpot, Site, Spot};
+use cmh_frames::{Event, Frame, ProcId, SiteId};
 use std::alloc::AllocError;
 use std::fmt;
 
@@ -134,10 +133,10 @@ fn add_open(layout: Layout, arrow: &Arrow, text: &mut String) -> Result<(), Allo
         .moved(0, place_of(arrow).saturating_mul(13));
     write!(text, "<path d='M{corner}L{end}'/>")?;
     let words = OpenText {
-        frame: arrow.sent.frame,
-        to: arrow.sent.to,
+        frame: arrow.frame,
+        to: arrow.to,
     };
-    add_label(text, word_of(&arrow.sent.frame), end.moved(-8, 4), words)
+    add_label(text, word_of(&arrow.frame), end.moved(-8, 4), words)
 }
 
 /// The way of a frame: steeply off its line, where the labels are, straight past the lines between, on the right of the
@@ -157,7 +156,7 @@ pub struct Way {
 pub fn way_of(layout: Layout, arrow: &Arrow, got: &EntrySpot) -> Way {
     let start = layout.point(arrow.from.spot);
     let end = layout.point(got.spot);
-    let lane = (arrow.sent.place % 7 + arrow.from.spot.row as usize * 2) % 7;
+    let lane = (arrow.place % 7 + arrow.from.spot.row as usize * 2) % 7;
     let aside = lane as i32 * 4 + 26;
     let (up, down) = (0i32.saturating_sub(layout.up), layout.down);
     let back = 0i32.saturating_sub(layout.row);
@@ -216,9 +215,9 @@ fn add_way(way: Way, text: &mut String) -> Result<(), AllocError> {
 }
 
 /// A cross over an entry that can't be taken.
-pub fn add_stop(layout: Layout, stop: Stop, text: &mut String) -> Result<(), AllocError> {
-    let at = layout.point(stop.at.spot);
+pub fn add_stop(layout: Layout, stop: EntrySpot, text: &mut String) -> Result<(), AllocError> {
+    let at = layout.point(stop.spot);
     write!(text, "<path d='M{at}m-11 -11l22 22m0 -22l-22 22'/>")?;
-    let number = stop.at.number;
+    let number = stop.number;
     add_label(text, "who", at.moved(18, 4), StopText { number })
 }

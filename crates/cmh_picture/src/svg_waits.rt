@@ -4,7 +4,7 @@ use crate::label::SiteText;
 use crate::layout::{home_height, home_point, process_point};
 use crate::scene::Scene;
 use crate::svg::add_label;
-use cmh_draw::{Process, Site, Stop, Wait};
+use cmh_draw::{EntrySpot, Process, Site, Wait};
 use std::alloc::AllocError;
 use std::fmt;
 
@@ -27,9 +27,9 @@ pub fn add_home(home: Site, text: &mut String) -> Result<(), AllocError> {
 }
 
 /// Where a site stops.
-pub fn add_halt(stop: Stop, text: &mut String) -> Result<(), AllocError> {
-    let number = stop.at.number;
-    let place = home_point(stop.at.spot.row).moved(60, -8);
+pub fn add_halt(stop: EntrySpot, text: &mut String) -> Result<(), AllocError> {
+    let number = stop.number;
+    let place = home_point(stop.spot.row).moved(60, -8);
     add_label(text, "who", place, HaltText { number })
 }
 

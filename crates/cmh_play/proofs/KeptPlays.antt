@@ -22,7 +22,7 @@ use Rattle.cmh_play.specs.Keeping.{AnsweredAndKept, IsKeptPlayFault, IsUnanswere
 use Rattle.cmh_play.specs.Play.{Answered, IsTurnOfScript, new_state, status_after}
 use Rattle.cmh_play.specs.PlayStates.{PlayState}
 use Rattle.cmh_play.specs.declared.reply.Reply.{Reply}
-use Rattle.cmh_play.specs.declared.reply.Reply.TheVariants.{Silent, Ok as OkReply, BadLine, Late, Topology, Step, Delivery, Severance, Report}
+use Rattle.cmh_play.specs.declared.reply.Reply.TheVariants.{Report}
 use Rattle.cmh_audit.specs.declared.verdict.Verdict.{Verdict}
 use Rattle.cmh_frames.specs.declared.edition.Edition.{Edition}
 
@@ -31,15 +31,8 @@ use Rattle.cmh_frames.specs.declared.edition.Edition.{Edition}
 -- nothing is kept for a reply that is no report
 pub keeps_none : {K : Type 0} → (Kept : K → List Journal → K → Type 0) (reply : Reply) (state : PlayState) (old new : K)
     → ((edition : Edition) (verdict : Box Verdict Global) → reply ≢ Report edition verdict) → new ≡ old → KeepsAt Kept reply state old new
-keeps_none Kept Silent state old new other same = same
-keeps_none Kept OkReply state old new other same = same
-keeps_none Kept BadLine state old new other same = same
-keeps_none Kept Late state old new other same = same
-keeps_none Kept (Topology fault) state old new other same = same
-keeps_none Kept (Step step) state old new other same = same
-keeps_none Kept (Delivery delivery) state old new other same = same
-keeps_none Kept (Severance severance) state old new other same = same
 keeps_none Kept (Report edition verdict) state old new other same = absurd (other edition verdict refl)
+keeps_none Kept reply state old new other same = same
 
 -- nothing was written before journals were to be kept
 pub unkept : (Fails : Fault → Type 0) (out : Option (List ℕ)) (has_failed : Bool) (fault : Fault) → (fault ≡ Memory) ⊎ Fails fault → IsUnanswered Fails out out has_failed fault

@@ -1,3 +1,17 @@
+pub mod Deliveries
+pub mod Fresh
+pub mod Homes
+pub mod Leading
+pub mod LinkSteps
+pub mod Places
+pub mod PlayedRuns
+pub mod Readiness
+pub mod Seats
+pub mod Sendings
+pub mod Steps
+pub mod Takings
+pub mod Writing
+pub mod Shown
 pub mod KeptPlays
 pub mod Led
 pub mod LinesLed

@@ -2,12 +2,13 @@
 use Rattle.std.specs.Prelude.{◌≡◌, ℕ, zero, suc, Bool, ◌⊎◌, List, [], Option, Err, ⊤}
 use Rattle.std.specs.Io.KnownBytes.{Appends}
 use Rattle.cmh_journal.specs.Journal.{Journal}
-use Rattle.cmh_playground.specs.World.{World}
+use Rattle.cmh_play.specs.World.{World}
 use Rattle.cmh_console.specs.Dialogue.{Conversed, Dialogue}
 use Rattle.cmh_console.specs.declared.dialogue.Flow.TheVariants.{Awaits}
 use Rattle.cmh_console.specs.declared.faults.Fault.{Fault}
 use Rattle.cmh_console.specs.declared.faults.Fault.TheVariants.{OutFile, Input, Memory}
-use Rattle.cmh_play.specs.Play.{AnswersLine, IsTurnOfScript, IsWorldOf, new_state}
+use Rattle.cmh_play.specs.Play.{AnswersLine, IsTurnOfScript, new_state}
+use Rattle.cmh_play.specs.Showing.{IsWorldOf}
 use Rattle.cmh_console.specs.Faults.{IsAnswerFault, IsPlayFault}
 use Rattle.cmh_play.specs.PlayStates.{PlayState}
 use Rattle.cmh_play.specs.declared.reply.Reply.{Reply}

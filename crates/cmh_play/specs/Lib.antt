@@ -1,5 +1,12 @@
+pub mod Links
+pub mod Sites
+pub mod Draft
+pub mod World
+pub mod History
+pub mod Held
+pub mod Runs
 pub mod PlayStates
-pub mod Keeping
 pub mod Play
 pub mod Replies
 pub mod Showing
+pub mod Keeping

@@ -1,24 +1,28 @@
 -- Which states are shown by what is held of one, and what leads from there to what is held of another.
 use Rattle.std.specs.Prelude.{◌≡◌, Bool, []}
 use Rattle.cmh_frames.specs.declared.edition.Edition.TheVariants.{One}
-use Rattle.cmh_playground.specs.Held.{Held, Shows, ShowsLater}
-use Rattle.cmh_playground.specs.Runs.{IsPlayed}
-use Rattle.cmh_playground.specs.World.{World}
+use Rattle.cmh_play.specs.Held.{Held, Shows, ShowsLater}
+use Rattle.cmh_play.specs.Runs.{IsPlayed}
+use Rattle.cmh_play.specs.World.{World}
 use Rattle.cmh_play.specs.PlayStates.{PlayState, Named, Played}
-use Rattle.cmh_play.specs.Play.{IsOfRun, IsWorldOf}
+use Rattle.cmh_play.specs.Play.{IsNewWorld, IsOfRun}
 use Rattle.cmh_play.specs.declared.play.PlayState.{PlayState as HeldState}
 use Rattle.cmh_play.specs.declared.play.PlayState.TheVariants.{Named as HeldNamed, Played as HeldPlayed}
 
 -- a draft shows itself, and a played world what its journals may be
 abbrev pub IsShown : Bool → PlayState → HeldState → Type 0
-IsShown keeps (Named draft) (HeldNamed held) = held ≡ draft
-IsShown keeps (Named draft) (HeldPlayed held) = ⊥
-IsShown keeps (Played world) (HeldNamed held) = ⊥
+IsShown keeps (Named edition rows) (HeldNamed held) = held ≡ record { edition = edition; rows = rows }
 IsShown keeps (Played world) (HeldPlayed held) = Shows keeps world held
+IsShown keeps state held = ⊥
 
 -- neither sites nor commands
 abbrev pub IsNewHeld : HeldState → Type 0
 IsNewHeld held = held ≡ HeldNamed (record { edition = One; rows = [] })
+
+-- the world of a state is this one; that of sites which are only named is new
+abbrev pub IsWorldOf : PlayState → World → Type 0
+IsWorldOf (Named edition rows) world = IsNewWorld edition rows world
+IsWorldOf (Played played) world = played ≡ world
 
 -- a world is that of the state
 abbrev pub HasWorld : PlayState → Type 0

@@ -5,16 +5,11 @@ ghost use Rattle.std.specs.Fmt.{decimal};
 ghost use Rattle.std.specs.Io.KnownBytes.{Appends};
 ghost use Rattle.cmh_play.specs.Replies.{reply_text};
 ghost use Rattle.cmh_frames.specs.Texts.{declared_text};
-ghost use Rattle.cmh_playground.specs.Texts.{step_text, delivery_text};
-ghost use Rattle.cmh_playground.specs.declared.playground.Delivery as deliveries;
-ghost use Rattle.cmh_playground.specs.declared.site.Step as steps;
 
 use crate::reply::Reply;
 use crate::tail::Tail;
 use cmh_console::{Output, WriteFault};
-use cmh_frames::{Frame, Probe, ProcId, Reply as Grant, Request};
-use cmh_model::Done;
-use cmh_playground::{Delivery, Step};
+use cmh_frames::{Done, Frame, Probe, ProcId, Reply as Grant, Request};
 use std::io::Write;
 
 /// Writes a reply. One that is frequent is put together from its end, which takes less time than to format it.
@@ -26,8 +21,8 @@ pub fn write_reply<W: Write>(out: &mut Output<W>, reply: &Reply) -> Result<(), W
 {
     let mut text = Tail::new();
     match reply {
-        Reply::Step(Step::Taken(done)) => put_taken(&mut text, done),
-        Reply::Delivery(Delivery::Got(frame, done)) => put_got(&mut text, frame, done),
+        Reply::Taken(done) => put_taken(&mut text, done),
+        Reply::Got(frame, done) => put_got(&mut text, frame, done),
         _ => return out.write_text(reply),
     }
     out.write_bytes(text.as_slice())
@@ -37,7 +32,7 @@ pub fn write_reply<W: Write>(out: &mut Output<W>, reply: &Reply) -> Result<(), W
 #[inline(always)]
 fn put_taken(text: &mut Tail, done: &Done)
     requires { text.old ≡ [] }
-    ensures { text.new ≡ step_text (steps.Step.Taken done.now) ++ codes "\n" }
+    ensures { text.new ≡ reply_text (Reply.Taken done.now) }
 {
     put_done(text, done);
     text.put(b"ok sent ");
@@ -47,7 +42,7 @@ fn put_taken(text: &mut Tail, done: &Done)
 #[inline(always)]
 fn put_got(text: &mut Tail, frame: &Frame, done: &Done)
     requires { text.old ≡ [] }
-    ensures { text.new ≡ delivery_text (deliveries.Delivery.Got frame.now done.now) ++ codes "\n" }
+    ensures { text.new ≡ reply_text (Reply.Got frame.now done.now) }
 {
     put_done(text, done);
     text.put(b" sent ");

@@ -1,11 +1,22 @@
-//! The command `play`: all sites of a world in memory, driven by a script.
+//! A world in memory: the controllers of all its sites, what their steps come to, and the links between them. And the
+//! command `play`, which drives it by a script.
 #![tactic(auto)]
 
 mod answer;
+mod draft;
+mod history;
 mod keeper;
+mod links;
 mod play;
+mod playground;
 mod reply;
+mod site;
 mod tail;
 
+pub use crate::draft::Draft;
 pub use crate::keeper::{Folder, Keeper, NoKeeper};
+pub use crate::links::Links;
 pub use crate::play::{run_play, run_play_keeping};
+pub use crate::playground::Playground;
+pub use crate::reply::Reply;
+pub use crate::site::Refused;

@@ -1,24 +1,25 @@
 //! The command `play`: all sites of a world in memory, driven by a script.
 
-ghost use Rattle.std.specs.Prelude.{◌≡◌, ◌≢◌, ◌⊎◌, Bool, true, false, IfOk, IfErr, IfSome, OnOk, OnErr, Some, Err};
+ghost use Rattle.std.specs.Prelude.{◌≡◌, ◌≢◌, ◌⊎◌, Bool, true, false, IfOk, IfErr, IfSome, MatchOption, OnOk, OnErr, Some, Err};
 ghost use Rattle.std.specs.Io.KnownBytes.{Keeps};
 ghost use Rattle.cmh_console.specs.Dialogue.{Conversed, line_of};
 ghost use Rattle.cmh_console.specs.Faults.{IsPlayFault, NamesFault};
 ghost use Rattle.cmh_play.specs.PlayStates as states;
 ghost use Rattle.cmh_play.specs.Keeping.{AnsweredAndKept, AnswersAndKeeps, IsKeptPlayFault, IsUnanswered, KeepsAt, KeepsWorld, PlayedToEnd};
-ghost use Rattle.cmh_play.specs.Play.{AddsSite, Answered, CarriesOut, Commands, IsTurnOfScript, LineSays, Replies, SetsEdition, new_state, status_after};
+ghost use Rattle.cmh_play.specs.Play.{Answered, IsTurnOfScript, Replies, new_state, status_after};
+ghost use Rattle.cmh_play.specs.World.{CarriesOut};
+ghost use Rattle.cmh_console.specs.Script.{Says};
 ghost use Rattle.cmh_play.specs.Showing.{HasWorld, IsNewHeld, IsShown, LeadsOn, LeadsPlayed, ShowsSome};
 ghost use Rattle.cmh_console.specs.Status.{IsStatus};
 
 use crate::answer::write_reply;
 use crate::keeper::{Keeper, NoKeeper};
 use crate::reply::Reply;
+use crate::{Draft, Playground};
 use cmh_console::{
     Ahead, Command, Fault, Input, Line, NextLine, Output, WriteFault, parse_into, read_line,
 };
-use cmh_frames::{Edition, ProcId, SiteId, SiteRow};
-use cmh_model::Event;
-use cmh_playground::{Draft, Playground};
+use cmh_frames::{Edition, Event, ProcId, SiteRow};
 use std::alloc::{AllocError, Global};
 use std::io::{BufRead, Write};
 
@@ -140,7 +141,7 @@ fn flush_awaited<W: Write>(out: &mut Output<W>, has_line: bool) -> Result<(), Wr
 /// What a line says; one that is too long is a bad one.
 #[inline(always)]
 fn said_by(alloc: Global, next: NextLine<'_>, spare: &mut Vec<ProcId>) -> Result<Line, AllocError>
-    ensures { IfOk result (LineSays (line_of next.entry)) }
+    ensures { IfOk result (λ said. MatchOption (line_of next.entry) (said ≡ Line.Bad) (λ bytes. Says bytes said)) }
 {
     match next {
         NextLine::Line(line) => parse_into(alloc, line, spare),
@@ -261,22 +262,23 @@ impl PlayState {
     #[inline(never)]
     fn set_edition(&mut self, edition: Edition) -> Result<Reply, AllocError>
         ensures { IfOk result (λ reply. (keeps : Bool)
-            → LeadsOn keeps (λ old new. SetsEdition old new edition reply) self.old self.new) }
+            → LeadsOn keeps (λ old new. Replies old new (Line.Edition edition) reply) self.old self.new) }
     {
-        match self {
-            PlayState::Named(draft) if draft.is_empty() => {
-                draft.set_edition(edition)?;
-                Ok(Reply::Ok)
-            }
-            _ => Ok(Reply::Late),
+        let PlayState::Named(draft) = self else {
+            return Ok(Reply::Late);
+        };
+        if !draft.is_empty() {
+            return Ok(Reply::Late);
         }
+        draft.set_edition(edition)?;
+        Ok(Reply::Ok)
     }
 
     #[cold]
     #[inline(never)]
     fn add(&mut self, row: SiteRow) -> Result<Reply, AllocError>
         ensures { IfOk result (λ reply. (keeps : Bool)
-            → LeadsOn keeps (λ old new. AddsSite old new row reply) self.old self.new) }
+            → LeadsOn keeps (λ old new. Replies old new (Line.Site row) reply) self.old self.new) }
     {
         match self {
             PlayState::Named(draft) => match draft.add(row)? {
@@ -295,7 +297,7 @@ impl PlayState {
         spare: &mut Vec<ProcId>,
         keeps: bool,
     ) -> Result<Reply, AllocError>
-        ensures { IfOk result (λ reply. LeadsOn keeps (λ old new. Commands old new command reply) self.old self.new) }
+        ensures { IfOk result (λ reply. LeadsOn keeps (λ old new. Replies old new (Line.Command command) reply) self.old self.new) }
     {
         match self {
             PlayState::Played(world) => carry_out(alloc, world, command, spare),
@@ -313,7 +315,7 @@ impl PlayState {
         spare: &mut Vec<ProcId>,
         keeps: bool,
     ) -> Result<Reply, AllocError>
-        ensures { IfOk result (λ reply. LeadsOn keeps (λ old new. Commands old new command reply) self.old self.new) }
+        ensures { IfOk result (λ reply. LeadsOn keeps (λ old new. Replies old new (Line.Command command) reply) self.old self.new) }
     {
         match self {
             PlayState::Played(world) => carry_out(alloc, world, command, spare),
@@ -340,8 +342,8 @@ fn carry_out(
 {
     match command {
         Command::Act { process, event } => act(world, process, event, spare),
-        Command::Deliver { from, to } => deliver(world, from, to),
-        Command::Cut { from, to } => Ok(Reply::Severance(world.cut(from, to)?)),
+        Command::Deliver { from, to } => world.deliver(from, to),
+        Command::Cut { from, to } => world.cut(from, to),
         Command::Report => report(alloc, world),
     }
 }
@@ -356,17 +358,9 @@ fn act(
     ensures { IfOk result (λ reply. LeadsPlayed (λ old new. CarriesOut old new (Command.Act process event) reply)
         world.old world.new) }
 {
-    let step = world.act(process, event)?;
+    let reply = world.act(process, event)?;
     world.give_spare(spare);
-    Ok(Reply::Step(step))
-}
-
-#[inline(always)]
-fn deliver(world: &mut Playground, from: SiteId, to: SiteId) -> Result<Reply, AllocError>
-    ensures { IfOk result (λ reply. LeadsPlayed (λ old new. CarriesOut old new (Command.Deliver from to) reply)
-        world.old world.new) }
-{
-    Ok(Reply::Delivery(world.deliver(from, to)?))
+    Ok(reply)
 }
 
 /// The report on a world. It stands apart from the other commands since a verdict is large.

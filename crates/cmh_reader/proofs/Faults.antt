@@ -18,12 +18,9 @@ use Rattle.cmh_reader.proofs.Readings.{splits_more}
 pub fault_stays : (edition : Edition) (senders stream piece : List ℕ) (frames : List Frame) (standing : Standing) (fault : ReadFault) → fault_of standing ≡ Some fault → Reads edition senders stream frames standing → Reads edition senders (stream ++ piece) frames standing
 fault_stays edition senders stream piece frames (Greeting rest) fault is reads = absurd (none-some fault is)
 fault_stays edition senders stream piece frames NoHello fault is reads = (
-  record {
-    whole = let long : 6 ≤ length stream = reads.0.whole in omega (arith, length-append stream piece);
-    none = λ site behind number same. reads.0.none site (drop 6 stream) number
-        (front_of_both stream piece (hello edition site) behind same reads.0.whole);
-  },
+  let long : 6 ≤ length stream = reads.0 in omega (arith, length-append stream piece),
   reads.1,
+  λ site behind number same. reads.2 site (drop 6 stream) number (front_of_both stream piece (hello edition site) behind same reads.0),
 )
 fault_stays edition senders stream piece frames Stranger fault is reads = (
   record {

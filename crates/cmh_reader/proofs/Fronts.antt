@@ -6,7 +6,8 @@ use Rattle.std.proofs.lemmas.Grind.{common_steps}
 use Rattle.cmh_frames.specs.declared.frame.Frame.{Frame}
 use Rattle.cmh_frames.specs.declared.frame.Frame.TheVariants.{Request, Reply, Probe}
 use Rattle.cmh_frames.specs.declared.frame.Front.TheVariants.{Whole, Short, Bad}
-use Rattle.cmh_frames.specs.Wire.{IsFrame, IsFront, IsShort, IsKind, BeginsNoFrame, Spells, spelling, length_of_kind}
+use Rattle.cmh_frames.specs.Wire.{IsFrame, IsFront, IsShort, IsKind, Spells, spelling}
+use Rattle.cmh_reader.proofs.NoFrames.{BeginsNoFrame, length_of_kind}
 use Rattle.cmh_frames.proofs.Fronts.{one_front}
 
 -- of two fronts of one list, the longer has the shorter at its front

@@ -1,3 +1,4 @@
+pub mod NoFrames
 pub mod Fronts
 pub mod Readings
 pub mod Wanted

@@ -6,11 +6,12 @@ use Rattle.std.specs.List.{AllByRecursion}
 use Rattle.cmh_frames.specs.declared.edition.Edition.{Edition}
 use Rattle.cmh_frames.specs.declared.frame.Frame.{Frame}
 use Rattle.cmh_frames.specs.declared.frame.Front.TheVariants.{Short, Bad}
-use Rattle.cmh_frames.specs.Wire.{IsFrame, IsFront, BeginsNoFrame, spelling, spelled, hello}
+use Rattle.cmh_frames.specs.Wire.{IsFrame, IsFront, spelling, spelled, hello}
+use Rattle.cmh_reader.proofs.NoFrames.{BeginsNoFrame, BeginsNoHello}
 use Rattle.cmh_frames.proofs.Fronts.{one_begins}
 use Rattle.cmh_reader.specs.declared.standing.Standing.{Standing}
 use Rattle.cmh_reader.specs.declared.standing.Standing.TheVariants.{Greeting, NoHello, Stranger, Open, Broken}
-use Rattle.cmh_reader.specs.Stream.{Splits, Reads, BeginsNoHello, BeginsStrange, place_behind}
+use Rattle.cmh_reader.specs.Stream.{Splits, Reads, BeginsStrange, place_behind}
 use Rattle.cmh_reader.proofs.Fronts.{short_begins_none}
 use Rattle.cmh_reader.proofs.Hellos.{one_hello}
 
@@ -44,11 +45,11 @@ module _ (edition : Edition) (senders stream : List ℕ) where
 
   -- no hello, or one
   no_hello : (sender : ℕ) (frames : List Frame) (rest : List ℕ) → BeginsNoHello edition stream → Splits edition senders stream sender frames rest → ⊥
-  no_hello sender frames rest n s = n.none sender (spelled frames ++ rest) s.number (greets sender frames rest s)
+  no_hello sender frames rest n s = n sender (spelled frames ++ rest) s.number (greets sender frames rest s)
 
   -- no hello, or a stranger's
   no_strange : BeginsNoHello edition stream → BeginsStrange edition senders stream → ⊥
-  no_strange n s = n.none s.site s.behind s.number s.whole
+  no_strange n s = n s.site s.behind s.number s.whole
 
   -- a stranger's hello, or an expected one
   no_stranger : (sender : ℕ) (frames : List Frame) (rest : List ℕ) → BeginsStrange edition senders stream → Splits edition senders stream sender frames rest → ⊥
@@ -65,22 +66,22 @@ module _ (edition : Edition) (senders stream : List ℕ) where
   -- a stream reads in one way
   pub reads_once : (frames others : List Frame) (standing other : Standing) → Reads edition senders stream frames standing → Reads edition senders stream others other → (frames ≡ others) × (standing ≡ other)
   reads_once frames others (Greeting rest) (Greeting rest') a b = (a.2 ∙ sym b.2, ap Greeting (a.1 ∙ sym b.1))
-  reads_once frames others (Greeting rest) NoHello a b = let few : length stream < 6 = a.0 in absurd (omega (arith, b.0.whole))
+  reads_once frames others (Greeting rest) NoHello a b = let few : length stream < 6 = a.0 in absurd (omega (arith, b.0))
   reads_once frames others (Greeting rest) Stranger a b = absurd (no_greeting b.0.site b.0.behind b.0.whole a.0)
   reads_once frames others (Greeting rest) (Open sender rest' offset) a b = absurd (no_greeting sender (spelled others ++ rest') (greets sender others rest' b.0) a.0)
   reads_once frames others (Greeting rest) (Broken sender offset) a b = absurd (no_greeting sender (spelled others ++ b.0) (greets sender others b.0 b.1) a.0)
-  reads_once frames others NoHello (Greeting rest) a b = let few : length stream < 6 = b.0 in absurd (omega (arith, a.0.whole))
+  reads_once frames others NoHello (Greeting rest) a b = let few : length stream < 6 = b.0 in absurd (omega (arith, a.0))
   reads_once frames others NoHello NoHello a b = (a.1 ∙ sym b.1, refl)
-  reads_once frames others NoHello Stranger a b = absurd (no_strange a.0 b.0)
-  reads_once frames others NoHello (Open sender rest offset) a b = absurd (no_hello sender others rest a.0 b.0)
-  reads_once frames others NoHello (Broken sender offset) a b = absurd (no_hello sender others b.0 a.0 b.1)
+  reads_once frames others NoHello Stranger a b = absurd (no_strange a.2 b.0)
+  reads_once frames others NoHello (Open sender rest offset) a b = absurd (no_hello sender others rest a.2 b.0)
+  reads_once frames others NoHello (Broken sender offset) a b = absurd (no_hello sender others b.0 a.2 b.1)
   reads_once frames others Stranger (Greeting rest) a b = absurd (no_greeting a.0.site a.0.behind a.0.whole b.0)
-  reads_once frames others Stranger NoHello a b = absurd (no_strange b.0 a.0)
+  reads_once frames others Stranger NoHello a b = absurd (no_strange b.2 a.0)
   reads_once frames others Stranger Stranger a b = (a.1 ∙ sym b.1, refl)
   reads_once frames others Stranger (Open sender rest offset) a b = absurd (no_stranger sender others rest a.0 b.0)
   reads_once frames others Stranger (Broken sender offset) a b = absurd (no_stranger sender others b.0 a.0 b.1)
   reads_once frames others (Open sender rest offset) (Greeting rest') a b = absurd (no_greeting sender (spelled frames ++ rest) (greets sender frames rest a.0) b.0)
-  reads_once frames others (Open sender rest offset) NoHello a b = absurd (no_hello sender frames rest b.0 a.0)
+  reads_once frames others (Open sender rest offset) NoHello a b = absurd (no_hello sender frames rest b.2 a.0)
   reads_once frames others (Open sender rest offset) Stranger a b = absurd (no_stranger sender frames rest b.0 a.0)
   reads_once frames others (Open sender rest offset) (Open sender' rest' offset') a b =
       let same = splits_once sender sender' frames others rest rest' (short_begins_none rest a.1) (short_begins_none rest' b.1) a.0 b.0 in
@@ -90,7 +91,7 @@ module _ (edition : Edition) (senders stream : List ℕ) where
       open_same s s' r r' o o' a b c = cc
   reads_once frames others (Open sender rest offset) (Broken sender' offset') a b = absurd (short_or_bad sender sender' frames others rest b.0 a.1 b.2 a.0 b.1)
   reads_once frames others (Broken sender offset) (Greeting rest') a b = absurd (no_greeting sender (spelled frames ++ a.0) (greets sender frames a.0 a.1) b.0)
-  reads_once frames others (Broken sender offset) NoHello a b = absurd (no_hello sender frames a.0 b.0 a.1)
+  reads_once frames others (Broken sender offset) NoHello a b = absurd (no_hello sender frames a.0 b.2 a.1)
   reads_once frames others (Broken sender offset) Stranger a b = absurd (no_stranger sender frames a.0 b.0 a.1)
   reads_once frames others (Broken sender offset) (Open sender' rest' offset') a b = absurd (short_or_bad sender' sender others frames rest' a.0 b.1 a.2 b.0 a.1)
   reads_once frames others (Broken sender offset) (Broken sender' offset') a b =

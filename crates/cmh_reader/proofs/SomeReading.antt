@@ -9,7 +9,8 @@ use Rattle.cmh_frames.specs.declared.frame.Frame.{Frame}
 use Rattle.cmh_frames.specs.declared.frame.Frame.TheVariants.{Request, Reply, Probe}
 use Rattle.cmh_frames.specs.Edition.{number_of}
 use Rattle.cmh_frames.specs.Number.{IsNumber}
-use Rattle.cmh_frames.specs.Wire.{IsFrame, IsShort, BeginsNoFrame, spelling, spelled, hello, length_of_kind}
+use Rattle.cmh_frames.specs.Wire.{IsFrame, IsShort, spelling, spelled, hello}
+use Rattle.cmh_reader.proofs.NoFrames.{BeginsNoFrame, length_of_kind}
 use Rattle.cmh_reader.specs.declared.standing.Standing.{Standing}
 use Rattle.cmh_reader.specs.declared.standing.Standing.TheVariants.{Greeting, NoHello, Stranger, Open, Broken}
 use Rattle.cmh_reader.specs.Stream.{Splits, Reads, place_behind}
@@ -251,7 +252,7 @@ unfolding BeginsHello HasFrames
 some_reading edition senders stream = elim (cases_lt (length stream) 6) [
   | inl few ↦ ([], Greeting stream, (few, refl, refl))
   | inr long ↦ elim (hello_or_not edition stream) [
-    | inr none ↦ ([], NoHello, (record { whole = long; none = none }, refl))
+    | inr none ↦ ([], NoHello, (long, refl, none))
     | inl h ↦ elim (contains_or_not senders h.0) [
       | inr unexpected ↦ ([], Stranger, (record { site = h.0; behind = h.1; number = h.2; unexpected = unexpected; whole = h.3 }, refl))
       | inl expected ↦

@@ -1,13 +1,10 @@
 -- A reader: what it expects, what the stream that it was fed has come to, and whether memory was ever refused to it.
-use Rattle.std.specs.Prelude.{◌≡◌, ℕ, Bool, false, List, [], ◌++◌, Contains}
-use Rattle.std.specs.List.{AllByRecursion}
-use Rattle.cmh_frames.specs.Number.{IsNumber}
-use Rattle.cmh_frames.specs.Wire.{IsFrame, link_bytes}
+use Rattle.std.specs.Prelude.{◌≡◌, ℕ, Bool, false, List, [], ◌++◌}
 use Rattle.cmh_frames.specs.declared.edition.Edition.{Edition}
 use Rattle.cmh_frames.specs.declared.frame.Frame.{Frame}
 use Rattle.cmh_reader.specs.declared.standing.Standing.{Standing}
 use Rattle.cmh_reader.specs.declared.standing.Standing.TheVariants.{Greeting}
-use Rattle.cmh_reader.specs.Stream.{Reads}
+use Rattle.cmh_reader.specs.Stream.{Reads, Splits}
 
 pub record Reader : Type 0 where
   pub edition : Edition
@@ -34,10 +31,6 @@ pub record ExpectsSame (old new : Reader) : Type 0 where
   pub senders : new.senders ≡ old.senders
 
 -- The bytes are a beginning of what an expected site writes for these frames.
-pub record BeginsLink (edition : Edition) (senders : List ℕ) (bytes : List ℕ) (sent : List Frame) : Type 0 where
-  pub site : ℕ
-  pub later : List ℕ
-  pub number : IsNumber site
-  pub expected : Contains senders site
-  pub each : AllByRecursion IsFrame sent
-  pub whole : bytes ++ later ≡ link_bytes edition site sent
+abbrev pub BeginsLink : Edition → List ℕ → List ℕ → List Frame → Type 0
+BeginsLink edition senders bytes sent =
+    (site : ℕ) × (later : List ℕ) × Splits edition senders (bytes ++ later) site sent []

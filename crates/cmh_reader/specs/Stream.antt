@@ -11,11 +11,6 @@ use Rattle.cmh_reader.specs.declared.fault.ReadFault.TheVariants.{BadHello, Wron
 use Rattle.cmh_reader.specs.declared.standing.Standing.{Standing}
 use Rattle.cmh_reader.specs.declared.standing.Standing.TheVariants.{Greeting, NoHello, Stranger, Open, Broken}
 
--- the stream is as long as a hello, and begins with the hello of no site
-pub record BeginsNoHello (edition : Edition) (stream : List ℕ) : Type 0 where
-  pub whole : 6 ≤ length stream
-  pub none : (site : ℕ) (behind : List ℕ) → IsNumber site → stream ≢ hello edition site ++ behind
-
 -- the stream begins with the hello of a site that isn't expected
 pub record BeginsStrange (edition : Edition) (senders stream : List ℕ) : Type 0 where
   pub site : ℕ
@@ -48,7 +43,8 @@ place_behind frames = min (6 + length (spelled frames)) 18446744073709551615
 -- or frames and then less than a frame or no frame.
 abbrev pub Reads : Edition → List ℕ → List ℕ → List Frame → Standing → Type 0
 Reads edition senders stream frames (Greeting rest) = (length stream < 6) × (rest ≡ stream) × (frames ≡ [])
-Reads edition senders stream frames NoHello = BeginsNoHello edition stream × (frames ≡ [])
+Reads edition senders stream frames NoHello = (6 ≤ length stream) × (frames ≡ [])
+    × ((site : ℕ) (behind : List ℕ) → IsNumber site → stream ≢ hello edition site ++ behind)
 Reads edition senders stream frames Stranger = BeginsStrange edition senders stream × (frames ≡ [])
 Reads edition senders stream frames (Open sender rest offset) =
     Splits edition senders stream sender frames rest × IsFront rest Short × (offset ≡ place_behind frames)

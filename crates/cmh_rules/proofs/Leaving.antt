@@ -8,10 +8,10 @@ use Rattle.std.proofs.lemmas.Bool.{and_from, cases_Bool, cases_eq, cases_lt, eq-
 use Rattle.std.proofs.lemmas.List.{map-append}
 use Rattle.std.proofs.lemmas.Option.{none-some, slice_get_cases}
 use Rattle.std.proofs.lemmas.List.Elements.{Contains-push, Contains-append_left, Contains-append_right, Contains-append_cases}
-use Rattle.cmh_model.proofs.Members.{no_member, increasing_tail}
+use Rattle.cmh_frames.proofs.Members.{no_member, increasing_tail}
 use Rattle.cmh_frames.specs.declared.frame.Frame.{Frame}
 use Rattle.cmh_frames.specs.declared.frame.Frame.TheVariants.{Probe}
-use Rattle.cmh_model.specs.Relation.{Relation, pair_cmp, has, has_some}
+use Rattle.cmh_frames.specs.Relation.{Relation, pair_cmp, has, has_some}
 use Rattle.cmh_waits.specs.Held.{Held, is_member, IsMember}
 use Rattle.cmh_waits.specs.Rows.{is_set}
 use Rattle.cmh_dependents.specs.Marks.{AreLeaving, IsMarked}
@@ -19,7 +19,7 @@ use Rattle.cmh_dependents.proofs.Marked.{AreMarkedBelow, none_below, skip_member
 use Rattle.std.proofs.lemmas.Map.Keys.{sorted_from_strictly_increasing, below_from_sorted}
 use Rattle.cmh_rules.specs.Verdicts.{AreProbesOf, acts, probe_along}
 use Rattle.cmh_frames.proofs.Each.{all_append}
-use Rattle.cmh_model.proofs.Ascending.{head_below}
+use Rattle.cmh_frames.proofs.Ascending.{head_below}
 
 pub none_yet : (v : Held) (origin : ℕ) → AreProbesOf v origin (λ q. Contains [] q) []
 unfolding IsStrictlySortedBy

@@ -3,9 +3,9 @@ use Rattle.std.specs.Prelude.{◌≡◌, ℕ, Bool, true, false, List}
 use Rattle.std.specs.FinSet as set
 use Rattle.cmh_frames.specs.declared.frame.Frame.{Frame}
 use Rattle.cmh_frames.specs.declared.frame.Frame.TheVariants.{Probe}
-use Rattle.cmh_model.specs.Relation.{Relation, has}
-use Rattle.cmh_model.specs.Paths.{ReachesAmong, DependsOnItselfAmong}
-use Rattle.cmh_model.specs.Rules.{AreOneForEach, probe_acts}
+use Rattle.cmh_frames.specs.Relation.{Relation, has}
+use Rattle.cmh_frames.specs.Paths.{ReachesAmong, DependsOnItselfAmong}
+use Rattle.cmh_frames.specs.Rules.{AreOneForEach, probe_acts}
 use Rattle.cmh_waits.specs.Held.{Held, is_member, IsMember}
 use Rattle.cmh_rules.specs.declared.starts.StartVerdict.{StartVerdict}
 use Rattle.cmh_rules.specs.declared.starts.StartVerdict.TheVariants.{Declared as Declared_at_start, Send}

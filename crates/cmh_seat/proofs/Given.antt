@@ -1,18 +1,19 @@
 -- How long the frames are that a piece makes whole.
 use Rattle.std.proofs.Common.{◌≡◌, ◌≢◌, Result, Ok, Err, drop, ℕ, ◌+◌, ◌≤◌, Bool, true, false, List, [], ◌∷◌, ◌++◌, ◌==◌, length, cond, inl, inr, Option, None, Some, is_some, refl, sym, ap, ◌∙◌, subst, true≢false, arith, length-append}
 use Rattle.std.proofs.lemmas.Bool.{cases_Bool}
-use Rattle.cmh_frames.specs.Wire.{IsShort, length_of_kind, link_bytes, spelled, spelling}
+use Rattle.cmh_frames.specs.Wire.{IsShort, link_bytes, spelled, spelling}
 use Rattle.cmh_frames.specs.declared.edition.Edition.{Edition}
 use Rattle.cmh_frames.specs.declared.frame.Frame.{Frame}
-use Rattle.cmh_reader.specs.Reader.{ExpectsSame, Reader, StandsFor, Takes}
+use Rattle.cmh_reader.specs.Reader.{BeginsLink, ExpectsSame, Reader, StandsFor, Takes}
 use Rattle.cmh_reader.specs.Stream.{HasMore, Reads, fault_of}
 use Rattle.cmh_reader.specs.declared.fault.ReadFault.TheVariants.{BadFrame, BadHello, Memory, WrongSite}
 use Rattle.cmh_reader.specs.declared.fault.ReadFault.{ReadFault}
 use Rattle.cmh_reader.specs.declared.standing.Standing.{Standing}
 use Rattle.cmh_reader.specs.declared.standing.Standing.TheVariants.{Greeting, NoHello, Stranger, Open, Broken}
-use Rattle.cmh_seat.specs.Inlet.{ComesAsSent, Gave, GaveNothing, IsFaulty}
+use Rattle.cmh_seat.specs.Inlet.{Gave, GaveNothing}
 use Rattle.cmh_seat.specs.Inner.Fed.{WasFed}
 use Rattle.cmh_seat.specs.declared.inlet.InletFault.TheVariants.{Read}
+use Rattle.std.specs.Prelude.{if◌then◌else◌}
 
 spelled_of_both : (xs ys : List Frame) → length (spelled (xs ++ ys)) ≡ length (spelled xs) + length (spelled ys)
 spelled_of_both [] ys = omega arith
@@ -24,7 +25,7 @@ none_given : (xs ys : List Frame) (n : ℕ) → xs ++ ys ≡ [] → length (spel
 none_given [] ys n e = subst (λ (fs : List Frame). length (spelled fs) ≤ n) (sym e) (omega arith)
 none_given (x ∷ xs) ys n e = let long : length (x ∷ xs ++ ys) ≡ 0 = ap length e in absurd (omega (arith, long))
 
-most_of_kind : (kind : ℕ) → length_of_kind kind ≤ 7
+most_of_kind : (kind : ℕ) → (if kind == 3 then 7 else 5) ≤ 7
 most_of_kind kind = elim (cases_Bool (kind == 3)) [
   | inl e ↦ subst (λ b. cond b 7 5 ≤ 7) (sym e) (omega arith)
   | inr e ↦ subst (λ b. cond b 7 5 ≤ 7) (sym e) (omega arith)
@@ -107,18 +108,26 @@ fed_fault old new piece BadHello fed none same = fed_on old new piece [] fed (no
 fed_fault old new piece WrongSite fed none same = fed_on old new piece [] fed (none (λ e. true≢false (sym (ap is_memory e))))
 fed_fault old new piece (BadFrame offset) fed none same = fed_on old new piece [] fed (none (λ e. true≢false (sym (ap is_memory e))))
 
+abbrev pub ComesAsSent : Reader → List ℕ → List Frame → Type 0
+ComesAsSent old piece given =
+    (stream : List ℕ) (earlier sent : List Frame) → StandsFor old stream earlier
+    → BeginsLink old.edition old.senders (stream ++ piece) sent
+    → (later : List Frame) × (earlier ++ given ++ later ≡ sent)
+
 pub gave : (old seen new : Reader) (piece before after : List ℕ) (count : ℕ) (given shown : List Frame) → old ≡ seen → shown ≡ given
     → Takes old new piece given → (given ≡ [] → fault_of new.standing ≡ None) → ExpectsSame old new → ComesAsSent old piece given
     → after ≡ spelled shown ++ drop (length (spelled shown)) before → count ≡ length (spelled shown) → Gave seen piece before after count new
-gave old seen new piece before after count given shown is same takes no_fault expects sent bytes count_is =
+gave old seen new piece before after count given shown is same takes no_fault expects comes bytes count_is =
     subst (λ (r : Reader). Gave r piece before after count new) is (record {
       frames = given;
       takes = takes;
-      bytes = bytes ∙ ap (λ (fs : List Frame). spelled fs ++ drop (length (spelled shown)) before) same ∙ ap (λ n. spelled given ++ drop n before) (sym count_is);
-      count_is = count_is ∙ ap (λ (fs : List Frame). length (spelled fs)) same;
+      fills = (
+        bytes ∙ ap (λ (fs : List Frame). spelled fs ++ drop (length (spelled shown)) before) same ∙ ap (λ n. spelled given ++ drop n before) (sym count_is),
+        count_is ∙ ap (λ (fs : List Frame). length (spelled fs)) same,
+      );
       no_fault = no_fault;
       expects = expects;
-      sent = sent;
+      comes = comes;
     })
 
 pub gave_nothing : (old seen new : Reader) (piece : List ℕ) (space : ℕ) (fault : ReadFault) → old ≡ seen
@@ -129,13 +138,14 @@ pub gave_nothing : (old seen new : Reader) (piece : List ℕ) (space : ℕ) (fau
 gave_nothing old seen new piece space fault is fault_is takes expects same more =
     subst (λ (r : Reader). GaveNothing r piece space (Read fault) new) is (go fault fault_is takes same more)
   where
-    faulty : (f : ReadFault) → (f ≢ Memory) → (f ≢ Memory → fault_of new.standing ≡ Some f) → (f ≢ Memory → Takes old new piece []) → IsFaulty old piece f new
-    faulty f other is_it none = record { takes = none other; fault_is = is_it other; expects = expects }
+    faulty : (f : ReadFault) → (f ≢ Memory) → (f ≢ Memory → fault_of new.standing ≡ Some f) → (f ≢ Memory → Takes old new piece [])
+        → (fault_of new.standing ≡ Some f) × Takes old new piece [] × ExpectsSame old new
+    faulty f other is_it none = (is_it other, none other, expects)
 
     go : (f : ReadFault) → (f ≢ Memory → fault_of new.standing ≡ Some f) → (f ≢ Memory → Takes old new piece []) → (f ≡ Memory → new ≡ record old { starved = true })
         → (f ≡ Memory → (stream : List ℕ) (frames : List Frame) → StandsFor old stream frames → HasMore old.edition old.senders (stream ++ piece) frames)
         → GaveNothing old piece space (Read f) new
-    go Memory is_it none s m = record { same = s refl; more = m refl }
+    go Memory is_it none s m = (s refl, m refl)
     go BadHello is_it none s m = faulty BadHello (λ e. true≢false (sym (ap is_memory e))) is_it none
     go WrongSite is_it none s m = faulty WrongSite (λ e. true≢false (sym (ap is_memory e))) is_it none
     go (BadFrame offset) is_it none s m = faulty (BadFrame offset) (λ e. true≢false (sym (ap is_memory e))) is_it none

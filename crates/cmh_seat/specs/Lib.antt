@@ -1,3 +1,4 @@
+pub mod Fills
 pub mod Inlet
 pub mod Inner
 pub mod Seat

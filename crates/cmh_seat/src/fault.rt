@@ -1,4 +1,4 @@
-//! Why a seat takes no step, or answers no question.
+//! Why a seat takes no step, keeps or drops nothing, or answers no question.
 
 use cmh_controller::Refusal;
 
@@ -7,8 +7,6 @@ use cmh_controller::Refusal;
 pub enum SeatFault {
     /// An entry is prepared, and waits to be kept or dropped.
     Prepared,
-    /// No entry is prepared that could be kept or dropped.
-    NotPrepared,
     /// The journal holds 1,000,000 entries.
     Full,
     /// The bytes are not those of an event.
@@ -20,3 +18,7 @@ pub enum SeatFault {
     /// Out of memory.
     Starved,
 }
+
+/// No entry is prepared that could be kept or dropped.
+#[derive(Clone, Copy, Debug, PartialEq, Eq)]
+pub struct NotPrepared;

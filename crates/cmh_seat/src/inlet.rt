@@ -1,9 +1,9 @@
 //! A reader of what one site sends on one link, whose frames are given as bytes.
 
-ghost use Rattle.std.specs.Prelude.{◌≡◌, ℕ, ◌+◌, ◌≤◌, [], ◌++◌, IfErr, IfOk, OnErr, drop, length};
+ghost use Rattle.std.specs.Prelude.{◌≡◌, ◌+◌, ◌≤◌, [], ◌++◌, IfErr, IfOk, OnErr, drop, length};
 ghost use Rattle.cmh_frames.specs.Wire.{spelled};
 ghost use Rattle.cmh_reader.specs.Reader.{StandsFor, fresh};
-ghost use Rattle.cmh_reader.specs.Stream.{fault_of, sender_of};
+ghost use Rattle.cmh_reader.specs.Stream.{sender_of};
 ghost use Rattle.cmh_seat.specs.Inlet.{Gave, GaveNothing};
 
 use cmh_frames::{Edition, Frame, SiteId, encode};

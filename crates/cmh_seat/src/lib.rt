@@ -10,7 +10,7 @@ mod parts;
 mod pending;
 mod seat;
 
-pub use crate::fault::SeatFault;
+pub use crate::fault::{NotPrepared, SeatFault};
 pub use crate::held::Held;
 pub use crate::held_inlet::HeldInlet;
 pub use crate::inlet::{FRAME_LEFT, Inlet, InletFault};

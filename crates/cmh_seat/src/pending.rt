@@ -1,6 +1,6 @@
 //! A step that waits.
 
-use cmh_model::Entry;
+use cmh_frames::Entry;
 
 /// A step that the controller has prepared, and that waits to be kept or dropped.
 #[derive(Debug, Drop)]

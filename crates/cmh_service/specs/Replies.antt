@@ -1,6 +1,6 @@
 -- What clients are answered to events that a station was given together.
 use Rattle.std.specs.Prelude.{◌≡◌, List, [], ◌∷◌, ◌⊎◌, ⊤}
-use Rattle.cmh_model.specs.declared.event.Event.{Event}
+use Rattle.cmh_frames.specs.declared.event.Event.{Event}
 use Rattle.cmh_service.specs.declared.host.Together.{Together}
 use Rattle.cmh_service.specs.declared.host.Together.TheVariants.{Each, Disk as DiskFailed, Alone}
 use Rattle.cmh_host.specs.Steps.{WasStepped}

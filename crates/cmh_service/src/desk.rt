@@ -5,7 +5,7 @@ ghost use Rattle.cmh_journal.specs.Sink.{known_and};
 ghost use Rattle.cmh_station.specs.Journaled.{batch_limit};
 ghost use Rattle.std.specs.List.{zip};
 
-use cmh_model::Event;
+use cmh_frames::Event;
 use cmh_station::BATCH_LIMIT;
 use std::alloc::{AllocError, Global};
 

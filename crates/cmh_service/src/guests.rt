@@ -5,8 +5,8 @@ use crate::connection::Connection;
 use crate::mailbox::{Delivery, Mailbox};
 use crate::rounds::Rounds;
 use crate::said::Said;
+use cmh_console::{Command, Line};
 use cmh_frames::ProcId;
-use cmh_running::EventLine;
 use cmh_station::BATCH_LIMIT;
 use std::alloc::{AllocError, Global};
 use std::sync::Wait;
@@ -201,8 +201,8 @@ impl Turn {
                 return Ok(());
             };
             match said {
-                Said::Event(EventLine::Silent) => {}
-                Said::Event(EventLine::Act { process: _, event }) => {
+                Said::Event(Line::Silent) => {}
+                Said::Event(Line::Command(Command::Act { process: _, event })) => {
                     let waiting = connection.waiting();
                     if waiting >= self.most {
                         return Ok(());

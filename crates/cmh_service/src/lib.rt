@@ -17,4 +17,4 @@ pub use crate::client::{Client, MOST_QUEUED};
 pub use crate::desk::{Desk, Waiting};
 pub use crate::reply::{Reply, Status};
 pub use crate::said::{Said, parse_for_service};
-pub use crate::serving::run_service;
+pub use crate::serving::{ServiceStart, run_service};

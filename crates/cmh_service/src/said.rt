@@ -5,15 +5,15 @@ ghost use Rattle.cmh_console.specs.Words.{words_of};
 ghost use Rattle.cmh_console.specs.Dialogue.{line_of};
 ghost use Rattle.cmh_service.specs.Said.{AsksNoService, AsksService, NamesProcess, SaysToService, WasSaid};
 
-use cmh_console::{NextLine, Words};
+use cmh_console::{Line, NextLine, Words};
 use cmh_frames::ProcId;
-use cmh_running::{EventLine, Order, SiteLine, parse_for_site};
+use cmh_host::{Order, SiteLine, parse_for_site};
 use std::alloc::{AllocError, Global};
 
 /// What a line of a client says.
 #[derive(Debug, Drop)]
 pub enum Said {
-    Event(EventLine),
+    Event(Line),
     /// The processes that the site declared.
     Declared,
     /// The states of its links.
@@ -36,7 +36,7 @@ pub(crate) fn said_by(alloc: Global, next: NextLine<'_>) -> Result<Said, AllocEr
 {
     match next {
         NextLine::Line(line) => parse_for_service(alloc, line),
-        NextLine::TooLong | NextLine::End => Ok(Said::Event(EventLine::Bad)),
+        NextLine::TooLong | NextLine::End => Ok(Said::Event(Line::Bad)),
     }
 }
 
@@ -52,7 +52,7 @@ pub fn parse_for_service(alloc: Global, line: &[u8]) -> Result<Said, AllocError>
         SiteLine::Order(Order::Declared) => Ok(Said::Declared),
         SiteLine::Order(Order::Links) => Ok(Said::Links),
         SiteLine::Order(Order::Quit) => Ok(Said::Quit),
-        SiteLine::Order(Order::Connect) => Ok(Said::Event(EventLine::Bad)),
+        SiteLine::Order(Order::Connect) => Ok(Said::Event(Line::Bad)),
     }
 }
 

@@ -8,10 +8,11 @@ use crate::host::Host;
 use crate::mailbox::Mailbox;
 use crate::rounds::Rounds;
 use crate::server::{MAIL, PAUSE_MILLISECONDS, Server};
+use cmh_carriers::{Noting, Voice};
 use cmh_console::{Fault, Output};
-use cmh_host::{Running, RunningSite, SiteSetup, SiteStart, System, start_site};
-use cmh_notes::{Noting, Voice};
-use cmh_running::{Setting, read_setting};
+use cmh_host::{
+    Running, RunningSite, Setting, SiteSetup, SiteStart, System, read_setting, start_site,
+};
 use cmh_station::BATCH_LIMIT;
 use crossbeam_utils::sync::Parker;
 use mio::net::TcpListener as Listener;
@@ -38,30 +39,36 @@ const LISTENER: Token = Token(0);
 /// A thread can't serve its clients any more.
 const ENDED: Token = Token(1);
 
+/// What a site is started with that serves clients.
+#[derive(Clone, Copy)]
+pub struct ServiceStart<'a> {
+    pub site: SiteStart<'a>,
+    /// The port of 127.0.0.1 on which clients connect.
+    pub port: u16,
+}
+
 /// Runs one site of a topology for clients that connect, until the program is ended, and answers the status of the program
 /// where it can't go on: 1 where memory ran out, 3 at another fault, which is named on `err`.
 ///
-/// Clients connect to the given port of 127.0.0.1. It says `listening` on `out` once both its ports stand, and connects to
-/// the other sites by itself.
+/// It says `listening` on `out` once both its ports stand, and connects to the other sites by itself.
 pub fn run_service<R, W: Write, E: Write, V>(
     rt: R,
-    alloc: Global,
-    start: &SiteStart<'_>,
-    port: u16,
+    start: &ServiceStart<'_>,
     out: &mut Output<W>,
     err: &mut Output<E>,
     voice: Option<V>,
 ) -> u8
 where
-    R: System + Files<File = File> + Send + 'static,
+    R: System + AllocGlobal + Files<File = File> + Send + 'static,
     V: Voice + Send + Drop + 'static,
     ensures status { IsStatus result }
 {
+    let alloc = rt.alloc();
     let noting = match Noting::start(rt, alloc, voice) {
         Ok(noting) => noting,
         Err(AllocError) => return Fault::Memory.name_on(err),
     };
-    let served = serve_into(rt, alloc, start, port, out, &noting);
+    let served = serve_into(rt, alloc, start, out, &noting);
     noting.end(&rt);
     match served {
         Ok(()) => 0,
@@ -72,25 +79,25 @@ where
 fn serve_into<R, W: Write>(
     rt: R,
     alloc: Global,
-    start: &SiteStart<'_>,
-    port: u16,
+    start: &ServiceStart<'_>,
     out: &mut Output<W>,
     noting: &Noting,
 ) -> Result<(), Fault>
 where
     R: System + Files<File = File> + Send + 'static,
 {
-    let Setting { world, ports } = read_setting(alloc, start.topology)?;
-    if !world.has_site(start.site) {
+    let own = &start.site;
+    let Setting { world, ports } = read_setting(alloc, own.topology)?;
+    if !world.has_site(own.site) {
         return Err(Fault::Site);
     }
-    let doors = Doors::open(&rt, port)?;
+    let doors = Doors::open(&rt, start.port)?;
     let setup = SiteSetup {
         topology: &world,
         ports: &ports,
-        site: start.site,
-        journal: start.journal,
-        patience: start.patience,
+        site: own.site,
+        journal: own.journal,
+        patience: own.patience,
     };
     let RunningSite { handle, threads } = start_site(rt, alloc, &setup, noting)?;
     let links = match threads.view() {

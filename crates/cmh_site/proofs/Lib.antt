@@ -1,0 +1,4 @@
+mod Tallies
+pub mod Endings
+mod Waiting
+pub mod ClusterEndings

@@ -1,13 +1,18 @@
-//! The commands of the program `cmh`, over readers and writers.
+//! The command `site`, the command `cluster`, which runs all sites of a topology as threads of one program, and the
+//! functions of the other commands that callers want under one name.
 #![tactic(auto)]
 
-pub use cmh_cluster::{run_cluster, run_cluster_noting};
+mod cluster;
+mod settling;
+mod site;
+
+pub use crate::cluster::{run_cluster, run_cluster_noting};
+pub use crate::site::{run_site, run_site_noting};
+pub use cmh_carriers::{NoVoice, Note, Noted, Voice};
 pub use cmh_console::{
     Ahead, Fault, Input, Output, TopologyFile, TopologyFileFault, read_topology_file,
     read_topology_file_with_ports,
 };
 pub use cmh_files::{run_audit, run_show};
 pub use cmh_host::{LinkEnds, SiteReply, SiteStart, System};
-pub use cmh_notes::{NoVoice, Note, Noted, Voice};
 pub use cmh_play::{Folder, Keeper, NoKeeper, run_play, run_play_keeping};
-pub use cmh_single::{run_site, run_site_noting};

@@ -1,8 +1,8 @@
 -- What a station answers to questions, which change nothing.
 use Rattle.std.specs.Prelude.{ℕ, ◌≡◌, ◌≢◌, ◌<◌, false, length, None}
 use Rattle.cmh_frames.specs.Topology.{At, Topology, home}
-use Rattle.cmh_model.specs.declared.event.Event.{Event}
-use Rattle.cmh_model.specs.Rules.{Accepts}
+use Rattle.cmh_frames.specs.declared.event.Event.{Event}
+use Rattle.cmh_frames.specs.Rules.{Accepts}
 use Rattle.cmh_controller.specs.declared.refusal.Refusal.TheVariants.{UnknownProcess, NotHere, Memory}
 use Rattle.cmh_journal.specs.Journal.{entry_limit}
 use Rattle.cmh_station.specs.Journaled.{Journaled, state_of}

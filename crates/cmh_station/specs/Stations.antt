@@ -1,9 +1,9 @@
 -- What a contract sees of a station: a controller with its journal, a board of what the journal declares, and the sink.
 use Rattle.std.specs.Prelude.{ℕ, ◌≡◌, ◌≤◌, false, List, length, take}
-use Rattle.cmh_model.specs.declared.journal.Entry.{Entry}
-use Rattle.cmh_model.specs.Declarations.{declarations}
-use Rattle.cmh_model.specs.Runs.{IsBeginningOf}
-use Rattle.cmh_board.specs.Boards.{Listed}
+use Rattle.cmh_frames.specs.declared.journal.Entry.{Entry}
+use Rattle.cmh_frames.specs.Declarations.{declarations}
+use Rattle.cmh_frames.specs.Runs.{IsBeginningOf}
+use Rattle.cmh_shared.specs.Boards.{Listed}
 use Rattle.cmh_station.specs.Journaled.{Journaled}
 
 pub record Station (S : Type 0) : Type 0 where

@@ -4,8 +4,7 @@ ghost use Rattle.std.specs.Prelude.{◌≡◌, length, map, IfOk};
 ghost use Rattle.cmh_station.specs.Arrivals.{got_from, refusal_of_last};
 
 use crate::refusal::StationRefusal;
-use cmh_frames::{Frame, SiteId};
-use cmh_model::{Event, Outcome};
+use cmh_frames::{Event, Frame, Outcome, SiteId};
 use std::alloc::{AllocError, Global};
 
 /// The arrivals of frames from a site.

@@ -1,11 +1,11 @@
 //! A board takes in what a journal declares.
 
 ghost use Rattle.std.specs.Prelude.{◌≡◌, ◌≤◌, length, true, false, OnOk, OnErr};
-ghost use Rattle.cmh_model.specs.Declarations.{declarations};
+ghost use Rattle.cmh_frames.specs.Declarations.{declarations};
 ghost use Rattle.cmh_station.specs.Stations.{IsFed, KeepsUp};
 
-use cmh_board::Listing;
-use cmh_model::Entry;
+use cmh_frames::Entry;
+use cmh_shared::Listing;
 use std::alloc::AllocError;
 use std::sync::Wait;
 

@@ -19,5 +19,4 @@ pub use crate::parking_tap::ParkingTap;
 pub use crate::refusal::StationRefusal;
 pub use crate::shared::{News, SharedStation};
 pub use crate::station::Station;
-pub use cmh_board::{BoardReader, Declared, KeptBoard, Listing, Told};
-pub use cmh_ring::LinkTap;
+pub use cmh_shared::{BoardReader, Declared, KeptBoard, LinkTap, Listing, Told};

@@ -3,7 +3,7 @@
 ghost use Rattle.std.specs.Prelude.{◌≡◌, [], ◌∷◌, ◌++◌, IfSome, IfNone};
 
 use cmh_frames::{Frame, SiteId};
-use cmh_ring::LinkTap;
+use cmh_shared::LinkTap;
 use crossbeam_utils::sync::Parker;
 use std::marker::Model;
 use std::sync::Wait;
@@ -16,7 +16,7 @@ pub struct ParkingTap {
 }
 
 impl Model for ParkingTap {
-    ghost use Rattle.cmh_ring.specs.Links.{Tap};
+    ghost use Rattle.cmh_shared.specs.Links.{Tap};
 
     ghost Value = { Tap };
 

@@ -5,10 +5,9 @@ ghost use Rattle.std.specs.Vec.{vec_len, vec_capacity};
 
 use crate::parking_tap::ParkingTap;
 use crate::station::Station;
-use cmh_board::Listing;
 use cmh_frames::SiteId;
 use cmh_journal::Sink;
-use cmh_ring::LinkTap;
+use cmh_shared::{LinkTap, Listing};
 use crossbeam_utils::sync::{Parker, Unparker};
 use std::alloc::{AllocError, Global};
 use std::sync::{Mutex, MutexGuard, OnceLock, Wait};

@@ -7,9 +7,9 @@ use Rattle.std.proofs.Math.ListN.{set}
 use Rattle.std.proofs.lemmas.Bool.{eqb-true, eq-eqb, ne_eqb, and_parts, not-true, cases_eq, lt-ltb, ltb-true}
 use Rattle.std.proofs.lemmas.List.{get_or-set_same, get_or-set_other, length-set}
 use Rattle.std.proofs.lemmas.Map.Views.{any-filter_same}
-use Rattle.cmh_model.specs.Relation.{has, has_some, only_firsts, with_each}
-use Rattle.cmh_model.specs.Rules.{IsAscending, owed_after_ask}
-use Rattle.cmh_model.proofs.Pairs.{has-none, has-only, has-with_each, has-with_each_other}
+use Rattle.cmh_frames.specs.Relation.{has, has_some, only_firsts, with_each}
+use Rattle.cmh_frames.specs.Rules.{IsAscending, owed_after_ask}
+use Rattle.cmh_frames.proofs.Pairs.{has-none, has-only, has-with_each, has-with_each_other}
 use Rattle.cmh_waits.specs.Held.{owed_before_ask}
 use Rattle.cmh_waits.specs.Rows.{AreRows, bit_of, is_at_in, is_in, is_set, relation_of}
 use Rattle.cmh_waits.proofs.Asks.{has-after_ask, has-before_ask, owes_since}

@@ -3,9 +3,9 @@ use Rattle.std.proofs.Common.{◌≡◌, ℕ, Bool, true, false, not, ◌&&◌, 
 use Rattle.std.specs.List.{list_any}
 use Rattle.std.proofs.Math.Bool.{and-false, and-true, or_assoc}
 use Rattle.std.proofs.lemmas.Bool.{eqb-true, eq-eqb, ne_eqb, and_parts, cases_Bool, cases_eq}
-use Rattle.cmh_model.specs.Relation.{Relation, has, has_some, only_firsts, with_pair, with_each, without_pair}
-use Rattle.cmh_model.specs.Rules.{owed_after_ask}
-use Rattle.cmh_model.proofs.Pairs.{has-none, has-only, has-with, has-with_each_other, has-without, same_relation}
+use Rattle.cmh_frames.specs.Relation.{Relation, has, has_some, only_firsts, with_pair, with_each, without_pair}
+use Rattle.cmh_frames.specs.Rules.{owed_after_ask}
+use Rattle.cmh_frames.proofs.Pairs.{has-none, has-only, has-with, has-with_each_other, has-without, same_relation}
 use Rattle.cmh_waits.specs.Held.{Held, IsMember, OwesOnlyWhoWait, asked, before_ask, is_member, owed_before_ask}
 
 -- ---- the parts of what is held

@@ -8,7 +8,7 @@ use Rattle.std.proofs.lemmas.List.Edits.{length-insert, get_or-insert_below, get
 use Rattle.std.proofs.lemmas.List.Sorted.{searched, list_any-IsPermutation, IsPermutation-insert}
 use Rattle.std.proofs.lemmas.Map.Views.{any-filter_same}
 use Rattle.cmh_frames.proofs.Apart.{eqb_comm}
-use Rattle.cmh_model.proofs.Members.{not_decreasing}
+use Rattle.cmh_frames.proofs.Members.{not_decreasing}
 use Rattle.cmh_waits.specs.Rows.{is_in}
 use Rattle.cmh_waits.proofs.Members.{among_is}
 use Rattle.cmh_waits.proofs.Ordered.{filter_all, filter_rest}

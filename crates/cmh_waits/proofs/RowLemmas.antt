@@ -10,9 +10,10 @@ use Rattle.std.proofs.lemmas.List.Folds.{list_any-append, list_any_more}
 use Rattle.cmh_frames.proofs.Apart.{eqb_comm}
 use Rattle.std.proofs.lemmas.List.Sums.{position_or_len_is}
 use Rattle.std.proofs.lemmas.Map.Views.{any-filter_same}
-use Rattle.cmh_model.specs.Relation.{Relation, has, has_some, is_pair, with_pair, without_pair}
-use Rattle.cmh_model.proofs.Members.{found_at, found_from, not_decreasing}
-use Rattle.cmh_model.proofs.Pairs.{has-with, has-without, has-none, has_some-to, same_relation}
+use Rattle.cmh_frames.specs.Relation.{Relation, has, has_some, with_pair, without_pair}
+use Rattle.cmh_waits.proofs.Sets.{is_pair}
+use Rattle.cmh_frames.proofs.Members.{found_at, found_from, not_decreasing}
+use Rattle.cmh_frames.proofs.Pairs.{has-with, has-without, has-none, has_some-to, same_relation}
 use Rattle.cmh_waits.proofs.BitLemmas.{no_bit, none_set}
 use Rattle.cmh_waits.proofs.Sets.{has-from_list}
 use Rattle.cmh_waits.specs.Rows.{AreRows, bit_of, is_at_in, is_in, is_set, joins, place_in, pairs_of, seconds_in, relation_of}

@@ -7,9 +7,9 @@ use Rattle.std.proofs.lemmas.Bool.{eqb-true, and_parts, and_from, cases_lt}
 use Rattle.std.proofs.lemmas.List.{get_or-replicate, get_or_past, length-replicate}
 use Rattle.std.proofs.lemmas.List.Kept.{IsStrictlyIncreasing-filter}
 use Rattle.std.proofs.lemmas.Map.Views.{any-filter_same}
-use Rattle.cmh_model.specs.Relation.{Relation, has}
-use Rattle.cmh_model.proofs.Members.{found_at, found_from}
-use Rattle.cmh_model.proofs.Pairs.{has-empty}
+use Rattle.cmh_frames.specs.Relation.{Relation, has}
+use Rattle.cmh_frames.proofs.Members.{found_at, found_from}
+use Rattle.cmh_frames.proofs.Pairs.{has-empty}
 use Rattle.cmh_waits.specs.Held.{Held, IsMember, is_member, nothing_held}
 use Rattle.cmh_waits.specs.Rows.{AreRows, is_in, is_set, place_in, relation_of}
 use Rattle.cmh_waits.proofs.BitLemmas.{no_bit}

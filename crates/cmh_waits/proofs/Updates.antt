@@ -5,8 +5,8 @@ use Rattle.std.specs.List.{filter}
 use Rattle.std.specs.List.Sorted.{IsStrictlyIncreasing}
 use Rattle.std.proofs.lemmas.Bool.{eqb-true, and_parts, or_cases}
 use Rattle.std.proofs.lemmas.List.{set-get_or, length-set}
-use Rattle.cmh_model.specs.Relation.{Relation, has, has_some, with_pair, without_pair}
-use Rattle.cmh_model.proofs.Pairs.{has_some-from}
+use Rattle.cmh_frames.specs.Relation.{Relation, has, has_some, with_pair, without_pair}
+use Rattle.cmh_frames.proofs.Pairs.{has_some-from}
 use Rattle.cmh_waits.specs.Held.{Held, is_member, got_request, replied}
 use Rattle.cmh_waits.specs.Rows.{AreRows, bit_of, is_in, is_set, relation_of}
 use Rattle.cmh_waits.proofs.Asks.{same_held}

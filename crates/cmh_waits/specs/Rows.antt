@@ -4,7 +4,7 @@ use Rattle.std.specs.Prelude.{map, filter, length, nat_lt, slice_index, slice_in
 use Rattle.std.specs.Int.{bit_at}
 use Rattle.std.specs.List.{list_any, position_or_len}
 use Rattle.std.specs.FinSet as set
-use Rattle.cmh_model.specs.Relation.{Relation, has}
+use Rattle.cmh_frames.specs.Relation.{Relation, has}
 use Rattle.cmh_waits.specs.Held.{Held, IsKept}
 
 -- whether the number has a 1 at the place

@@ -4,8 +4,8 @@ ghost use Rattle.std.specs.Prelude.{◌≡◌, ℕ, ◌<◌, ◌≤◌, ◌↔�
 ghost use Rattle.std.specs.Prelude.{IfSome, MatchOption, [], Contains, length, filter, replicate, slice_get, slice_index};
 ghost use Rattle.std.specs.List.{list_any};
 ghost use Rattle.std.specs.List.Sorted.{IsStrictlyIncreasing};
-ghost use Rattle.cmh_model.specs.Relation.{has, has_some};
-ghost use Rattle.cmh_model.specs.Rules.{IsAscending};
+ghost use Rattle.cmh_frames.specs.Relation.{has, has_some};
+ghost use Rattle.cmh_frames.specs.Rules.{IsAscending};
 ghost use Rattle.cmh_waits.specs.Held.{IsMember, is_member, nothing_held, wakes};
 ghost use Rattle.cmh_waits.specs.Held.{asked, before_ask, before_request, got_reply, got_request, replied};
 ghost use Rattle.cmh_waits.specs.Rows.{AreRows, bit_of, is_at_in, is_in, is_set, joins, place_in, relation_of};

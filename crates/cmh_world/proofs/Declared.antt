@@ -3,20 +3,20 @@ use Rattle.std.proofs.Common.{◌≡◌, ◌⊎◌, ◌↔◌, ℕ, true, ◌||�
 use Rattle.std.specs.FinSet as set
 use Rattle.std.specs.Cmp.{nat_cmp_total, unsigned_tied}
 use Rattle.std.proofs.lemmas.Bool.{eq-eqb, or_left, or_right, cases_Bool, MatchBool-at_false}
-use Rattle.cmh_model.proofs.Choices.{if_same}
+use Rattle.cmh_frames.proofs.Choices.{if_same}
 use Rattle.cmh_frames.specs.declared.frame.Frame.{Frame}
 use Rattle.cmh_frames.specs.declared.frame.Frame.TheVariants.{Request, Reply as Reply_frame, Probe}
 use Rattle.cmh_frames.specs.Topology.{Topology, is_at}
-use Rattle.cmh_model.specs.declared.event.Event.{Event}
-use Rattle.cmh_model.specs.declared.event.Event.TheVariants.{Ask, Reply, Start, Got}
-use Rattle.cmh_model.specs.declared.journal.Entry.{Entry}
-use Rattle.cmh_model.specs.Relation.{Numbers}
-use Rattle.cmh_model.specs.State.{State, empty_state}
-use Rattle.cmh_model.specs.Rules.{Sends, after, declared_after, probe_acts}
-use Rattle.cmh_model.specs.Journals.{LawfulFrom, state_after}
-use Rattle.cmh_model.specs.Declarations.{Declares, DeclaredByEntries}
-use Rattle.cmh_model.proofs.Declaring.{enters, stays}
-use Rattle.cmh_model.proofs.Marks.{declared_means}
+use Rattle.cmh_frames.specs.declared.event.Event.{Event}
+use Rattle.cmh_frames.specs.declared.event.Event.TheVariants.{Ask, Reply, Start, Got}
+use Rattle.cmh_frames.specs.declared.journal.Entry.{Entry}
+use Rattle.cmh_frames.specs.Relation.{Numbers}
+use Rattle.cmh_frames.specs.State.{State, empty_state}
+use Rattle.cmh_frames.specs.Rules.{Sends, after, declared_after, probe_acts}
+use Rattle.cmh_frames.specs.Journals.{LawfulFrom, state_after, IsLawful, value}
+use Rattle.cmh_frames.specs.Declarations.{Declares}
+use Rattle.cmh_frames.proofs.Declaring.{enters, stays}
+use Rattle.cmh_frames.proofs.AfterEvents.{declared_means}
 
 -- from a state on
 declared_on : (t : Topology) (s : ℕ) (v : State) (journal : List Entry) (i : ℕ) → LawfulFrom t s v journal → (set.contains (state_after t s v journal).declared i ≡ true) ↔ ((set.contains v.declared i ≡ true) ⊎ Declares journal i)
@@ -37,7 +37,7 @@ declared_on t s v (e ∷ es) i lawful =
     )
 
 -- at first nobody is declared
-pub declared_by_entries : (t : Topology) → DeclaredByEntries t
+pub declared_by_entries : (t : Topology) (s : ℕ) (journal : List Entry) → IsLawful t s journal → (i : ℕ) → (set.contains (value t s journal).declared i ≡ true) ↔ Declares journal i
 declared_by_entries t s journal lawful i =
     let both = declared_on t s empty_state journal i lawful in (
       λ h. elim (both.0 h) [

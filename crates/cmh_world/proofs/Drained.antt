@@ -4,27 +4,27 @@ use Rattle.std.specs.FinSet as set
 use Rattle.std.proofs.lemmas.Bool.{cases_eq, cases_Bool, false_from_ne_true, MatchBool-at_true}
 use Rattle.cmh_frames.specs.declared.frame.Frame.{Frame}
 use Rattle.cmh_frames.specs.declared.frame.Frame.TheVariants.{Probe}
-use Rattle.cmh_model.specs.declared.event.Event.TheVariants.{Got}
-use Rattle.cmh_model.specs.declared.journal.WorldEvent.{WorldEvent}
+use Rattle.cmh_frames.specs.declared.event.Event.TheVariants.{Got}
+use Rattle.cmh_frames.specs.declared.journal.WorldEvent.{WorldEvent}
 use Rattle.cmh_frames.specs.Edition.{starts_at_ask}
 use Rattle.cmh_frames.specs.Topology.{Topology, At, site_of}
-use Rattle.cmh_model.specs.Relation.{has}
-use Rattle.cmh_model.specs.Rules.{Accepts, Sends, after, probe_acts, IsEdgeFrom, AreProbes}
-use Rattle.cmh_model.specs.State.{is_blocked}
-use Rattle.cmh_model.specs.Paths.{IsPath, WaitsLocally, ReachesLocally, DependsOnItself}
-use Rattle.cmh_model.specs.Journals.{frames_to, frame_from}
-use Rattle.cmh_model.specs.Waits.{asks_for, grants}
-use Rattle.cmh_model.specs.Laws.{bit, count_of, is_request}
-use Rattle.cmh_model.proofs.Places.{one_place, count-append, site_of-at}
-use Rattle.cmh_model.proofs.Moves.{probe_waits}
-use Rattle.cmh_model.proofs.Sent.{answers_of, to_yes, to-append, count_probes, requests_sent}
-use Rattle.cmh_model.proofs.Edges.{reach_ends, empty_has_none}
-use Rattle.cmh_model.proofs.Effects.{asks_means, dependents_after}
-use Rattle.cmh_model.proofs.Marks.{dependents_stay, probe_marks, newly_means, StartsOne, ask_starts, frame_from_is, contains_split, map-append_one}
-use Rattle.cmh_model.proofs.Bits.{bit_one, bit_at_most}
-use Rattle.cmh_model.proofs.Journals.{sent_on, got_on}
-use Rattle.cmh_model.proofs.PathLemmas.{path_join}
-use Rattle.cmh_model.specs.LastAsker.{is_ask_of}
+use Rattle.cmh_frames.specs.Relation.{has}
+use Rattle.cmh_frames.specs.Rules.{Accepts, Sends, after, probe_acts, IsEdgeFrom, AreProbes}
+use Rattle.cmh_frames.specs.State.{is_blocked}
+use Rattle.cmh_frames.specs.Paths.{IsPath, WaitsLocally, ReachesLocally, DependsOnItself}
+use Rattle.cmh_frames.specs.Journals.{frames_to, frame_from}
+use Rattle.cmh_frames.specs.Waits.{asks_for, grants}
+use Rattle.cmh_frames.specs.Laws.{bit, count_of, is_request}
+use Rattle.cmh_frames.proofs.Places.{one_place, count-append, site_of-at}
+use Rattle.cmh_frames.proofs.Moves.{probe_waits}
+use Rattle.cmh_frames.proofs.Sent.{answers_of, to_yes, to-append, count_probes, requests_sent}
+use Rattle.cmh_frames.proofs.Edges.{reach_ends, empty_has_none}
+use Rattle.cmh_frames.proofs.Effects.{asks_means, dependents_after}
+use Rattle.cmh_frames.proofs.AfterEvents.{dependents_stay, probe_marks, newly_means, StartsOne, ask_starts, frame_from_is, contains_split, map-append_one}
+use Rattle.cmh_frames.proofs.Bits.{bit_one, bit_at_most}
+use Rattle.cmh_frames.proofs.Journals.{sent_on, got_on}
+use Rattle.cmh_frames.proofs.PathLemmas.{path_join}
+use Rattle.cmh_frames.specs.LastAsker.{is_ask_of}
 use Rattle.cmh_world.proofs.LastAsker.{asker_active}
 use Rattle.cmh_world.proofs.World.{World, Step, Waiting, EachWait, Invariant, BlockedAt, wait_blocks, path_blocks}
 use Rattle.cmh_world.proofs.Kept.{kept, path_kept, cycle_kept, new_waits, sent_yes, sent_no, got_yes, got_no}

@@ -5,22 +5,21 @@ use Rattle.std.proofs.lemmas.Bool.{cases_eq, eq-eqb, or_left}
 use Rattle.std.specs.List.{list_any}
 use Rattle.std.specs.Ordering.{nat_cmp}
 use Rattle.std.specs.FinSet as set
-use Rattle.cmh_model.specs.declared.journal.WorldEvent.{WorldEvent}
+use Rattle.cmh_frames.specs.declared.journal.WorldEvent.{WorldEvent}
 use Rattle.cmh_frames.specs.Edition.{starts_at_ask}
 use Rattle.cmh_frames.specs.Topology.{Topology}
-use Rattle.cmh_model.specs.Paths.{IsPath}
-use Rattle.cmh_model.specs.Runs.{IsRun, IsDrained, sendings, under_way, state_of}
-use Rattle.cmh_model.specs.Waits.{IsDeclared, IsCycle, Waits}
-use Rattle.cmh_model.specs.Laws.{EachCycleDeclared}
+use Rattle.cmh_frames.specs.Paths.{IsPath}
+use Rattle.cmh_frames.specs.Runs.{IsRun, IsDrained, sendings, under_way, state_of}
+use Rattle.cmh_frames.specs.Waits.{IsDeclared, IsCycle, Waits}
 use Rattle.cmh_world.proofs.World.{Step, Invariant}
 use Rattle.cmh_world.proofs.Kept.{kept}
-use Rattle.cmh_model.proofs.Marks.{declared_means}
-use Rattle.cmh_model.specs.LastAsker.{AskedLast, LastAskerDeclared}
+use Rattle.cmh_frames.proofs.AfterEvents.{declared_means}
+use Rattle.cmh_frames.specs.LastAsker.{AskedLast, LastAskerDeclared}
 use Rattle.cmh_world.proofs.Drained.{Followed, followed_kept, followed_from, ends_where_drained, began}
 use Rattle.cmh_world.proofs.LastAsker.{last_ask, waited, around, path_waited}
-use Rattle.cmh_model.proofs.PathLemmas.{LeadsTo}
-use Rattle.cmh_model.proofs.Journals.{run_front}
-use Rattle.cmh_model.specs.Waits.{asks_for}
+use Rattle.cmh_frames.proofs.PathLemmas.{LeadsTo}
+use Rattle.cmh_frames.proofs.Journals.{run_front}
+use Rattle.cmh_frames.specs.Waits.{asks_for}
 use Rattle.cmh_world.proofs.RunsSoFar.{world_of, one_step, invariant_of_run}
 
 -- who a site has declared is declared in the list
@@ -144,7 +143,7 @@ module _ (t : Topology) (events : List WorldEvent) (two : starts_at_ask t.editio
       declared i (first ∷ second ∷ others) h = declared_last first second others h.1.0 (subst (λ z. IsPath (Waits events) second others z) (sym h.0) h.1.1)
 
   -- so each cycle has a declared process
-  pub each_cycle_declared : EachCycleDeclared events
+  pub each_cycle_declared : (i : ℕ) (members : List ℕ) → IsCycle events i members → (d : ℕ) × (list_any (λ q. q == d) members ≡ true) × IsDeclared events d
   each_cycle_declared i members h =
       let last = last_asker_declared.some i members h in
       (last.0, last.1.member, last_asker_declared.declared i members h last.0 last.1)

@@ -1,28 +1,28 @@
 -- An event keeps what holds of a world.
 use Rattle.std.proofs.Common.{◌≡◌, ◌≢◌, ◌⊎◌, ℕ, ◌+◌, Bool, true, false, not, ◌&&◌, ◌||◌, List, [], ◌∷◌, ◌++◌, if◌then◌else◌, refl, sym, ap, ◌∙◌, subst, inl, inr, true≢false, Some, arith, append_assoc, append-nil}
 use Rattle.std.proofs.lemmas.Bool.{eq-eqb, ne_eqb, and_parts, or_cases, cases_eq, cases_Bool, false_from_ne_true, or_right}
-use Rattle.cmh_model.proofs.Choices.{and_yes}
+use Rattle.cmh_frames.proofs.Choices.{and_yes}
 use Rattle.cmh_frames.specs.declared.frame.Frame.{Frame}
 use Rattle.cmh_frames.specs.declared.frame.Frame.TheVariants.{Request, Reply as Reply_frame, Probe}
-use Rattle.cmh_model.specs.declared.event.Event.{Event}
-use Rattle.cmh_model.specs.declared.event.Event.TheVariants.{Ask, Reply, Start, Got}
-use Rattle.cmh_model.specs.declared.journal.WorldEvent.{WorldEvent}
+use Rattle.cmh_frames.specs.declared.event.Event.{Event}
+use Rattle.cmh_frames.specs.declared.event.Event.TheVariants.{Ask, Reply, Start, Got}
+use Rattle.cmh_frames.specs.declared.journal.WorldEvent.{WorldEvent}
 use Rattle.cmh_frames.specs.Topology.{Topology, At, is_at}
-use Rattle.cmh_model.specs.Relation.{has, has_some}
-use Rattle.cmh_model.specs.Rules.{Accepts, after, probe_acts}
-use Rattle.cmh_model.specs.State.{is_blocked}
-use Rattle.cmh_model.specs.Paths.{IsPath, WaitsLocally, ReachesLocally, DependsOnItself}
-use Rattle.cmh_model.specs.Journals.{frames_to, frame_from}
-use Rattle.cmh_model.specs.Waits.{asks_for, grants}
-use Rattle.cmh_model.specs.Laws.{bit, count_of, is_request, is_reply}
-use Rattle.cmh_model.proofs.Places.{one_place, count-append, is_at-yes, frame_from-yes}
-use Rattle.cmh_model.proofs.Moves.{waits_move, owed_move, probe_waits}
-use Rattle.cmh_model.proofs.Sent.{IsOrigin, declares, requests_sent, replies_sent}
-use Rattle.cmh_model.proofs.Edges.{none_to_own, probe_sent, split_append, reach_ends, empty_has_none}
-use Rattle.cmh_model.proofs.Effects.{asks_means, grants_means, asks_or_grants, none_from_own, dependents_after}
-use Rattle.cmh_model.proofs.Bits.{bit_zero, bit_one, bit_at_most, wait_sum}
-use Rattle.cmh_model.proofs.Journals.{sent_on, got_on}
-use Rattle.cmh_model.proofs.PathLemmas.{LeadsTo, path_map, path_join, leads_on, leads_further}
+use Rattle.cmh_frames.specs.Relation.{has, has_some}
+use Rattle.cmh_frames.specs.Rules.{Accepts, after, probe_acts}
+use Rattle.cmh_frames.specs.State.{is_blocked}
+use Rattle.cmh_frames.specs.Paths.{IsPath, WaitsLocally, ReachesLocally, DependsOnItself}
+use Rattle.cmh_frames.specs.Journals.{frames_to, frame_from}
+use Rattle.cmh_frames.specs.Waits.{asks_for, grants}
+use Rattle.cmh_frames.specs.Laws.{bit, count_of, is_request, is_reply}
+use Rattle.cmh_frames.proofs.Places.{one_place, count-append, is_at-yes, frame_from-yes}
+use Rattle.cmh_frames.proofs.Moves.{waits_move, owed_move, probe_waits}
+use Rattle.cmh_frames.proofs.Sent.{IsOrigin, declares, requests_sent, replies_sent}
+use Rattle.cmh_frames.proofs.Edges.{none_to_own, probe_sent, split_append, reach_ends, empty_has_none}
+use Rattle.cmh_frames.proofs.Effects.{asks_means, grants_means, asks_or_grants, none_from_own, dependents_after}
+use Rattle.cmh_frames.proofs.Bits.{bit_zero, bit_one, bit_at_most, wait_sum}
+use Rattle.cmh_frames.proofs.Journals.{sent_on, got_on}
+use Rattle.cmh_frames.proofs.PathLemmas.{LeadsTo, path_map, path_join, leads_on, leads_further}
 use Rattle.cmh_world.proofs.World.{World, Step, link_count, Waiting, EachWait, ProbeFits, Invariant, BlockedAt, wait_blocks, path_blocks}
 
 -- the site of an event sends what the event sends

@@ -2,17 +2,17 @@
 use Rattle.std.proofs.Common.{◌≡◌, ◌⊎◌, ℕ, Bool, true, false, not, ◌&&◌, ◌||◌, List, [], ◌∷◌, ◌++◌, ◌==◌, refl, sym, ap, ◌∙◌, subst, inl, inr, true≢false}
 use Rattle.std.specs.List.{list_any, AllByRecursion}
 use Rattle.std.proofs.lemmas.Bool.{eqb-true, eq-eqb, and_parts, or_cases, cases_Bool, or_left, or_right}
-use Rattle.cmh_model.specs.declared.event.Event.{Event}
-use Rattle.cmh_model.specs.declared.event.Event.TheVariants.{Ask, Reply, Start, Got}
-use Rattle.cmh_model.specs.declared.journal.WorldEvent.{WorldEvent}
+use Rattle.cmh_frames.specs.declared.event.Event.{Event}
+use Rattle.cmh_frames.specs.declared.event.Event.TheVariants.{Ask, Reply, Start, Got}
+use Rattle.cmh_frames.specs.declared.journal.WorldEvent.{WorldEvent}
 use Rattle.cmh_frames.specs.Topology.{Topology, At}
-use Rattle.cmh_model.specs.State.{State, is_blocked}
-use Rattle.cmh_model.specs.Rules.{Accepts}
-use Rattle.cmh_model.specs.Paths.{IsPath}
-use Rattle.cmh_model.specs.Waits.{asks_for, grants, wait_after, Waits}
-use Rattle.cmh_model.proofs.Journals.{wait_after-append}
-use Rattle.cmh_model.proofs.PathLemmas.{LeadsTo, path_join}
-use Rattle.cmh_model.specs.LastAsker.{is_ask_of, AskedLast}
+use Rattle.cmh_frames.specs.State.{State, is_blocked}
+use Rattle.cmh_frames.specs.Rules.{Accepts}
+use Rattle.cmh_frames.specs.Paths.{IsPath}
+use Rattle.cmh_frames.specs.Waits.{asks_for, grants, wait_after, Waits}
+use Rattle.cmh_frames.proofs.Journals.{wait_after-append}
+use Rattle.cmh_frames.proofs.PathLemmas.{LeadsTo, path_join}
+use Rattle.cmh_frames.specs.LastAsker.{is_ask_of, AskedLast}
 
 -- d is one of the members
 abbrev pub On : List ℕ → ℕ → Type 0

@@ -4,20 +4,21 @@ use Rattle.std.proofs.lemmas.Bool.{cases_Bool, cases_eq}
 use Rattle.cmh_frames.specs.declared.frame.Frame.{Frame}
 use Rattle.cmh_frames.specs.declared.frame.Frame.TheVariants.{Request, Reply as Reply_frame, Probe}
 use Rattle.cmh_frames.specs.Edition.{target_limit}
-use Rattle.cmh_frames.specs.Topology.{Topology, IsWellFormed, sites_of, members_of, all_members, site_of}
-use Rattle.cmh_model.specs.declared.event.Event.{Event}
-use Rattle.cmh_model.specs.declared.event.Event.TheVariants.{Ask, Reply, Start, Got}
-use Rattle.cmh_model.specs.declared.journal.WorldEvent.{WorldEvent}
-use Rattle.cmh_model.specs.Relation.{IsNarrow, has}
-use Rattle.cmh_model.specs.Rules.{Accepts, Sends, IsAscending, after, probe_acts}
-use Rattle.cmh_model.specs.Journals.{frames_to, frame_from}
-use Rattle.cmh_model.specs.Laws.{bit, count_of}
-use Rattle.cmh_model.specs.Settling.{is_any_reply, is_delivery, waits_beside, most_probes}
-use Rattle.cmh_model.proofs.Ascending.{ascending_increasing}
-use Rattle.cmh_model.proofs.Deliveries.{site_listed, member_listed, count_sent_all, sent_within, count_all, ignored_sends_nothing, acting_sends_few, no_reply_keeps, acting_marks}
-use Rattle.cmh_model.proofs.Journals.{sent_on, got_on}
-use Rattle.cmh_model.proofs.Places.{frame_from-yes, site_of-at}
-use Rattle.cmh_model.proofs.Sums.{On, sum_pairs, pairs_flow, pairs_le, pairs_less, pairs_has, pairs_most, sum-same, sum-most, sum-one, lack, lack_le, lack_most}
+use Rattle.cmh_frames.specs.Topology.{Topology, IsWellFormed, sites_of, members_of, site_of}
+use Rattle.cmh_frames.specs.Rows.{all_members}
+use Rattle.cmh_frames.specs.declared.event.Event.{Event}
+use Rattle.cmh_frames.specs.declared.event.Event.TheVariants.{Ask, Reply, Start, Got}
+use Rattle.cmh_frames.specs.declared.journal.WorldEvent.{WorldEvent}
+use Rattle.cmh_frames.specs.Relation.{IsNarrow, has}
+use Rattle.cmh_frames.specs.Rules.{Accepts, Sends, IsAscending, after, probe_acts}
+use Rattle.cmh_frames.specs.Journals.{frames_to, frame_from}
+use Rattle.cmh_frames.specs.Laws.{bit, count_of}
+use Rattle.cmh_frames.specs.Settling.{is_any_reply, is_delivery, waits_beside, most_probes}
+use Rattle.cmh_frames.proofs.Ascending.{ascending_increasing}
+use Rattle.cmh_frames.proofs.Deliveries.{site_listed, member_listed, count_sent_all, sent_within, count_all, ignored_sends_nothing, acting_sends_few, no_reply_keeps, acting_marks}
+use Rattle.cmh_frames.proofs.Journals.{sent_on, got_on}
+use Rattle.cmh_frames.proofs.Places.{frame_from-yes, site_of-at}
+use Rattle.cmh_frames.proofs.Sums.{On, sum_pairs, pairs_flow, pairs_le, pairs_less, pairs_has, pairs_most, sum-same, sum-most, sum-one, lack, lack_le, lack_most}
 use Rattle.cmh_world.proofs.World.{World, Step, link_count}
 use Rattle.cmh_world.proofs.Kept.{sent_yes, sent_no, got_yes}
 

@@ -2,20 +2,20 @@
 use Rattle.std.proofs.Common.{◌≡◌, ℕ, true, false, List, [], ◌∷◌, ◌++◌, refl, sym, ap, ◌∙◌, subst, inl, inr, true≢false, arith, append_assoc, append-nil}
 use Rattle.std.proofs.lemmas.List.{append_cancel_left}
 use Rattle.cmh_frames.specs.declared.frame.Frame.TheVariants.{Probe}
-use Rattle.cmh_model.specs.declared.journal.WorldEvent.{WorldEvent}
+use Rattle.cmh_frames.specs.declared.journal.WorldEvent.{WorldEvent}
 use Rattle.cmh_frames.specs.Topology.{Topology, At}
-use Rattle.cmh_model.specs.State.{empty_state, is_blocked}
-use Rattle.cmh_model.specs.Paths.{IsPath}
-use Rattle.cmh_model.specs.Journals.{state_after, LawfulFrom}
-use Rattle.cmh_model.specs.Runs.{entries_of, sendings, receipts, IsRun, under_way, state_of}
-use Rattle.cmh_model.specs.Waits.{wait_after, Waits, IsCycle, OnCycle, IsDeclared}
-use Rattle.cmh_model.specs.Laws.{bit, Facts, DarkPath}
-use Rattle.cmh_model.proofs.Pairs.{has-empty}
-use Rattle.cmh_model.proofs.Edges.{empty_has_none}
-use Rattle.cmh_model.proofs.Journals.{sent_on, got_on}
+use Rattle.cmh_frames.specs.State.{empty_state, is_blocked}
+use Rattle.cmh_frames.specs.Paths.{IsPath}
+use Rattle.cmh_frames.specs.Journals.{state_after, LawfulFrom}
+use Rattle.cmh_frames.specs.Runs.{entries_of, sendings, receipts, IsRun, under_way, state_of}
+use Rattle.cmh_frames.specs.Waits.{wait_after, Waits, IsCycle, OnCycle, IsDeclared}
+use Rattle.cmh_frames.specs.Laws.{bit, Facts, DarkPath}
+use Rattle.cmh_frames.proofs.Pairs.{has-empty}
+use Rattle.cmh_frames.proofs.Edges.{empty_has_none}
+use Rattle.cmh_frames.proofs.Journals.{sent_on, got_on}
 use Rattle.cmh_world.proofs.World.{World, Step, Invariant, wait_blocks}
 use Rattle.cmh_world.proofs.Kept.{kept, cycle_kept, declared_cycle}
-use Rattle.cmh_model.proofs.Journals.{entries_here, entries_elsewhere, entries_of-append, state_after-append, lawful_rest, sendings-more, receipts-more, wait_after-append, whole, run_front}
+use Rattle.cmh_frames.proofs.Journals.{entries_here, entries_elsewhere, entries_of-append, state_after-append, lawful_rest, sendings-more, receipts-more, wait_after-append, whole, run_front}
 
 -- the world at the end of a list of events
 abbrev pub world_of : Topology → List WorldEvent → World

@@ -7,22 +7,22 @@ use Rattle.cmh_frames.specs.declared.frame.Frame.{Frame}
 use Rattle.cmh_frames.specs.declared.frame.Frame.TheVariants.{Request, Reply as Reply_frame, Probe}
 use Rattle.cmh_frames.specs.Edition.{starts_at_ask}
 use Rattle.cmh_frames.specs.Topology.{Topology, IsWellFormed, sites_of}
-use Rattle.cmh_model.specs.declared.event.Event.{Event}
-use Rattle.cmh_model.specs.declared.event.Event.TheVariants.{Ask, Reply, Start, Got}
-use Rattle.cmh_model.specs.declared.journal.WorldEvent.{WorldEvent}
-use Rattle.cmh_model.specs.Rules.{Accepts}
-use Rattle.cmh_model.specs.Journals.{frame_from}
-use Rattle.cmh_model.specs.Runs.{IsRun, IsDrained, entries_of, receipts, sendings, under_way, state_of}
-use Rattle.cmh_model.specs.Waits.{IsCycle}
-use Rattle.cmh_model.specs.LastAsker.{is_ask_of, AskedLast}
-use Rattle.cmh_model.specs.Settling.{GoesOn, IsSettled, EachRunComesToRest, EachDeadlockFound, RestTells, most_deliveries, is_any_reply, is_delivery, most_probes}
-use Rattle.cmh_model.proofs.Deliveries.{site_listed}
+use Rattle.cmh_frames.specs.declared.event.Event.{Event}
+use Rattle.cmh_frames.specs.declared.event.Event.TheVariants.{Ask, Reply, Start, Got}
+use Rattle.cmh_frames.specs.declared.journal.WorldEvent.{WorldEvent}
+use Rattle.cmh_frames.specs.Rules.{Accepts}
+use Rattle.cmh_frames.specs.Journals.{frame_from}
+use Rattle.cmh_frames.specs.Runs.{IsRun, IsDrained, entries_of, receipts, sendings, under_way, state_of}
+use Rattle.cmh_frames.specs.Waits.{IsCycle, OnCycle, IsDeclared}
+use Rattle.cmh_frames.specs.LastAsker.{is_ask_of, AskedLast}
+use Rattle.cmh_frames.specs.Settling.{GoesOn, IsSettled, ComesToRest, most_deliveries, is_any_reply, is_delivery, most_probes}
+use Rattle.cmh_frames.proofs.Deliveries.{site_listed}
 use Rattle.cmh_frames.proofs.Each.{all_append}
-use Rattle.cmh_model.proofs.Fits.{FrameFits, under_way_fits}
-use Rattle.cmh_model.proofs.Journals.{run_front, whole, sent_on, got_on}
-use Rattle.cmh_model.proofs.Lawful.{lawful_states}
-use Rattle.cmh_model.proofs.Places.{frame_from-yes}
-use Rattle.cmh_model.proofs.Sums.{On}
+use Rattle.cmh_frames.proofs.Fits.{FrameFits, under_way_fits}
+use Rattle.cmh_frames.proofs.Journals.{run_front, whole, sent_on, got_on}
+use Rattle.cmh_frames.proofs.Lawful.{lawful_states}
+use Rattle.cmh_frames.proofs.Places.{frame_from-yes}
+use Rattle.cmh_frames.proofs.Sums.{On}
 use Rattle.cmh_world.proofs.World.{Step}
 use Rattle.cmh_world.proofs.Kept.{sent_no, got_yes}
 use Rattle.cmh_world.proofs.RunsSoFar.{world_of, one_step, dark_path}
@@ -191,7 +191,7 @@ module _ (t : Topology) (formed : IsWellFormed t) where
         one_first events one.0 one.1 (drains_within fuel (events ++ one.0 ∷ []) one.2 (omega arith))
   ]
 
-  pub comes_to_rest : EachRunComesToRest t
+  pub comes_to_rest : (events : List WorldEvent) → IsRun t events → ComesToRest t events
   comes_to_rest events run = record {
     soon = settles_soon t formed events;
     drained = λ more goes. settled_drained t (events ++ more) goes.run;
@@ -236,7 +236,8 @@ some_last events i (first ∷ second ∷ others) h = elim (last_ask events (firs
   | inr none ↦ absurd (true≢false (sym (waited (first ∷ second ∷ others) first second false events (or_left (first == first) (list_any (λ z. z == first) (second ∷ others)) (eq-eqb first first refl)) none h.1.0)))
 ]
 
-pub each_deadlock_found : (t : Topology) → starts_at_ask t.edition ≡ true → EachDeadlockFound t
+pub each_deadlock_found : (t : Topology) → starts_at_ask t.edition ≡ true → (events more : List WorldEvent) → GoesOn t events more → IsSettled t (events ++ more)
+    → (i : ℕ) (members : List ℕ) → IsCycle events i members → (d : ℕ) × AskedLast events members d × IsDeclared (events ++ more) d
 each_deadlock_found t two events more goes settled i members cycle =
     let drained = (settled_drained t (events ++ more) goes.run).0 settled in
     let last = some_last events i members cycle in
@@ -247,7 +248,7 @@ each_deadlock_found t two events more goes settled i members cycle =
     )
 
 -- somebody is declared exactly where there is a cycle
-pub rest_tells : (t : Topology) → starts_at_ask t.edition ≡ true → RestTells t
+pub rest_tells : (t : Topology) → starts_at_ask t.edition ≡ true → (events : List WorldEvent) → IsRun t events → IsSettled t events → ((i : ℕ) × OnCycle events i) ↔ ((i : ℕ) × IsDeclared events i)
 rest_tells t two events run settled =
     let drained = (settled_drained t events run).0 settled in (
       λ on. let one = each_cycle_declared t events two run drained on.0 on.1.0 on.1.1 in (one.0, one.2),

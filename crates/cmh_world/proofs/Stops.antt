@@ -2,15 +2,14 @@
 use Rattle.std.proofs.Common.{◌≡◌, ◌≢◌, ◌≤◌, ℕ, zero, suc, ◌-◌, List, [], ◌∷◌, ◌++◌, ◌==◌, if◌then◌else◌, refl, sym, ap, ◌∙◌, subst, inl, inr, length, take, drop, arith, take-append-drop, take_all}
 use Rattle.std.proofs.lemmas.List.{take-append-le}
 use Rattle.std.proofs.lemmas.Bool.{eq-eqb, ne_eqb, cases_eq, cases_lt}
-use Rattle.cmh_model.specs.declared.journal.Entry.{Entry}
-use Rattle.cmh_model.specs.declared.journal.WorldEvent.{WorldEvent}
+use Rattle.cmh_frames.specs.declared.journal.Entry.{Entry}
+use Rattle.cmh_frames.specs.declared.journal.WorldEvent.{WorldEvent}
 use Rattle.cmh_frames.specs.Topology.{Topology}
-use Rattle.cmh_model.specs.Runs.{entries_of, sendings, receipts, IsBeginningOf, IsRun}
-use Rattle.cmh_model.specs.Journals.{sendings_of, receipts_of, IsLawful}
-use Rattle.cmh_model.specs.Stops.{IsConsistent}
-use Rattle.cmh_model.specs.Laws.{StopsAnywhere}
-use Rattle.cmh_model.proofs.Beginnings.{beginning_take, beginning_trans, length-beginning, sendings_of-beginning}
-use Rattle.cmh_model.proofs.Journals.{entries_here, entries_elsewhere, entries_of-append, receipts_of-append, lawful_front}
+use Rattle.cmh_frames.specs.Runs.{entries_of, sendings, receipts, IsBeginningOf, IsRun, ComeFromRun}
+use Rattle.cmh_frames.specs.Journals.{sendings_of, receipts_of, IsLawful}
+use Rattle.cmh_frames.specs.Stops.{IsConsistent, stopped}
+use Rattle.cmh_frames.proofs.Beginnings.{beginning_take, beginning_trans, length-beginning, sendings_of-beginning}
+use Rattle.cmh_frames.proofs.Journals.{entries_here, entries_elsewhere, entries_of-append, receipts_of-append, lawful_front}
 
 -- ---- beginnings
 
@@ -136,5 +135,5 @@ module _ (t : Topology) (events : List WorldEvent) (run : IsRun t events) (stop 
   }
 
 -- a consistent stop comes from a run
-pub stops_anywhere : (t : Topology) (events : List WorldEvent) → IsRun t events → StopsAnywhere t events
+pub stops_anywhere : (t : Topology) (events : List WorldEvent) → IsRun t events → (stop : ℕ → ℕ) → IsConsistent stop events → ComeFromRun t (stopped stop events)
 stops_anywhere t events run = λ stop consistent. (within stop events, stopped_run t events run stop consistent, entries_within stop events)

@@ -1,14 +1,14 @@
 -- Asks and replies of two processes take turns.
 use Rattle.std.proofs.Common.{◌≡◌, ℕ, ◌+◌, false, List, [], ◌∷◌, ◌++◌, sym, ap, subst, arith, append_assoc, append-nil}
-use Rattle.cmh_model.specs.declared.journal.WorldEvent.{WorldEvent}
+use Rattle.cmh_frames.specs.declared.journal.WorldEvent.{WorldEvent}
 use Rattle.cmh_frames.specs.Topology.{Topology}
-use Rattle.cmh_model.specs.Runs.{IsRun}
-use Rattle.cmh_model.specs.Waits.{asks_for, grants, wait_after}
-use Rattle.cmh_model.specs.Laws.{bit, count_of, AsksAndReplies}
-use Rattle.cmh_model.proofs.Bits.{wait_sum}
+use Rattle.cmh_frames.specs.Runs.{IsRun}
+use Rattle.cmh_frames.specs.Waits.{asks_for, grants, wait_after}
+use Rattle.cmh_frames.specs.Laws.{bit, count_of, AsksAndReplies}
+use Rattle.cmh_frames.proofs.Bits.{wait_sum}
 use Rattle.cmh_world.proofs.World.{World, Step, Invariant}
 use Rattle.cmh_world.proofs.Kept.{kept, idle, waited}
-use Rattle.cmh_model.proofs.Effects.{asks_means, grants_means, grants_known, asks_or_grants}
+use Rattle.cmh_frames.proofs.Effects.{asks_means, grants_means, grants_known, asks_or_grants}
 use Rattle.cmh_world.proofs.RunsSoFar.{world_of, one_step, invariant_first}
 
 -- an ask begins the wait and a reply ends it, so each keeps the balance

@@ -1,11 +1,11 @@
 -- The two ways to say that a process waits for another.
-use Rattle.std.proofs.Common.{◌≡◌, ◌⊎◌, ℕ, Bool, true, false, not, ◌&&◌, ◌||◌, List, [], ◌∷◌, refl, sym, ap, ◌∙◌, inl, inr, true≢false}
+use Rattle.std.proofs.Common.{◌≡◌, ◌⊎◌, ℕ, Bool, true, false, not, ◌&&◌, ◌||◌, List, [], ◌∷◌, refl, sym, ap, ◌∙◌, inl, inr, true≢false, ◌↔◌}
 use Rattle.std.specs.List.{AllByRecursion}
 use Rattle.std.proofs.lemmas.Bool.{or_cases, and_parts, not-true}
-use Rattle.cmh_model.specs.declared.journal.WorldEvent.{WorldEvent}
-use Rattle.cmh_model.specs.Waits.{wait_after, asks_for, grants, Waits}
-use Rattle.cmh_model.specs.Laws.{StandsUnanswered, WaitsStandUnanswered}
-use Rattle.cmh_model.proofs.Journals.{wait_after-append}
+use Rattle.cmh_frames.specs.declared.journal.WorldEvent.{WorldEvent}
+use Rattle.cmh_frames.specs.Waits.{wait_after, asks_for, grants, Waits}
+use Rattle.cmh_frames.specs.Laws.{StandsUnanswered}
+use Rattle.cmh_frames.proofs.Journals.{wait_after-append}
 
 -- a wait at the end stood at the start and was not answered, or an ask began it
 from_start : (b : Bool) (events : List WorldEvent) (j k : ℕ) → wait_after b j k events ≡ true → ((b ≡ true) × AllByRecursion (λ (e : WorldEvent). grants k j e.entry.event ≡ false) events) ⊎ StandsUnanswered events j k
@@ -36,5 +36,5 @@ to_end events j k x =
     ∙ ap (λ q. wait_after (q || (not (grants k j x.1.entry.event) && wait_after false j k x.0)) j k x.2) x.4 ∙ stays x.2 j k x.5
 
 -- the two wordings of a wait agree
-pub waits_stand : WaitsStandUnanswered
-waits_stand = λ events j k. ((λ h. elim (from_start false events j k h) [ inl x ↦ absurd (true≢false (sym x.0)) | inr x ↦ x ]), to_end events j k)
+pub waits_stand : (events : List WorldEvent) (j k : ℕ) → Waits events j k ↔ StandsUnanswered events j k
+waits_stand events j k = ((λ h. elim (from_start false events j k h) [ inl x ↦ absurd (true≢false (sym x.0)) | inr x ↦ x ]), to_end events j k)

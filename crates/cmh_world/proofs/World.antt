@@ -2,19 +2,19 @@
 use Rattle.std.proofs.Common.{◌≡◌, ◌≢◌, ℕ, ◌+◌, Bool, true, not, ◌&&◌, ◌||◌, List, [], ◌∷◌, ◌++◌, sym, ap, ◌∙◌, subst, arith}
 use Rattle.cmh_frames.specs.declared.frame.Frame.{Frame}
 use Rattle.cmh_frames.specs.declared.frame.Frame.TheVariants.{Probe}
-use Rattle.cmh_model.specs.declared.journal.WorldEvent.{WorldEvent}
+use Rattle.cmh_frames.specs.declared.journal.WorldEvent.{WorldEvent}
 use Rattle.cmh_frames.specs.Topology.{Topology, At}
-use Rattle.cmh_model.specs.Relation.{has}
-use Rattle.cmh_model.specs.State.{State, is_blocked}
-use Rattle.cmh_model.specs.Rules.{Accepts, Sends, after}
-use Rattle.cmh_model.specs.Paths.{IsPath}
-use Rattle.cmh_model.specs.Waits.{asks_for, grants}
-use Rattle.cmh_model.specs.Laws.{bit, count_of, is_request, is_reply}
-use Rattle.cmh_model.proofs.Pairs.{has_some-from}
-use Rattle.cmh_model.proofs.Bits.{bit_one, bit_at_most}
-use Rattle.cmh_model.proofs.Journals.{sent_on, got_on}
-use Rattle.cmh_model.proofs.Places.{count-append}
-use Rattle.cmh_model.proofs.PathLemmas.{LeadsTo}
+use Rattle.cmh_frames.specs.Relation.{has}
+use Rattle.cmh_frames.specs.State.{State, is_blocked}
+use Rattle.cmh_frames.specs.Rules.{Accepts, Sends, after}
+use Rattle.cmh_frames.specs.Paths.{IsPath}
+use Rattle.cmh_frames.specs.Waits.{asks_for, grants}
+use Rattle.cmh_frames.specs.Laws.{bit, count_of, is_request, is_reply}
+use Rattle.cmh_frames.proofs.Pairs.{has_some-from}
+use Rattle.cmh_frames.proofs.Bits.{bit_one, bit_at_most}
+use Rattle.cmh_frames.proofs.Journals.{sent_on, got_on}
+use Rattle.cmh_frames.proofs.Places.{count-append}
+use Rattle.cmh_frames.proofs.PathLemmas.{LeadsTo}
 
 -- each site's state, what is under way on each link, and who waits for whom
 pub record World : Type 0 where

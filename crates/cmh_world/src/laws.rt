@@ -8,20 +8,28 @@
 //! A law with `of_every_run` in its name is for a caller that knows of a run and does not hold its list, as whoever has
 //! journals that were accepted.
 
-ghost use Rattle.std.specs.Prelude.{◌≡◌, true, ℕ, List, [], ◌∷◌, ◌++◌};
+ghost use Rattle.std.specs.Prelude.{◌≡◌, ◌↔◌, ◌==◌, true, false, ℕ, List, [], ◌∷◌, ◌++◌, Option};
+ghost use Rattle.std.specs.List.{list_any};
+ghost use Rattle.std.specs.FinSet as set;
 ghost use Rattle.cmh_frames.specs.Edition.{starts_at_ask};
-ghost use Rattle.cmh_model.specs.declared.journal.WorldEvent.{WorldEvent};
-ghost use Rattle.cmh_model.specs.Journals.{frame_from};
-ghost use Rattle.cmh_model.specs.Rules.{Accepts, Sends};
-ghost use Rattle.cmh_model.specs.Laws.{DarkPath, SameJournals, SameWaits, StopsAnywhere, EachCycleDeclared, OneOutcome, WaitsStandUnanswered, LawfulStates, AsksAndReplies, StrangersSilent};
-ghost use Rattle.cmh_model.specs.Declarations.{DeclaredByEntries};
-ghost use Rattle.cmh_model.specs.Runs.{ComeFromRun, IsBeginningOf, IsDrained, IsRun, state_of, under_way};
-ghost use Rattle.cmh_model.specs.LastAsker.{LastAskerDeclared};
-ghost use Rattle.cmh_model.specs.Stops.{IsConsistent, stop_at, stopped};
-ghost use Rattle.cmh_model.specs.Settling.{EachDeadlockFound, EachRunComesToRest, FirstFramesAccepted, FirstFramesDeliverable, RestTells, SomeOutcome};
+ghost use Rattle.cmh_frames.specs.Topology.{is_site, lookup};
+ghost use Rattle.cmh_frames.specs.declared.frame.Frame.{Frame};
+ghost use Rattle.cmh_frames.specs.declared.event.Event.{Event};
+ghost use Rattle.cmh_frames.specs.declared.event.Event.TheVariants.{Got};
+ghost use Rattle.cmh_frames.specs.declared.journal.Entry.{Entry};
+ghost use Rattle.cmh_frames.specs.declared.journal.WorldEvent.{WorldEvent};
+ghost use Rattle.cmh_frames.specs.State.{State};
+ghost use Rattle.cmh_frames.specs.Rules.{Accepts, Sends};
+ghost use Rattle.cmh_frames.specs.Journals.{IsLawful, frame_from, value};
+ghost use Rattle.cmh_frames.specs.Runs.{ComeFromRun, IsBeginningOf, IsDrained, IsRun, entries_of, state_of, under_way};
+ghost use Rattle.cmh_frames.specs.Waits.{IsCycle, IsDeclared, OnCycle, Waits};
+ghost use Rattle.cmh_frames.specs.Stops.{IsConsistent, stopped};
+ghost use Rattle.cmh_frames.specs.Laws.{AsksAndReplies, DarkPath, JournalFacts, StandsUnanswered};
+ghost use Rattle.cmh_frames.specs.Declarations.{Declares};
+ghost use Rattle.cmh_frames.specs.LastAsker.{AskedLast, LastAskerDeclared};
+ghost use Rattle.cmh_frames.specs.Settling.{ComesToRest, GoesOn, IsSettled};
 
-use cmh_frames::{SiteId, Topology};
-use cmh_model::WorldEvent;
+use cmh_frames::{SiteId, Topology, WorldEvent};
 
 /// No false deadlock: in every run each declared process lies on a cycle of waits at the end.
 ///
@@ -49,14 +57,14 @@ pub fn dark_path_of_every_run(topology: &Topology)
 pub fn order_law(topology: &Topology, events: &[WorldEvent], others: &[WorldEvent])
     requires first { IsRun topology.now events.now }
     requires second { IsRun topology.now others.now }
-    requires journals { SameJournals events.now others.now }
-    ensures waits { SameWaits events.now others.now }
+    requires journals { (s : ℕ) → entries_of s events.now ≡ entries_of s others.now }
+    ensures waits { (j k : ℕ) → Waits events.now j k ↔ Waits others.now j k }
 {}
 
 /// Any two runs with the same journals have the same waits at the end.
 pub fn order_law_of_every_run(topology: &Topology)
     ensures waits { (events others : List WorldEvent) → IsRun topology.now events → IsRun topology.now others
-        → SameJournals events others → SameWaits events others }
+        → ((s : ℕ) → entries_of s events ≡ entries_of s others) → (j k : ℕ) → Waits events j k ↔ Waits others j k }
 {}
 
 /// Sites may stop anywhere: the entries of a consistent stop of a run come from a run.
@@ -66,13 +74,14 @@ pub fn order_law_of_every_run(topology: &Topology)
 /// consistent where nothing was got within it that was not sent within it.
 pub fn cut_law(topology: &Topology, events: &[WorldEvent], stop: &[(SiteId, usize)])
     requires run { IsRun topology.now events.now }
-    requires consistent { IsConsistent (stop_at stop.now) events.now }
-    ensures comes { ComeFromRun topology.now (stopped (stop_at stop.now) events.now) }
+    requires consistent { IsConsistent (lookup 0 stop.now) events.now }
+    ensures comes { ComeFromRun topology.now (stopped (lookup 0 stop.now) events.now) }
 {}
 
 /// The cut law of every run and every stop: here a stop is any function from sites to numbers of entries.
 pub fn cut_law_of_every_run(topology: &Topology)
-    ensures stops { (events : List WorldEvent) → IsRun topology.now events → StopsAnywhere topology.now events }
+    ensures stops { (events : List WorldEvent) → IsRun topology.now events
+        → (stop : ℕ → ℕ) → IsConsistent stop events → ComeFromRun topology.now (stopped stop events) }
 {}
 
 /// No silent deadlock: in every run of edition 2 in which every frame that was sent has come, each cycle of waits has a
@@ -83,7 +92,8 @@ pub fn drained_law(topology: &Topology, events: &[WorldEvent])
     requires edition { starts_at_ask topology.now.edition ≡ true }
     requires run { IsRun topology.now events.now }
     requires drained { IsDrained events.now }
-    ensures on_cycle { EachCycleDeclared events.now }
+    ensures on_cycle { (i : ℕ) (members : List ℕ) → IsCycle events.now i members
+        → (d : ℕ) × (list_any (λ q. q == d) members ≡ true) × IsDeclared events.now d }
     ensures last_asker { LastAskerDeclared events.now }
 {}
 
@@ -108,13 +118,16 @@ pub fn growing_law(topology: &Topology)
 
 /// The rules leave no choice: what a controller sends and declares at an event is determined by its state.
 pub fn outcome_law(topology: &Topology)
-    ensures one_outcome { OneOutcome topology.now }
+    ensures one_outcome { (s : ℕ) (v : State) (event : Event)
+        (sent others : List (ℕ × Frame)) (declared other : Option ℕ)
+        → Sends topology.now s v event sent declared → Sends topology.now s v event others other
+        → (sent ≡ others) × (declared ≡ other) }
 {}
 
 /// A process waits for another exactly where some ask of it names the other and no reply of the other to it stands
 /// after that ask.
 pub fn wait_law()
-    ensures waits { WaitsStandUnanswered }
+    ensures waits { (events : List WorldEvent) (j k : ℕ) → Waits events j k ↔ StandsUnanswered events j k }
 {}
 
 /// Of the state of every lawful journal, whatever the other sites do: waits and owed replies are those of the site's
@@ -122,13 +135,16 @@ pub fn wait_law()
 /// is what is owed between them. The processes that the controller keeps as declared are those that the journal's
 /// entries declare.
 pub fn journal_law(topology: &Topology)
-    ensures states { LawfulStates topology.now }
-    ensures declared { DeclaredByEntries topology.now }
+    ensures states { (s : ℕ) (journal : List Entry) → IsLawful topology.now s journal
+        → JournalFacts topology.now s (value topology.now s journal) }
+    ensures declared { (s : ℕ) (journal : List Entry) → IsLawful topology.now s journal
+        → (i : ℕ) → (set.contains (value topology.now s journal).declared i ≡ true) ↔ Declares journal i }
 {}
 
 /// A site outside the topology does nothing: only the empty journal of it is lawful, so a run has no entry of it.
 pub fn stranger_law(topology: &Topology)
-    ensures silent { StrangersSilent topology.now }
+    ensures silent { (s : ℕ) (journal : List Entry) → is_site topology.now s ≡ false
+        → IsLawful topology.now s journal → journal ≡ [] }
 {}
 
 /// Asks and replies of two processes take turns: of every run, the asks of one for the other are as many as the
@@ -151,17 +167,20 @@ pub fn count_law_of_every_run(topology: &Topology)
 /// For the rules give an outcome of each event, whatever the state.
 pub fn delivery_law(topology: &Topology)
     ensures accepted { (events : List WorldEvent) → IsRun topology.now events
-        → FirstFramesAccepted topology.now events }
+        → (a b : ℕ) (frame : Frame) (behind : List Frame) → under_way a b events ≡ frame ∷ behind
+        → Accepts topology.now b (state_of topology.now b events) (Got a frame) }
     ensures deliverable { (events : List WorldEvent) → IsRun topology.now events
-        → FirstFramesDeliverable topology.now events }
-    ensures outcome { SomeOutcome topology.now }
+        → (a b : ℕ) (frame : Frame) (behind : List Frame) → under_way a b events ≡ frame ∷ behind
+        → (e : WorldEvent) × (e.site ≡ b) × (e.entry.event ≡ Got a frame) × IsRun topology.now (events ++ e ∷ []) }
+    ensures outcome { (s : ℕ) (v : State) (event : Event)
+        → (sent : List (ℕ × Frame)) × (declared : Option ℕ) × Sends topology.now s v event sent declared }
 {}
 
 /// Deliveries come to an end. In whatever order they are made, so many can follow a run at most, and the frames under
 /// way and the topology alone tell how many; no further one can follow exactly where every frame has come; and some
 /// lead there.
 pub fn settling_law(topology: &Topology)
-    ensures rest { EachRunComesToRest topology.now }
+    ensures rest { (events : List WorldEvent) → IsRun topology.now events → ComesToRest topology.now events }
 {
     let _ = topology.sites();
 }
@@ -171,9 +190,12 @@ pub fn settling_law(topology: &Topology)
 /// a deadlock exactly where somebody is declared.
 pub fn deadlock_is_found_law(topology: &Topology)
     requires second_edition { starts_at_ask topology.now.edition ≡ true }
-    ensures settles { EachRunComesToRest topology.now }
-    ensures found { EachDeadlockFound topology.now }
-    ensures tells { RestTells topology.now }
+    ensures settles { (events : List WorldEvent) → IsRun topology.now events → ComesToRest topology.now events }
+    ensures found { (events more : List WorldEvent) → GoesOn topology.now events more
+        → IsSettled topology.now (events ++ more) → (i : ℕ) (members : List ℕ) → IsCycle events i members
+        → (d : ℕ) × AskedLast events members d × IsDeclared (events ++ more) d }
+    ensures tells { (events : List WorldEvent) → IsRun topology.now events → IsSettled topology.now events
+        → ((i : ℕ) × OnCycle events i) ↔ ((i : ℕ) × IsDeclared events i) }
 {
     let _ = topology.sites();
 }

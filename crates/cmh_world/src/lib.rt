@@ -1,6 +1,6 @@
 //! The laws of runs, and the frames that are under way in one.
 //!
-//! The laws stand over the definitions of `cmh_model` alone; `docs/rules.md` explains each.
+//! The laws stand over the definitions of `cmh_frames` alone; `docs/rules.md` explains each.
 #![tactic(auto)]
 
 mod laws;
@@ -13,4 +13,4 @@ pub use crate::laws::{
     outcome_law, settling_law, stranger_law, wait_law,
 };
 pub use crate::links::Links;
-pub use cmh_model::WorldEvent;
+pub use cmh_frames::WorldEvent;

@@ -1,7 +1,7 @@
 -- A list of places of journals whose sites may go on.
 use Rattle.std.specs.Prelude.{◌≡◌, ℕ, ◌+◌, ◌<◌, ◌≤◌, ◌⊎◌, List, [], ◌∷◌, ◌++◌, length, slice_index_or, Contains, Option, Some, None}
 use Rattle.cmh_frames.specs.declared.frame.Frame.{Frame}
-use Rattle.cmh_model.specs.Journals.{frames_to}
+use Rattle.cmh_frames.specs.Journals.{frames_to}
 use Rattle.cmh_journal.specs.Journal.{Journal}
 
 -- the list with the site whose turn it is, if it is some site's

@@ -1,5 +1,6 @@
 -- A report as it is made of totals.
-use Rattle.std.specs.Prelude.{◌≡◌, ℕ, ◌↔◌, true, List, Contains}
+use Rattle.std.specs.Prelude.{◌≡◌, ℕ, ◌↔◌, true, List, ◌==◌, Contains, Option, option_map}
+use Rattle.std.specs.List.{find, zip}
 use Rattle.cmh_audit.specs.Inner.FoundCycles.{AreFoundCycles}
 use Rattle.cmh_audit.specs.Reports.{Report, IsInOrder}
 use Rattle.cmh_audit.specs.Turns.{is_open}
@@ -14,3 +15,8 @@ pub record IsReportWith (waits : List (List ℕ)) (declared : List ℕ) (events 
   pub events_are : report.events ≡ events
   pub in_transit_is : report.in_transit ≡ in_transit
   pub tries_are : report.tries ≡ tries
+
+-- what stands in the second list where i stands in the first
+abbrev pub beside : List ℕ → List (List ℕ) → ℕ → Option (List ℕ)
+beside declared cycles i =
+    option_map (λ (row : ℕ × List ℕ). row.1) (find (λ (row : ℕ × List ℕ). row.0 == i) (zip declared cycles))

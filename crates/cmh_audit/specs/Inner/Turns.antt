@@ -2,8 +2,8 @@
 use Rattle.std.specs.Prelude.{◌≡◌, ◌↔◌, ℕ, ◌≤◌, ◌<◌, true, ◌&&◌, ◌==◌, List, length, Contains}
 use Rattle.std.specs.List.Sorted.{IsStrictlySortedBy}
 use Rattle.cmh_frames.specs.Number.{IsNumber}
-use Rattle.cmh_model.specs.Relation.{pair_cmp}
-use Rattle.cmh_model.specs.Laws.{bit}
+use Rattle.cmh_frames.specs.Relation.{pair_cmp}
+use Rattle.cmh_frames.specs.Laws.{bit}
 use Rattle.cmh_audit.specs.Turns.{is_open}
 
 -- each wait is as it was

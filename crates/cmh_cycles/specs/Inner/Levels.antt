@@ -1,6 +1,6 @@
 -- The places from which a fixed one is reached, level by level.
 use Rattle.std.specs.Prelude.{◌≡◌, ℕ, ◌+◌, ◌-◌, ◌<◌, ◌≤◌, true, List, length}
-use Rattle.cmh_model.specs.Paths.{IsPath}
+use Rattle.cmh_frames.specs.Paths.{IsPath}
 use Rattle.cmh_cycles.specs.Rows.{has_place, row_at}
 
 -- the level d has the place

@@ -2,7 +2,7 @@
 use Rattle.std.specs.Prelude.{◌≡◌, ℕ, true, List, [], length, slice_index_or}
 use Rattle.std.specs.FinSet as set
 use Rattle.std.specs.List.Sorted.{IsStrictlyIncreasing}
-use Rattle.cmh_model.specs.Relation.{Relation, has}
+use Rattle.cmh_frames.specs.Relation.{Relation, has}
 use Rattle.cmh_waits.specs.Rows.{is_in, pairs_of, place_in}
 
 -- each process with those in the list at its place

@@ -1,13 +1,21 @@
 -- What a topology keeps in its fields, and what the steps of making it come to.
-use Rattle.std.specs.Prelude.{◌≡◌, ℕ, ◌≤◌, true, List, [], ◌∷◌, length, ◌==◌}
+use Rattle.std.specs.Prelude.{◌≡◌, ℕ, ◌≤◌, Bool, true, not, List, [], ◌∷◌, length, ◌==◌}
 use Rattle.std.specs.Prelude.{Option, None, Some, map, slice_index_or}
 use Rattle.std.specs.List.{list_any, AllByRecursion}
 use Rattle.std.specs.List.Sorted.{IsNonDecreasing, IsPermutation, IsStrictlyIncreasing}
 use Rattle.cmh_frames.specs.declared.edition.Edition.{Edition}
 use Rattle.cmh_frames.specs.Edition.{site_limit, member_limit}
-use Rattle.cmh_frames.specs.Number.{IsNumber}
+use Rattle.cmh_frames.specs.Number.{IsNumber, is_number}
 use Rattle.cmh_frames.specs.Rows.{Row}
-use Rattle.cmh_frames.specs.Topology.{home_in, members_in}
+use Rattle.cmh_frames.specs.Topology.{home_in, lookup}
+
+-- no number of a site or a process
+abbrev pub is_bad : ℕ → Bool
+is_bad n = not (is_number n)
+
+-- the processes of a site
+abbrev pub members_in : List Row → ℕ → List ℕ
+members_in rows s = lookup [] rows s
 
 -- no site and no process stands in two rows
 abbrev pub AreApart : List (ℕ × List ℕ) → Type 0

@@ -1,6 +1,6 @@
 use Rattle.std.proofs.Common.{ℕ, Option, subst, sym}
 use Rattle.cmh_frames.specs.Topology.{is_some_of}
-use Rattle.cmh_model.specs.Laws.{bit}
+use Rattle.cmh_frames.specs.Laws.{bit}
 use Rattle.cmh_audit.specs.Declarations.{HasMore}
 use Rattle.cmh_audit.proofs.declared.declare.Goals as goal
 

@@ -7,11 +7,11 @@ use Rattle.cmh_audit.proofs.merge.merge.Given as goal
 
 abbrev pub invariant-loop-turn : goal.invariant-loop-turn
 invariant-loop-turn l = record {
-  listed : Listed l.topology l.journals l.limits l.taken.items l.links l.lacks.items (with_turn l.turn l.ready.items) l.tries;
-  last : IfNone l.turn (l.ready.items ≡ []);
+  listed : Listed l.topology l.journals l.limits l.taken.items l.links l.schedule.lacks.items (with_turn l.turn l.schedule.ready.items) l.tries;
+  last : IfNone l.turn (l.schedule.ready.items ≡ []);
   left : AreLeftAt l.journals l.taken.items l.walks.items;
   kept : IsKept l.keeps_order l.topology l.journals l.taken.items l.steps.items;
 }
 
 abbrev pub decreases-loop-turn : goal.decreases-loop-turn
-decreases-loop-turn l = work l.journals l.taken.items (with_turn l.turn l.ready.items)
+decreases-loop-turn l = work l.journals l.taken.items (with_turn l.turn l.schedule.ready.items)

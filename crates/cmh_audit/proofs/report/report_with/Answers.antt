@@ -3,7 +3,7 @@ use Rattle.std.specs.Prelude.{Contains}
 use Rattle.std.specs.List.Sorted.{IsStrictlySortedBy}
 use Rattle.std.specs.Ordering.{nat_cmp}
 use Rattle.std.proofs.lemmas.Map.Keys.{IsStrictlyIncreasing-from_sorted}
-use Rattle.cmh_model.specs.Relation.{pair_cmp}
+use Rattle.cmh_frames.specs.Relation.{pair_cmp}
 use Rattle.cmh_audit.specs.Turns.{is_open}
 use Rattle.cmh_audit.specs.Inner.FoundCycles.{AreFoundCycles}
 use Rattle.cmh_audit.proofs.ReportLemmas.{found-length}
@@ -24,10 +24,10 @@ returns c =
       waits_are = subst W (sym c.in_ok-graph.ensures.waits_are) c.in_ok-pairs.ensures.pairs;
       declared_are = c.in_ok-declared.ensures.processes;
       cycles_are = subst (λ (ds : List ℕ). AreFoundCycles waits ds c.in_ok-cycles.cycles.items) c.deref.ensures.value c.in_ok-cycles.ensures;
-      order = record {
-        waits = subst S (sym c.in_ok-graph.ensures.waits_are) c.in_ok-pairs.ensures.ascending;
-        declared = IsStrictlyIncreasing-from_sorted c.in_ok-declared.declared.items (subst (λ ps. IsStrictlySortedBy nat_cmp ps) (sym c.in_ok-declared.ensures.processes) c.processes_of.ensures.ordered);
-      };
+      order = (
+        subst S (sym c.in_ok-graph.ensures.waits_are) c.in_ok-pairs.ensures.ascending,
+        IsStrictlyIncreasing-from_sorted c.in_ok-declared.declared.items (subst (λ ps. IsStrictlySortedBy nat_cmp ps) (sym c.in_ok-declared.ensures.processes) c.processes_of.ensures.ordered),
+      );
       events_are = refl;
       in_transit_is = refl;
       tries_are = refl;

@@ -6,9 +6,10 @@ use Rattle.cmh_audit.specs.Journals.{entry_count}
 use Rattle.cmh_audit.specs.Inner.FoundStops.{stops_at}
 use Rattle.cmh_audit.specs.Stops.{AreStops}
 use Rattle.cmh_audit.proofs.AuditLemmas.{set_few, tries_fit, all_taken}
+use Rattle.cmh_audit.proofs.SetLemmas.{set_parts}
 use Rattle.cmh_audit.proofs.OrderLemmas.{run_is}
 use Rattle.cmh_audit.proofs.StopLemmas.{are_stops, stops_refuse}
-use Rattle.cmh_model.proofs.Beginnings.{empty_list, some_list}
+use Rattle.cmh_frames.proofs.Beginnings.{empty_list, some_list}
 use Rattle.cmh_audit.proofs.runs.run_of.Goals as goal
 
 pub count_entries-requires : goal.count_entries-requires
@@ -16,6 +17,12 @@ count_entries-requires c = let few = set_few c.args.topology.now c.args.journals
 
 pub merge-requires-clause-few : goal.merge-requires-clause-few
 merge-requires-clause-few c = let few = set_few c.args.topology.now c.args.journals.now c.sites-sites.result.now c.sites-sites.ensures.value c.sites-sites.ensures.few c.requires in omega (arith, few)
+
+pub merge-requires-clause-once : goal.merge-requires-clause-once
+merge-requires-clause-once c = (set_parts c.args.topology.now c.args.journals.now c.requires).once
+
+pub stops_of-requires-clause-once : goal.stops_of-requires-clause-once
+stops_of-requires-clause-once c = (set_parts c.args.topology.now c.args.journals.now c.requires).once
 
 pub merge-requires-clause-small : goal.merge-requires-clause-small
 merge-requires-clause-small c =

@@ -1,6 +1,6 @@
 use Rattle.std.proofs.Common.{◌≡◌, drop}
 use Rattle.std.specs.List.{list_any}
-use Rattle.cmh_audit.specs.Set.{is_of_other_edition}
+use Rattle.cmh_audit.specs.Inner.Faults.{is_of_other_edition}
 use Rattle.cmh_audit.proofs.set.has_other_edition.Given as goal
 
 abbrev pub invariant-loop-journal : goal.invariant-loop-journal

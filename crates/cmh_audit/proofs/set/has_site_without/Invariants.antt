@@ -1,5 +1,5 @@
 use Rattle.std.proofs.Common.{◌≡◌, drop}
-use Rattle.cmh_audit.specs.Set.{lacks_site}
+use Rattle.cmh_audit.specs.Inner.Faults.{lacks_site}
 use Rattle.cmh_audit.proofs.set.has_site_without.Given as goal
 
 abbrev pub invariant-loop-site : goal.invariant-loop-site

@@ -1,5 +1,5 @@
 use Rattle.std.proofs.Common.{◌≡◌, drop}
-use Rattle.cmh_audit.specs.Set.{has_journal}
+use Rattle.cmh_audit.specs.Inner.Faults.{has_journal}
 use Rattle.cmh_audit.proofs.set.is_covered.Given as goal
 
 abbrev pub invariant-loop-journal : goal.invariant-loop-journal

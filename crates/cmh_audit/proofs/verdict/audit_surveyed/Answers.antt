@@ -1,4 +1,4 @@
-use Rattle.std.proofs.Common.{◌≡◌, ◌+◌, ◌<◌, ◌≤◌, ◌*◌, ℕ, List, [], length, sym, subst, ap, ◌∙◌, arith}
+use Rattle.std.proofs.Common.{◌≡◌, ◌+◌, ◌<◌, ◌≤◌, ◌*◌, ℕ, List, [], length, true≢false, refl, sym, subst, ap, ◌∙◌, arith}
 use Rattle.std.proofs.lemmas.Bool.{eqb-true, eqb-false}
 use Rattle.std.specs.List.Sorted.{IsStrictlyIncreasing}
 use Rattle.cmh_frames.specs.Topology.{sites_of}
@@ -8,7 +8,8 @@ use Rattle.cmh_audit.specs.Stops.{AreStops}
 use Rattle.cmh_audit.specs.Verdicts.{entries_before, sent_before}
 use Rattle.cmh_audit.proofs.SurveyLemmas.{run_totals}
 use Rattle.cmh_audit.proofs.AuditLemmas.{set_few, tries_fit}
-use Rattle.cmh_model.proofs.Beginnings.{empty_list, some_list}
+use Rattle.cmh_audit.proofs.SetLemmas.{set_parts}
+use Rattle.cmh_frames.proofs.Beginnings.{empty_list, some_list}
 use Rattle.cmh_audit.proofs.CountingLemmas.{ascending_apart}
 use Rattle.cmh_audit.proofs.TryLemmas.{looks_made, few_looks, no_stops}
 use Rattle.cmh_audit.proofs.StopLemmas.{are_stops, come_from, stops_refuse}
@@ -19,6 +20,12 @@ count_entries-requires c = let few = set_few c.args.topology.now c.args.journals
 
 pub merge-requires-clause-few : goal.merge-requires-clause-few
 merge-requires-clause-few c = let few = set_few c.args.topology.now c.args.journals.now c.sites-sites.result.now c.sites-sites.ensures.value c.sites-sites.ensures.few c.requires.set in omega (arith, few)
+
+pub merge-requires-clause-once : goal.merge-requires-clause-once
+merge-requires-clause-once c = (set_parts c.args.topology.now c.args.journals.now c.requires.set).once
+
+pub stops_of-requires-clause-once : goal.stops_of-requires-clause-once
+stops_of-requires-clause-once c = (set_parts c.args.topology.now c.args.journals.now c.requires.set).once
 
 pub merge-requires-clause-small : goal.merge-requires-clause-small
 merge-requires-clause-small c =
@@ -33,7 +40,7 @@ returns-then-is_empty-clause-verdict c =
     let looked = c.in_ok-merged.ensures.tries in
     let same = c.in_ok-report.ensures.tries in
     record {
-      accepted = (λ _. comes, λ _. tt);
+      accepted = (λ _. comes, λ _. refl);
       report = c.in_ok-report.ensures.reports c.args.journals.now of_run;
       order = c.in_ok-report.ensures.order;
       counted = c.in_ok-report.ensures.events c.args.journals.now of_run;
@@ -55,7 +62,7 @@ returns-clause-verdict c =
     let looked = c.in_ok-merged.ensures.tries in
     let same = c.new.ensures.tries in
     record {
-      accepted = (λ h. absurd h, λ come. stops_refuse c.args.topology.now c.args.journals.now c.in_ok-rows.rows.items (rows_stop c) come);
+      accepted = (λ h. absurd (true≢false (sym h)), λ come. absurd (stops_refuse c.args.topology.now c.args.journals.now c.in_ok-rows.rows.items (rows_stop c) come));
       report = tt;
       order = tt;
       counted = tt;

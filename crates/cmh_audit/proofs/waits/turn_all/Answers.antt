@@ -1,5 +1,5 @@
 use Rattle.std.proofs.Common.{◌+◌, take, if◌then◌else◌, ◌==◌}
-use Rattle.cmh_model.specs.Laws.{count_of}
+use Rattle.cmh_frames.specs.Laws.{count_of}
 use Rattle.cmh_audit.specs.Inner.Turns.{one_at}
 use Rattle.cmh_audit.proofs.TurnLemmas.{turns_more, targets_more}
 use Rattle.cmh_audit.proofs.waits.turn_all.Goals as goal

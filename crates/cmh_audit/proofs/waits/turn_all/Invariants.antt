@@ -1,5 +1,5 @@
 use Rattle.std.proofs.Common.{take, if◌then◌else◌, ◌==◌}
-use Rattle.cmh_model.specs.Laws.{count_of}
+use Rattle.cmh_frames.specs.Laws.{count_of}
 use Rattle.cmh_audit.specs.Turns.{Turns}
 use Rattle.cmh_audit.proofs.waits.turn_all.Given as goal
 

@@ -1,4 +1,4 @@
-use Rattle.std.proofs.Common.{◌≡◌, ◌+◌, ◌++◌, ◌∙◌, ℕ, List, Vec, length, drop, map, get_or, sym, ap, subst}
+use Rattle.std.proofs.Common.{◌≡◌, ◌+◌, ◌++◌, ◌∙◌, ℕ, List, Vec, length, drop, map, get_or, inr, refl, sym, ap, subst}
 use Rattle.std.specs.Global.{Global}
 use Rattle.std.proofs.lemmas.List.{take-append-drop}
 use Rattle.cmh_c.proofs.Files.{SplitSoFar, files_long, files_short, some_left, split_more}
@@ -21,10 +21,16 @@ loop-len-preserved c =
 
 pub returns-then-rest-len-clause-fault : goal.returns-then-rest-len-clause-fault
 returns-then-rest-len-clause-fault c =
-    files_short (map (λ (part : Vec ℕ Global). part.items) c.loop-len.split.items) c.loop-len.rest.now c.args.files.now c.args.lens.now c.loop-len.len-index 0
-    c.loop-len.invariant c.loop-len-test.true c.if-rest-len.true
+    inr (
+      refl,
+      files_short (map (λ (part : Vec ℕ Global). part.items) c.loop-len.split.items) c.loop-len.rest.now c.args.files.now c.args.lens.now c.loop-len.len-index 0
+          c.loop-len.invariant c.loop-len-test.true c.if-rest-len.true,
+    )
 
 pub returns-else-is_empty-clause-fault : goal.returns-else-is_empty-clause-fault
 returns-else-is_empty-clause-fault c =
-    files_long (map (λ (part : Vec ℕ Global). part.items) c.loop-len.split.items) c.loop-len.rest.now c.args.files.now c.args.lens.now c.loop-len.len-index
-    c.loop-len.invariant c.loop-len-test.false (some_left c.loop-len.rest.now (sym c.is_empty.ensures ∙ c.if-is_empty.false))
+    inr (
+      refl,
+      files_long (map (λ (part : Vec ℕ Global). part.items) c.loop-len.split.items) c.loop-len.rest.now c.args.files.now c.args.lens.now c.loop-len.len-index
+          c.loop-len.invariant c.loop-len-test.false (some_left c.loop-len.rest.now (sym c.is_empty.ensures ∙ c.if-is_empty.false)),
+    )

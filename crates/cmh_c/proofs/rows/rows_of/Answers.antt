@@ -1,6 +1,6 @@
 use Rattle.std.proofs.Common.{◌≡◌, ◌++◌, List, get_or, length, sym, ap, ◌∙◌}
 use Rattle.cmh_frames.specs.Rows.{Row}
-use Rattle.cmh_c.specs.Words.{words_of}
+use Rattle.cmh_c.specs.Opening.{words_of}
 use Rattle.cmh_c.proofs.Files.{some_left}
 use Rattle.cmh_c.proofs.Lists.{cut_after, no_row, two_words, words_on}
 use Rattle.cmh_c.proofs.rows.rows_of.Goals as goal

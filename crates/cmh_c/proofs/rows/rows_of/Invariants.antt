@@ -1,5 +1,5 @@
 use Rattle.std.proofs.Common.{◌≡◌, ◌++◌, length}
-use Rattle.cmh_c.specs.Words.{words_of}
+use Rattle.cmh_c.specs.Opening.{words_of}
 use Rattle.cmh_c.proofs.rows.rows_of.Given as goal
 
 -- the words so far are those of the rows so far

@@ -1,5 +1,5 @@
 use Rattle.std.proofs.Common.{◌≡◌, drop}
-use Rattle.cmh_console.specs.TopologyFile.{has_repeats}
+use Rattle.cmh_console.specs.TopologyParts.{has_repeats}
 use Rattle.cmh_console.proofs.topology_file.has_repeats.Given as goal
 
 abbrev pub invariant-loop-i : goal.invariant-loop-i

@@ -1,5 +1,5 @@
 use Rattle.std.proofs.Common.{ap, ◌∙◌}
-use Rattle.cmh_model.specs.Relation.{Relation, without_pair}
+use Rattle.cmh_frames.specs.Relation.{Relation, without_pair}
 use Rattle.cmh_controller.proofs.TakingBack.{put_and_taken}
 use Rattle.cmh_controller.proofs.beginning.declare_origin.Goals as goal
 

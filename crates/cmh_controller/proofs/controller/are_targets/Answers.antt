@@ -1,5 +1,5 @@
 use Rattle.std.proofs.Common.{◌≤◌, arith, refl, rules, length}
-use Rattle.cmh_model.proofs.Members.{all_from}
+use Rattle.cmh_frames.proofs.Members.{all_from}
 use Rattle.cmh_controller.proofs.controller.are_targets.Goals as goal
 
 pub returns : goal.returns

@@ -1,5 +1,5 @@
 use Rattle.std.proofs.Common.{◌≡◌, ◌++◌, drop}
-use Rattle.cmh_model.specs.Rules.{requests}
+use Rattle.cmh_frames.specs.Rules.{requests}
 use Rattle.cmh_controller.proofs.sending.requests.Given as goal
 
 -- what is there and what is to come are all requests

@@ -8,7 +8,7 @@ use Rattle.cmh_cycles.specs.Inner.Levels.{LeadBack}
 use Rattle.cmh_cycles.specs.Rows.{row_at}
 use Rattle.cmh_cycles.proofs.CycleLemmas.{first_to, on_cycle_waits, none_to}
 use Rattle.cmh_cycles.proofs.cycle.shortest_cycle.Goals as goal
-use Rattle.cmh_model.specs.Paths.{IsCycleOf}
+use Rattle.cmh_frames.specs.Paths.{IsCycleOf}
 
 -- a process without a place is on no cycle
 pub returns-in_default-clause-none : goal.returns-in_default-clause-none

@@ -1,6 +1,6 @@
 use Rattle.std.proofs.Common.{nat_lt, rules}
 use Rattle.std.proofs.lemmas.Fn.{always_returns_same}
-use Rattle.cmh_model.proofs.Ascending.{ascending_where}
+use Rattle.cmh_frames.proofs.Ascending.{ascending_where}
 use Rattle.cmh_draw.proofs.columns.is_ascending.Goals as goal
 
 pub returns : goal.returns

@@ -1,6 +1,6 @@
 use Rattle.std.proofs.Common.{rules, ◌≡◌, ℕ, ◌+◌, ◌<◌, List, [], ◌∷◌, ◌++◌, sym, subst}
 use Rattle.std.specs.List.{AllByRecursion}
-use Rattle.cmh_model.specs.Rules.{IsAscending}
+use Rattle.cmh_frames.specs.Rules.{IsAscending}
 use Rattle.cmh_draw.proofs.ColumnLemmas.{ascending_push, below_push}
 use Rattle.cmh_draw.proofs.columns.numbers_to.Goals as goal
 

@@ -1,6 +1,6 @@
 use Rattle.std.proofs.Common.{◌≡◌, ◌<◌, length}
 use Rattle.std.specs.List.{AllByRecursion}
-use Rattle.cmh_model.specs.Rules.{IsAscending}
+use Rattle.cmh_frames.specs.Rules.{IsAscending}
 use Rattle.cmh_draw.proofs.columns.numbers_to.Given as goal
 
 abbrev pub invariant-loop-i : goal.invariant-loop-i

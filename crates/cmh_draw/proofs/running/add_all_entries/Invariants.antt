@@ -1,5 +1,6 @@
 use Rattle.std.proofs.Common.{◌≡◌, ◌++◌, drop}
 use Rattle.cmh_draw.specs.Each.{each_from}
+use Rattle.cmh_draw.specs.Inner.Marks as inner
 use Rattle.cmh_draw.specs.Marks as spec
 use Rattle.cmh_frames.specs.Topology.{sites_of}
 use Rattle.cmh_audit.specs.Journals.{journal_of}
@@ -7,5 +8,5 @@ use Rattle.cmh_draw.proofs.running.add_all_entries.Given as goal
 
 abbrev pub invariant-loop-row : goal.invariant-loop-row
 invariant-loop-row l =
-    l.marks.items ++ each_from (λ row site. spec.entry_marks l.columns row site (journal_of l.journals site)) l.row (drop l.row (sites_of l.topology))
-    ≡ l.fn.marks.items ++ spec.all_entry_marks l.topology l.journals l.columns
+    l.marks.items ++ each_from (λ row site. inner.entry_marks l.columns row site (journal_of l.journals site)) l.row (drop l.row (sites_of l.topology))
+    ≡ l.fn.marks.items ++ spec.entry_marks l.topology l.journals l.columns

@@ -1,10 +1,10 @@
 use Rattle.std.proofs.Common.{◌≡◌, ◌+◌, [], ◌∷◌, ◌++◌, drop}
 use Rattle.cmh_draw.specs.Each.{each_from}
-use Rattle.cmh_draw.specs.Marks as spec
-use Rattle.cmh_model.specs.declared.journal.Entry.{Entry}
+use Rattle.cmh_draw.specs.Inner.Marks as inner
+use Rattle.cmh_frames.specs.declared.journal.Entry.{Entry}
 use Rattle.cmh_draw.proofs.running.add_entries.Given as goal
 
 abbrev pub invariant-loop-i : goal.invariant-loop-i
 invariant-loop-i l =
-    l.marks.items ++ each_from (λ number (e : Entry). spec.entry_mark l.columns l.row l.site number e ∷ []) (l.i + 1) (drop l.i l.entries)
-    ≡ l.fn.marks.items ++ spec.entry_marks l.columns l.row l.site l.entries
+    l.marks.items ++ each_from (λ number (e : Entry). inner.entry_mark l.columns l.row l.site number e ∷ []) (l.i + 1) (drop l.i l.entries)
+    ≡ l.fn.marks.items ++ inner.entry_marks l.columns l.row l.site l.entries

@@ -8,4 +8,4 @@ use Rattle.cmh_draw.proofs.running.add_sites.Given as goal
 abbrev pub invariant-loop-row : goal.invariant-loop-row
 invariant-loop-row l =
     l.marks.items ++ each_from (λ row site. Site (record { site = site; place = row; length = l.width }) ∷ []) l.row (drop l.row (sites_of l.topology))
-    ≡ l.fn.marks.items ++ spec.site_marks l.topology l.width
+    ≡ l.fn.marks.items ++ spec.site_marks l.topology (λ site. l.width)

@@ -1,5 +1,5 @@
 use Rattle.std.proofs.Common.{take}
-use Rattle.cmh_draw.specs.Sizes.{AreWithin}
+use Rattle.cmh_draw.specs.Inner.Columns.{AreWithin}
 use Rattle.cmh_draw.proofs.size.width_of.Given as goal
 
 abbrev pub invariant-loop-site : goal.invariant-loop-site

@@ -8,4 +8,4 @@ use Rattle.cmh_draw.proofs.waiting.add_homes.Given as goal
 abbrev pub invariant-loop-column : goal.invariant-loop-column
 invariant-loop-column l =
     l.marks.items ++ each_from (λ column site. Site (record { site = site; place = column; length = length (members_of l.topology site) }) ∷ []) l.column (drop l.column (sites_of l.topology))
-    ≡ l.fn.marks.items ++ spec.home_marks l.topology
+    ≡ l.fn.marks.items ++ spec.site_marks l.topology (λ site. length (members_of l.topology site))

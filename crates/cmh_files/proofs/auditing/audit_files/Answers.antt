@@ -5,6 +5,7 @@ use Rattle.cmh_frames.specs.Topology.{IsTopologyOf}
 use Rattle.cmh_journal.specs.Journal.{Journal}
 use Rattle.cmh_audit.specs.Set.{IsSet}
 use Rattle.cmh_audit.specs.Verdicts.{IsVerdictOn}
+use Rattle.cmh_console.proofs.TopologyFiles.{says_topology}
 use Rattle.cmh_files.proofs.auditing.audit_files.Goals as goal
 
 pub returns-clause-audits : goal.returns-clause-audits
@@ -23,15 +24,11 @@ returns-clause-audits c =
       tries = c.in-Ok.ensures.tries;
     }) in
     let read = c.in_ok-journals.ensures.read in
+    let topology_is = subst (λ (rows : List Row). IsTopologyOf c.in_ok-file.file.edition rows world) c.deref.ensures.value c.in_ok-world.ensures.ok in
     record {
-      says = record {
-        edition = c.in_ok-file.file.edition;
-        rows = c.in_ok-file.file.rows.items;
-        says = c.in_ok-file.ensures.says;
-        topology_is = subst (λ (rows : List Row). IsTopologyOf c.in_ok-file.file.edition rows world) c.deref.ensures.value c.in_ok-world.ensures.ok;
-      };
+      says = says_topology _ _ _ _ c.in_ok-file.ensures.says topology_is;
       read = read;
       set = set;
       verdict_is = verdict_is;
-      headline = c.headline_law.ensures.headline _ journals read.tails c.in-Ok.verdict read.are_files set verdict_is;
+      headline = c.headline_law.ensures.headline _ journals _ c.in-Ok.verdict read set verdict_is;
     }

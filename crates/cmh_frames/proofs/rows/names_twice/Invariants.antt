@@ -1,7 +1,7 @@
 use Rattle.std.proofs.Common.{◌≡◌, ℕ, ◌-◌, false, ◌||◌, ◌==◌, length, drop}
 use Rattle.std.specs.List.{list_any}
 use Rattle.cmh_frames.specs.Inner.Marks.{has_mark}
-use Rattle.cmh_frames.specs.Rows.{has_process, repeats_among, repeats_process}
+use Rattle.cmh_frames.specs.Inner.Twice.{has_process, repeats_among, repeats_process}
 use Rattle.cmh_frames.proofs.rows.names_twice.Given as goal
 
 -- the processes so far of this row and those of the later ones are marked, and each was named once

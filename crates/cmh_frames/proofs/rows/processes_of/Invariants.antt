@@ -1,5 +1,5 @@
 use Rattle.std.proofs.Common.{◌≡◌, drop}
-use Rattle.cmh_frames.specs.Topology.{members_in}
+use Rattle.cmh_frames.specs.Inner.Kept.{members_in}
 use Rattle.cmh_frames.proofs.rows.processes_of.Given as goal
 
 -- what is left says which processes the site has

@@ -1,6 +1,6 @@
-use Rattle.std.proofs.Common.{◌≡◌, drop}
-use Rattle.cmh_frames.specs.Rows.{repeats_site}
+use Rattle.std.proofs.Common.{◌≡◌, drop, map}
+use Rattle.cmh_frames.specs.Rows.{Row, repeats}
 use Rattle.cmh_frames.proofs.rows.repeats_site.Given as goal
 
 abbrev pub invariant-loop-i : goal.invariant-loop-i
-invariant-loop-i l = repeats_site (drop l.i l.rows) ≡ repeats_site l.rows
+invariant-loop-i l = repeats (map (λ (row : Row). row.0) (drop l.i l.rows)) ≡ repeats (map (λ (row : Row). row.0) l.rows)

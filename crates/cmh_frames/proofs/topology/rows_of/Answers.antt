@@ -1,6 +1,6 @@
 use Rattle.std.proofs.Common.{ap, ◌∙◌}
 use Rattle.std.specs.List.{list_any}
-use Rattle.cmh_frames.specs.Rows.{is_bad}
+use Rattle.cmh_frames.specs.Inner.Kept.{is_bad}
 use Rattle.cmh_frames.proofs.Built.{good_members}
 use Rattle.cmh_frames.proofs.topology.rows_of.Goals as goal
 

@@ -1,6 +1,7 @@
 use Rattle.std.proofs.Common.{◌++◌, take}
 use Rattle.std.specs.Prelude.{string_bytes}
-use Rattle.cmh_picture.specs.PictureTexts.{AddsMarks, first_word}
+use Rattle.cmh_picture.specs.Inner.Adding.{AddsMarks}
+use Rattle.cmh_picture.specs.PictureTexts.{first_word}
 use Rattle.cmh_picture.specs.declared.format.Format.TheVariants.{Svg}
 use Rattle.cmh_picture.proofs.picture_text.svg_text.Given as goal
 

@@ -1,7 +1,7 @@
 use Rattle.std.proofs.Common.{◌≡◌, ◌↔◌, ◌≤◌, ℕ, true, false, Contains, length, sym, ap, ◌∙◌, subst, arith}
 use Rattle.std.specs.List.Sorted.{IsStrictlyIncreasing}
 use Rattle.std.proofs.lemmas.Option.{get_or_from_slice_get, slice_get_within}
-use Rattle.cmh_model.specs.Relation.{has}
+use Rattle.cmh_frames.specs.Relation.{has}
 use Rattle.cmh_waits.specs.Held.{is_member}
 use Rattle.cmh_waits.specs.Rows.{is_set}
 use Rattle.cmh_waits.proofs.BitLemmas.{no_bit}

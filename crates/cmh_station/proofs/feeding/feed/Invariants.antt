@@ -1,5 +1,5 @@
 use Rattle.std.proofs.Common.{◌≡◌, ◌≤◌, ◌-◌, length}
-use Rattle.cmh_model.specs.Declarations.{declarations}
+use Rattle.cmh_frames.specs.Declarations.{declarations}
 use Rattle.cmh_station.specs.Stations.{IsFed}
 use Rattle.cmh_station.proofs.feeding.feed.Given as goal
 

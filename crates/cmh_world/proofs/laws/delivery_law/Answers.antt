@@ -1,4 +1,4 @@
-use Rattle.cmh_model.proofs.SomeOutcome.{some_outcome}
+use Rattle.cmh_frames.proofs.SomeOutcome.{some_outcome}
 use Rattle.cmh_world.proofs.Delivered.{first_accepted, deliverable}
 use Rattle.cmh_world.proofs.laws.delivery_law.Goals as goal
 

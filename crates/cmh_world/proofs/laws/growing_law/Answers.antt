@@ -1,4 +1,4 @@
-use Rattle.cmh_model.proofs.LongerRuns.{run_first, run_longer}
+use Rattle.cmh_frames.proofs.LongerRuns.{run_first, run_longer}
 use Rattle.cmh_world.proofs.laws.growing_law.Goals as goal
 
 pub returns : goal.returns

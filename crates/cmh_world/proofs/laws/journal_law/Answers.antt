@@ -1,4 +1,4 @@
-use Rattle.cmh_model.proofs.Lawful.{lawful_states}
+use Rattle.cmh_frames.proofs.Lawful.{lawful_states}
 use Rattle.cmh_world.proofs.Declared.{declared_by_entries}
 use Rattle.cmh_world.proofs.laws.journal_law.Goals as goal
 

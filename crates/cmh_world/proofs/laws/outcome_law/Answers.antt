@@ -1,4 +1,4 @@
-use Rattle.cmh_model.proofs.Outcomes.{one_outcome}
+use Rattle.cmh_frames.proofs.Outcomes.{one_outcome}
 use Rattle.cmh_world.proofs.laws.outcome_law.Goals as goal
 
 pub returns : goal.returns

@@ -1,4 +1,4 @@
-use Rattle.cmh_model.proofs.Strangers.{strangers_silent}
+use Rattle.cmh_frames.proofs.Strangers.{strangers_silent}
 use Rattle.cmh_world.proofs.laws.stranger_law.Goals as goal
 
 pub returns : goal.returns

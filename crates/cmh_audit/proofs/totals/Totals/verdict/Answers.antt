@@ -1,4 +1,4 @@
-use Rattle.std.proofs.Common.{◌∙◌, ap, sym}
+use Rattle.std.proofs.Common.{◌∙◌, ap, sym, refl}
 use Rattle.cmh_audit.specs.Totals.{Totals}
 use Rattle.cmh_audit.proofs.TotalLemmas.{tries_within}
 use Rattle.cmh_audit.proofs.totals.Totals.verdict.Goals as goal
@@ -12,7 +12,7 @@ pub returns-clause-verdict : goal.returns-clause-verdict
 returns-clause-verdict c = λ journals of_run.
     let report = c.in_ok-report.ensures in
     record {
-      accepted = (λ _. of_run.comes, λ _. tt);
+      accepted = (λ _. of_run.comes, λ _. refl);
       report = report.reports journals of_run;
       order = report.order;
       counted = report.events journals of_run;

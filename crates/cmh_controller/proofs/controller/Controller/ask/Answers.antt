@@ -1,10 +1,10 @@
 use Rattle.std.proofs.Common.{◌≡◌, ℕ, true, false, List, IsSome, None, refl, sym, subst, ◌∙◌, ap}
 use Rattle.cmh_frames.specs.Edition.{starts_at_ask}
 use Rattle.cmh_frames.specs.Topology.{Topology, home}
-use Rattle.cmh_model.specs.declared.event.Event.TheVariants.{Ask}
-use Rattle.cmh_model.specs.Rules.{AreTargets, Sends}
-use Rattle.cmh_model.specs.Relation.{has, has_some}
-use Rattle.cmh_model.proofs.Members.{none_is_asker}
+use Rattle.cmh_frames.specs.declared.event.Event.TheVariants.{Ask}
+use Rattle.cmh_frames.specs.Rules.{AreTargets, Sends}
+use Rattle.cmh_frames.specs.Relation.{has, has_some}
+use Rattle.cmh_frames.proofs.Members.{none_is_asker}
 use Rattle.cmh_waits.specs.Held.{Held, asked, before_ask}
 use Rattle.cmh_controller.specs.Controller.{Controller, IsOfSite}
 use Rattle.cmh_controller.specs.Beginnings.{Begins}

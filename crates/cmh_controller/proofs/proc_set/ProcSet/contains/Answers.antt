@@ -4,7 +4,7 @@ use Rattle.std.specs.FinSet.{contains-from_list_nat}
 use Rattle.std.specs.List.{list_any}
 use Rattle.std.proofs.lemmas.Bool.{eqb-true}
 use Rattle.std.proofs.lemmas.List.{nil_from_length}
-use Rattle.cmh_model.specs.Relation.{Numbers}
+use Rattle.cmh_frames.specs.Relation.{Numbers}
 use Rattle.cmh_controller.proofs.proc_set.ProcSet.contains.Goals as goal
 
 pub returns-then-not-is_empty : goal.returns-then-not-is_empty

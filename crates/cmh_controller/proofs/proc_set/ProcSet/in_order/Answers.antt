@@ -6,8 +6,8 @@ use Rattle.std.proofs.lemmas.Bool.{eqb-true}
 use Rattle.std.proofs.lemmas.List.Filters.{dedup_is}
 use Rattle.std.proofs.lemmas.List.Sorted.{list_any-IsPermutation}
 use Rattle.std.proofs.lemmas.Map.Keys.{IsStrictlyIncreasing-dedup}
-use Rattle.cmh_model.specs.Relation.{Numbers}
-use Rattle.cmh_model.proofs.Members.{found_at, found_from}
+use Rattle.cmh_frames.specs.Relation.{Numbers}
+use Rattle.cmh_frames.proofs.Members.{found_at, found_from}
 use Rattle.cmh_controller.proofs.Deduped.{any-dedup}
 use Rattle.cmh_controller.proofs.proc_set.ProcSet.in_order.Goals as goal
 

@@ -1,7 +1,7 @@
 use Rattle.std.proofs.Common.{not, ◌==◌, ap, ◌∙◌, nat_cmp, rules}
 use Rattle.std.specs.FinSet as set
 use Rattle.std.proofs.lemmas.Fn.{filter_same}
-use Rattle.cmh_model.specs.Relation.{Numbers}
+use Rattle.cmh_frames.specs.Relation.{Numbers}
 use Rattle.cmh_controller.proofs.TakingBack.{from_list_removed}
 use Rattle.cmh_controller.proofs.proc_set.ProcSet.remove.Goals as goal
 

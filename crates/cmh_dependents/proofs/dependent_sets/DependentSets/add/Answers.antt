@@ -1,7 +1,7 @@
 use Rattle.std.proofs.Common.{◌∙◌, ◌||◌, ◌==◌, ℕ, List, [], ap, arith, subst, sym}
 use Rattle.std.proofs.lemmas.List.{get_or_default}
 use Rattle.std.proofs.lemmas.Result.{on_ok_weaker}
-use Rattle.cmh_model.specs.Relation.{Relation, with_pair}
+use Rattle.cmh_frames.specs.Relation.{Relation, with_pair}
 use Rattle.cmh_waits.specs.Rows.{is_in}
 use Rattle.cmh_dependents.specs.Inner.Known.{Marks, known_of}
 use Rattle.cmh_dependents.proofs.Known.{marked_at, marked_more, now_marked, one_more, still_known}

@@ -1,6 +1,6 @@
 use Rattle.std.proofs.Common.{◌≡◌, ◌∙◌, ℕ, not, ◌==◌, List, ap, subst, sym, nat_cmp, Ok, Err}
 use Rattle.std.specs.List.Sorted.{IsBinarySearchResult}
-use Rattle.cmh_model.specs.Relation.{Relation, only_firsts}
+use Rattle.cmh_frames.specs.Relation.{Relation, only_firsts}
 use Rattle.cmh_dependents.specs.Inner.Known.{Marks, known_of}
 use Rattle.cmh_dependents.proofs.Known.{found, marked_less, missed, none_known, none_left, nothing_left, still_known, unmarked}
 use Rattle.cmh_dependents.proofs.dependent_sets.DependentSets.clear.Goals as goal

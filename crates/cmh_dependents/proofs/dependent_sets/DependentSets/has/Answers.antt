@@ -1,7 +1,7 @@
 use Rattle.std.proofs.Common.{◌∙◌, ℕ, List, [], sym, ap, subst, arith, nat_cmp, Ok, Err}
 use Rattle.std.specs.List.Sorted.{IsBinarySearchResult}
 use Rattle.std.proofs.lemmas.List.{get_or_default}
-use Rattle.cmh_model.specs.Relation.{Relation, has}
+use Rattle.cmh_frames.specs.Relation.{Relation, has}
 use Rattle.cmh_waits.specs.Rows.{is_in}
 use Rattle.cmh_dependents.proofs.Known.{found, missed, has_at, has_none}
 use Rattle.cmh_dependents.proofs.dependent_sets.DependentSets.has.Goals as goal

@@ -2,7 +2,7 @@ use Rattle.std.proofs.Common.{◌≡◌, ◌∙◌, ℕ, not, ◌==◌, List, []
 use Rattle.std.specs.List.Sorted.{IsBinarySearchResult}
 use Rattle.std.proofs.lemmas.List.{get_or_default}
 use Rattle.std.specs.List.{filter}
-use Rattle.cmh_model.specs.Relation.{Relation, without_pair}
+use Rattle.cmh_frames.specs.Relation.{Relation, without_pair}
 use Rattle.cmh_dependents.specs.Inner.Known.{Marks, known_of}
 use Rattle.cmh_dependents.proofs.Known.{found, marked_without, missed, one_less, nothing_less, still_known}
 use Rattle.cmh_dependents.proofs.dependent_sets.DependentSets.take_back.Goals as goal

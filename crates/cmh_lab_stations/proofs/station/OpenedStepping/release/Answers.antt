@@ -1,5 +1,5 @@
 use Rattle.std.proofs.Common.{ap}
-use Rattle.cmh_board.specs.Boards.{Listed}
+use Rattle.cmh_shared.specs.Boards.{Listed}
 use Rattle.cmh_lab_stations.proofs.Belonging.{belongs, released}
 use Rattle.cmh_lab_stations.proofs.station.OpenedStepping.release.Goals as goal
 

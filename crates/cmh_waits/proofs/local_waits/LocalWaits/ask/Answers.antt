@@ -1,7 +1,7 @@
 use Rattle.std.proofs.Common.{ap, ◌∙◌, sym, subst}
 use Rattle.std.specs.List.Sorted.{IsStrictlyIncreasing}
 use Rattle.std.proofs.lemmas.List.Kept.{IsStrictlyIncreasing-filter}
-use Rattle.cmh_model.specs.Relation.{has_some}
+use Rattle.cmh_frames.specs.Relation.{has_some}
 use Rattle.cmh_waits.specs.Held.{Held, IsKept, asked}
 use Rattle.cmh_waits.proofs.Asks.{same_held, undone}
 use Rattle.cmh_waits.proofs.Kept.{kept_as, kept_ask}

@@ -1,6 +1,6 @@
 use Rattle.std.proofs.Common.{ℕ, List, [], ap, ◌∙◌, sym, subst, arith, refl}
 use Rattle.std.proofs.lemmas.List.{get_or_default}
-use Rattle.cmh_model.specs.Relation.{has_some}
+use Rattle.cmh_frames.specs.Relation.{has_some}
 use Rattle.cmh_waits.specs.Held.{Held, is_member, got_reply}
 use Rattle.cmh_waits.specs.Rows.{AreRows, relation_of}
 use Rattle.cmh_waits.proofs.Asks.{same_held}

@@ -1,4 +1,0 @@
-pub mod Fronts
-pub mod Adding
-pub mod Sight
-pub mod Keeping

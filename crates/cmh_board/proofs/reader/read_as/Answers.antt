@@ -1,5 +1,0 @@
-use Rattle.cmh_board.proofs.Sight.{enters}
-use Rattle.cmh_board.proofs.reader.read_as.Goals as goal
-
-pub enter_as-requires : goal.enter_as-requires
-enter_as-requires c = enters _ _

@@ -1,6 +1,0 @@
-pub mod History
-pub mod Lists
-pub mod Rule
-pub mod Fronts
-pub mod Boards
-pub mod KeptBoard

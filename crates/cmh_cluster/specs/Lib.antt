@@ -1,2 +1,0 @@
-pub mod ClusterEndings
-pub mod ClusterTalk

@@ -1,0 +1,11 @@
+use Rattle.std.proofs.Common.{◌≡◌, ◌++◌, drop}
+use Rattle.cmh_draw.specs.Arrows as spec
+use Rattle.cmh_draw.specs.Each.{each_from}
+use Rattle.cmh_draw.specs.Inner.Ways as inner
+use Rattle.cmh_frames.specs.Topology.{sites_of}
+use Rattle.cmh_draw.proofs.arrows.arrows_of.Given as goal
+
+abbrev pub invariant-loop-row : goal.invariant-loop-row
+invariant-loop-row l =
+    l.all.items ++ each_from (λ row site. inner.from_site l.topology l.journals l.columns row site) l.row (drop l.row (sites_of l.topology))
+    ≡ spec.arrows_of l.topology l.journals l.columns

@@ -1,0 +1,240 @@
+//! The frames of a run as arrows: from the entry that sent a frame to the entry that got it.
+
+ghost use Rattle.std.specs.Prelude.{◌≡◌, ◌++◌, None, IfOk, OnOk, map, option_map, slice_get};
+ghost use Rattle.cmh_frames.specs.Journals.{frame_from};
+ghost use Rattle.cmh_draw.specs.Arrows as spec;
+ghost use Rattle.cmh_draw.specs.Inner.Ways as inner;
+
+use crate::columns::{Columns, column_of};
+use crate::mark::{Arrow, EntrySpot, Spot};
+use cmh_audit::entries_at;
+use cmh_frames::{Entry, Event, Frame, SiteId, Topology};
+use cmh_journal::Journal;
+use std::alloc::{AllocError, Global};
+
+/// A site and its place among those of the topology, from 0.
+#[derive(Clone, Copy)]
+struct Line {
+    row: u32,
+    site: SiteId,
+}
+
+/// Where the frames of a site go.
+#[derive(Clone, Copy)]
+pub enum Way {
+    /// To this site.
+    To(SiteId),
+    /// To sites that are not in the topology.
+    Astray,
+}
+
+/// The arrows of all frames that the journals record as sent, link by link, between entries in these columns. An entry
+/// that has none is in column 0.
+pub fn arrows_of(
+    alloc: Global,
+    topology: &Topology,
+    journals: &[Journal],
+    columns: &[Columns],
+) -> Result<Vec<Arrow>, AllocError>
+    ensures { IfOk result (λ all. all.items ≡ spec.arrows_of topology.now journals.now columns.now) }
+{
+    let mut all = Vec::new(alloc);
+    for (row, site) in topology.sites().iter().enumerate() {
+        let from = Line {
+            row: row as u32,
+            site: *site,
+        };
+        add_from_site(alloc, topology, journals, columns, &from, &mut all)?;
+    }
+    Ok(all)
+}
+
+/// Adds the arrows of the frames of a site.
+fn add_from_site(
+    alloc: Global,
+    topology: &Topology,
+    journals: &[Journal],
+    columns: &[Columns],
+    from: &Line,
+    all: &mut Vec<Arrow>,
+) -> Result<(), AllocError>
+    ensures { OnOk result (all.new.items
+        ≡ all.old.items ++ inner.from_site topology.now journals.now columns.now from.now.row from.now.site) }
+{
+    for (row, site) in topology.sites().iter().enumerate() {
+        let to = Line {
+            row: row as u32,
+            site: *site,
+        };
+        add_to_site(alloc, topology, journals, columns, from, &to, all)?;
+    }
+    let entries = entries_at(journals, from.site);
+    add_sent(topology, &Way::Astray, columns, from, entries, all)
+}
+
+/// Adds the arrows of the frames of the link from a site to another.
+fn add_to_site(
+    alloc: Global,
+    topology: &Topology,
+    journals: &[Journal],
+    columns: &[Columns],
+    from: &Line,
+    to: &Line,
+    all: &mut Vec<Arrow>,
+) -> Result<(), AllocError>
+    ensures { OnOk result (all.new.items ≡ all.old.items
+        ++ inner.to_site journals.now (spec.spot_of columns.now from.now.row from.now.site)
+        (spec.spot_of columns.now to.now.row to.now.site) from.now.site to.now.site) }
+{
+    let entries = entries_at(journals, from.site);
+    let mut sent = Vec::new(alloc);
+    add_sent(
+        topology,
+        &Way::To(to.site),
+        columns,
+        from,
+        entries,
+        &mut sent,
+    )?;
+    let got = got_from(alloc, from.site, entries_at(journals, to.site))?;
+    pair_up(columns, to, &sent, &got, all)
+}
+
+/// Adds the arrows of a link with their ends: the frame at each place of those sent is got at this place of those got.
+fn pair_up(
+    columns: &[Columns],
+    to: &Line,
+    sent: &[Arrow],
+    got: &[usize],
+    all: &mut Vec<Arrow>,
+) -> Result<(), AllocError>
+    ensures { OnOk result (all.new.items
+        ≡ all.old.items ++ spec.link_arrows (spec.spot_of columns.now to.now.row to.now.site) sent.now got.now) }
+{
+    for (place, arrow) in sent.iter().enumerate() {
+        let got = spot_at(columns, to, got, place);
+        all.push(Arrow {
+            from: arrow.from,
+            place: arrow.place,
+            to: arrow.to,
+            frame: arrow.frame,
+            got,
+        })?;
+    }
+    Ok(())
+}
+
+/// The entry of a site whose number stands at this place, if one does.
+fn spot_at(columns: &[Columns], line: &Line, numbers: &[usize], place: usize) -> Option<EntrySpot>
+    ensures { result ≡ option_map (spec.spot_of columns.now line.now.row line.now.site) (slice_get numbers.now place) }
+{
+    match numbers.get(place) {
+        Some(number) => Some(spot_of(columns, line.row, line.site, *number)),
+        None => None,
+    }
+}
+
+/// Where an entry is drawn.
+pub fn spot_of(columns: &[Columns], row: u32, site: SiteId, number: usize) -> EntrySpot
+    ensures { result ≡ spec.spot_of columns.now row site number }
+{
+    let column = column_of(columns, row, number);
+    EntrySpot {
+        site,
+        number,
+        spot: Spot { column, row },
+    }
+}
+
+/// Adds the frames that the entries of a site sent on a way, in their order, with open ends.
+fn add_sent(
+    topology: &Topology,
+    way: &Way,
+    columns: &[Columns],
+    from: &Line,
+    entries: &[Entry],
+    all: &mut Vec<Arrow>,
+) -> Result<(), AllocError>
+    ensures { OnOk result (all.new.items ≡ all.old.items
+        ++ spec.sent_where (inner.is_on topology.now way.now) (spec.spot_of columns.now from.now.row from.now.site) entries.now) }
+{
+    for (i, entry) in entries.iter().enumerate() {
+        let at = spot_of(columns, from.row, from.site, i + 1);
+        add_sent_by(topology, way, &at, entry.sent.as_slice(), all)?;
+    }
+    Ok(())
+}
+
+/// Adds the frames that an entry sent on a way.
+fn add_sent_by(
+    topology: &Topology,
+    way: &Way,
+    at: &EntrySpot,
+    sent: &[(SiteId, Frame)],
+    all: &mut Vec<Arrow>,
+) -> Result<(), AllocError>
+    ensures { OnOk result (all.new.items ≡ all.old.items ++ inner.sent_by topology.now way.now at.now sent.now) }
+{
+    for (place, sent) in sent.iter().enumerate() {
+        add_if(is_on(topology, way, sent.0), at, place, sent, all)?;
+    }
+    Ok(())
+}
+
+fn add_if(
+    is_on: bool,
+    at: &EntrySpot,
+    place: usize,
+    sent: &(SiteId, Frame),
+    all: &mut Vec<Arrow>,
+) -> Result<(), AllocError>
+    ensures { OnOk result (all.new.items ≡ all.old.items ++ inner.if_on is_on
+        (record { from = at.now; place = place; to = sent.now.0; frame = sent.now.1; got = None })) }
+{
+    if is_on {
+        let (to, frame) = *sent;
+        all.push(Arrow {
+            from: *at,
+            place,
+            to,
+            frame,
+            got: None,
+        })?;
+    }
+    Ok(())
+}
+
+fn is_on(topology: &Topology, way: &Way, to: SiteId) -> bool
+    ensures { result ≡ inner.is_on topology.now way.now to }
+{
+    match way {
+        Way::To(site) => to == *site,
+        Way::Astray => !topology.has_site(to),
+    }
+}
+
+/// The numbers of the entries that got a frame from a site.
+fn got_from(alloc: Global, site: SiteId, entries: &[Entry]) -> Result<Vec<usize>, AllocError>
+    ensures { IfOk result (λ all. all.items ≡ spec.got_from site entries.now) }
+{
+    let mut all = Vec::new(alloc);
+    for (i, entry) in entries.iter().enumerate() {
+        add_got(site, i + 1, &entry.event, &mut all)?;
+    }
+    Ok(all)
+}
+
+fn add_got(
+    site: SiteId,
+    number: usize,
+    event: &Event,
+    all: &mut Vec<usize>,
+) -> Result<(), AllocError>
+    ensures { OnOk result (all.new.items ≡ all.old.items ++ map (λ frame. number) (frame_from site event.now)) }
+{
+    match event {
+        Event::Got { from, .. } if *from == site => all.push(number)?,
+        _ => {}
+    }
+    Ok(())
+}

@@ -1,6 +1,0 @@
-pub mod Known
-pub mod Writes
-pub mod Stopping
-pub mod Beginnings
-pub mod Lents
-pub mod Batches

@@ -1,8 +1,0 @@
-use Rattle.cmh_model.proofs.Scripts.{probe_run, marked_state}
-use Rattle.cmh_model.proofs.examples.deadlock_found_by_a_probe.Goals as goal
-
-pub returns-clause-run : goal.returns-clause-run
-returns-clause-run c = probe_run
-
-pub returns-clause-state : goal.returns-clause-state
-returns-clause-state c = marked_state

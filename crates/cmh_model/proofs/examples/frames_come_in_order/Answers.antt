@@ -1,5 +1,0 @@
-use Rattle.cmh_model.proofs.Scripts.{not_overtaken}
-use Rattle.cmh_model.proofs.examples.frames_come_in_order.Goals as goal
-
-pub returns : goal.returns
-returns c = record { no_run = not_overtaken }

@@ -1,3 +1,0 @@
-pub mod Sites
-pub mod Paired
-pub mod Refill

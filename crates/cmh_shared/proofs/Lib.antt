@@ -1,0 +1,7 @@
+pub mod Sites
+pub mod Paired
+pub mod Refill
+pub mod Fronts
+pub mod Adding
+pub mod Sight
+pub mod Keeping

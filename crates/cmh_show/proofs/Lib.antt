@@ -1,5 +1,0 @@
-pub mod LineLemmas
-pub mod FileLemmas
-pub mod TurnLemmas
-pub mod StopLemmas
-pub mod ReasonLemmas

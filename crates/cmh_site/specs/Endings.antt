@@ -1,0 +1,47 @@
+-- How a running site ends: what it wrote, or why it did not get so far.
+use Rattle.std.specs.Prelude.{◌≡◌, ℕ, Bool, true, false, List, ◌++◌, codes, Option, Result, Ok, MatchResult, ⊤}
+use Rattle.std.specs.Io.KnownBytes.{Appends}
+use Rattle.cmh_frames.specs.Topology.{is_site}
+use Rattle.cmh_console.specs.Device.{Tells}
+use Rattle.cmh_console.specs.TopologyFile.{IsOfNoTopology, OfTopology, SaysNoPorts}
+use Rattle.cmh_console.specs.declared.faults.Fault.{Fault}
+use Rattle.cmh_console.specs.declared.faults.Fault.TheVariants.{Json, Topology as NoTopology, Site, JournalDisk, Listen, Input, Output, Memory}
+use Rattle.cmh_console.specs.Dialogue.{IsTextOf}
+use Rattle.cmh_console.specs.Faults.{IsPlayFault}
+use Rattle.cmh_console.specs.declared.dialogue.Flow.{Flow}
+use Rattle.cmh_site.specs.SiteTalk.{IsTurnOfSite}
+
+-- ---- the start
+
+-- the topology file is that of a topology which has the site, or which doesn't
+abbrev pub Knows : List ℕ → ℕ → Bool → Type 0
+Knows topology site is_known = OfTopology topology (λ t. is_site t site ≡ is_known)
+
+-- ---- one site
+
+-- Why a site ends before it is told to. What a disk or a port refuses comes only where the topology has the site.
+abbrev pub IsSiteFault : List ℕ → ℕ → Option (List ℕ) → Bool → Bool → Fault → Type 0
+IsSiteFault topology site bytes read_failed write_failed Json = SaysNoPorts topology
+IsSiteFault topology site bytes read_failed write_failed (NoTopology fault) = IsOfNoTopology topology fault
+IsSiteFault topology site bytes read_failed write_failed Site = Knows topology site false
+IsSiteFault topology site bytes read_failed write_failed JournalDisk = Knows topology site true
+IsSiteFault topology site bytes read_failed write_failed Listen = Knows topology site true
+IsSiteFault topology site bytes read_failed write_failed Input = IsPlayFault bytes read_failed write_failed Input
+IsSiteFault topology site bytes read_failed write_failed Output = write_failed ≡ true
+IsSiteFault topology site bytes read_failed write_failed Memory = ⊤
+IsSiteFault topology site bytes read_failed write_failed fault = ⊥
+
+-- a site said that it listens, and then answered its lines, up to a fault if there is one
+pub record Welcomed (site : ℕ) (was : Bool) (bytes : List ℕ) (old new : Option (List ℕ)) (has_failed : Bool)
+    (result : Result Flow Fault) : Type 0 where
+  pub text : List ℕ
+  pub is : IsTextOf Bool (IsTurnOfSite site) was bytes text result
+  pub wrote : MatchResult result (λ flow. Appends old new (codes "listening\n" ++ text))
+      (λ fault. Tells old new has_failed (codes "listening\n" ++ text))
+
+-- a site said that it listens, answered all lines, or those up to `quit`, and said that it stopped
+pub record Served (site : ℕ) (bytes : List ℕ) (old new : Option (List ℕ)) : Type 0 where
+  pub text : List ℕ
+  pub flow : Flow
+  pub is : IsTextOf Bool (IsTurnOfSite site) false bytes text (Ok flow)
+  pub wrote : Appends old new (codes "listening\n" ++ text ++ codes "stopped\n")

@@ -1,7 +1,0 @@
-pub mod Rests
-pub mod Counted
-pub mod Unchecked
-mod LengthLemmas
-mod ReadLemmas
-mod StopLemmas
-mod WalkLemmas

@@ -1,6 +1,0 @@
-use Rattle.std.proofs.Common.{ℕ, ◌<◌}
-use Rattle.cmh_stored.specs.Inner.Steps.{LacksNone}
-use Rattle.cmh_stored.proofs.lowest.lacking.Given as goal
-
-abbrev pub invariant-loop-sender : goal.invariant-loop-sender
-invariant-loop-sender l = (a : ℕ) → a < l.sender → LacksNone l.walks a
