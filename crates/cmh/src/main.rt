@@ -26,7 +26,7 @@ use cmh_frames::SiteId;
 use cmh_host::{SiteStart, System};
 use cmh_play::run_play;
 use cmh_service::{ServiceStart, run_service};
-use cmh_site::{run_cluster_noting, run_site_noting};
+use cmh_site::{ClusterStart, run_cluster_noting, run_site_noting};
 use std::fs::File;
 use std::io::{BufRead, BufReader, BufWriter, ErrorKind, Write};
 use std::net::{Net, TcpListener, TcpStream};
@@ -219,7 +219,10 @@ where
         patience: patience_of(words),
     };
     let voice = voice_of(rt, words);
-    run_site_noting(*rt, rt.alloc(), &start, input, out, err, voice)
+    match run_site_noting(*rt, &start, input, out, voice) {
+        Ok(()) => 0,
+        Err(fault) => fault.name_on(err),
+    }
 }
 
 /// Runs the site that the words name for clients.
@@ -307,20 +310,16 @@ where
     ensures status { IsStatus result }
     ensures serves { ServesCluster out.old out.new err.old err.new result }
 {
-    let dir = words.get_str(OUT).unwrap_or("");
-    match cluster_files_of(rt, words) {
-        Ok(files) => run_cluster_noting(
-            *rt,
-            rt.alloc(),
-            &files.topology,
-            &files.script,
-            dir,
-            out,
-            err,
-            voice_of(rt, words),
-        ),
-        Err(fault) => fault.name_on(err),
-    }
+    let files = match cluster_files_of(rt, words) {
+        Ok(files) => files,
+        Err(fault) => return fault.name_on(err),
+    };
+    let start = ClusterStart {
+        topology: &files.topology,
+        script: &files.script,
+        dir: words.get_str(OUT).unwrap_or(""),
+    };
+    run_cluster_noting(*rt, &start, out, err, voice_of(rt, words))
 }
 
 fn main(rt: HostRuntime) -> ExitCode {

@@ -1,6 +1,6 @@
 //! The merge of journals: entries are taken, one at a time, while any can be.
 
-ghost use Rattle.std.specs.Prelude.{◌≡◌, ◌+◌, ◌*◌, ◌≤◌, ◌<◌, ◌^◌, length, OnOk, IfOk, IfNone, MatchBool, MatchOption, [], ◌∷◌, ◌++◌, if◌then◌else◌};
+ghost use Rattle.std.specs.Prelude.{◌≡◌, ◌+◌, ◌*◌, ◌≤◌, ◌<◌, ◌^◌, length, OnOk, IfOk, IfNone, MatchBool, MatchOption, [], ◌∷◌, ◌++◌, if◌then◌else◌, replicate};
 ghost use Rattle.cmh_audit.specs.Journals.{entry_count};
 ghost use Rattle.cmh_audit.specs.Inner.Places.{OneEach};
 ghost use Rattle.cmh_audit.specs.Inner.Merging.{AreLawfulLengths, entries_each, ReceivesFrame, LacksFrame, SendsFrames, IsStuck, AreTried};
@@ -35,6 +35,18 @@ struct Schedule {
     lacks: Vec<Option<SiteId>>,
 }
 
+impl Schedule {
+    /// The turns of so many sites are all to come, and none lacks a frame.
+    fn new(alloc: Global, sites: usize) -> Result<Schedule, AllocError>
+        ensures ready { IfOk result (λ schedule. ArePlaces schedule.ready.items sites) }
+        ensures lacks { IfOk result (λ schedule. schedule.lacks.items ≡ replicate sites None) }
+    {
+        let ready = all_below(alloc, sites)?;
+        let lacks = vec![in alloc; None; sites]?;
+        Ok(Schedule { ready, lacks })
+    }
+}
+
 /// Takes entries while any can be taken. A site that lacks a frame is tried again only after the frame's sender sent
 /// it one. `limits` says how many entries of each journal are lawful.
 pub fn merge(
@@ -59,11 +71,9 @@ pub fn merge(
     let mut walks = walks_of(alloc, journals)?;
     let mut taken = vec![in alloc; 0; journals.len()]?;
     let mut steps = Vec::new(alloc);
-    let lacks: Vec<Option<SiteId>> = vec![in alloc; None; journals.len()]?;
-    let mut ready = all_below(alloc, journals.len())?;
+    let mut schedule = Schedule::new(alloc, journals.len())?;
     let mut tries: u64 = 0;
-    let mut turn = last_of(&mut ready);
-    let mut schedule = Schedule { ready, lacks };
+    let mut turn = last_of(&mut schedule.ready);
     while let Some(i) = turn {
         let site = journals[i].site();
         let at = taken[i];
@@ -82,11 +92,7 @@ pub fn merge(
             continue;
         }
         send_all(&mut links, &mut schedule, &places, site, &entry)?;
-        let step = Step {
-            journal: i,
-            entry: at,
-        };
-        keep(&mut steps, keeps_order, step)?;
+        keep(&mut steps, keeps_order, i, at)?;
         taken[i] = at + 1;
         walks[i].drop_first();
     }
@@ -166,14 +172,19 @@ fn send_all(
     Ok(())
 }
 
-/// Adds a step, where the order is to be kept.
+/// Adds the step that takes this entry of this journal, where the order is to be kept.
 #[inline(always)]
-fn keep(steps: &mut Vec<Step>, keeps_order: bool, step: Step) -> Result<(), AllocError>
-    ensures { OnOk result (steps.new.items
-        ≡ (if keeps_order then steps.old.items ++ step ∷ [] else steps.old.items)) }
+fn keep(
+    steps: &mut Vec<Step>,
+    keeps_order: bool,
+    journal: usize,
+    entry: usize,
+) -> Result<(), AllocError>
+    ensures { OnOk result (steps.new.items ≡ (if keeps_order
+        then steps.old.items ++ record { journal = journal; entry = entry } ∷ [] else steps.old.items)) }
 {
     if keeps_order {
-        steps.push(step)?;
+        steps.push(Step { journal, entry })?;
     }
     Ok(())
 }

@@ -2,7 +2,7 @@
 
 ghost use Rattle.std.specs.Prelude.{◌≡◌, None};
 
-use crate::fixture::{Running, Shared, Watch, site, sites, start, wait_until};
+use crate::fixture::{Member, Running, Shared, Watch, site, sites, start, wait_until};
 use cmh_carriers::{Gate, Incoming, IoFault, Line, Listen, TcpListen};
 use cmh_frames::{Entry, Event, SiteId};
 use cmh_links::{LinkFault, LinkState};
@@ -184,7 +184,12 @@ where
         watch: Arc::try_clone(watch)?,
         faults: 0,
     };
-    Ok(start(rt, alloc, &topology, site(3)?, watch, arrivals, ports)?)
+    let third = Member {
+        topology: &topology,
+        site: site(3)?,
+        watch,
+    };
+    Ok(start(rt, alloc, &third, arrivals, ports)?)
 }
 
 /// The receipts of a journal.

@@ -87,21 +87,34 @@ pub fn sites(alloc: Global, count: u16, processes: u16) -> Result<Topology, Fail
 /// A station that threads share.
 pub type Shared<R> = SharedStation<Counting, KeptBoard<R>>;
 
+/// A site, and what it tells a test.
+#[derive(Clone, Copy)]
+pub struct Member<'a> {
+    pub topology: &'a Topology,
+    pub site: SiteId,
+    pub watch: &'a Arc<Watch>,
+}
+
 /// The station of a site, the taps of its links, and so many readers of its board.
 pub fn share<R: Wait + Copy + Drop>(
     rt: R,
     alloc: Global,
-    topology: &Topology,
-    site: SiteId,
-    watch: &Arc<Watch>,
+    member: &Member<'_>,
     readers: usize,
 ) -> Result<(Shared<R>, Vec<ParkingTap>, Vec<BoardReader>), AllocError>
     requires { readers ≤ 4 }
 {
     let sink = Counting {
-        watch: Arc::try_clone(watch)?,
+        watch: Arc::try_clone(member.watch)?,
     };
-    let Ok((station, taps, readers)) = Station::new(rt, alloc, topology, site, sink, readers) else {
+    let Ok((station, taps, readers)) = Station::new(
+        rt,
+        alloc,
+        member.topology,
+        member.site,
+        sink,
+        readers,
+    ) else {
         return Err(AllocError);
     };
     match SharedStation::new(alloc, station, taps) {
@@ -117,9 +130,7 @@ pub type Running<R> = SiteThreads<R, Counting, KeptBoard<R>, TcpDial<R>>;
 pub fn start<R, L>(
     rt: R,
     alloc: Global,
-    topology: &Topology,
-    site: SiteId,
-    watch: &Arc<Watch>,
+    member: &Member<'_>,
     listen: L,
     ports: &[(SiteId, u16)],
 ) -> Result<(Running<R>, Arc<Shared<R>>), AllocError>
@@ -128,10 +139,11 @@ where
     L: Listen + Send + Drop + 'static,
     requires { L.failures listen ≡ 0 }
 {
-    let (shared, taps, _) = share(rt, alloc, topology, site, watch, 0)?;
+    let (shared, taps, _) = share(rt, alloc, member, 0)?;
     let station = Arc::new(alloc, shared)?;
     let theirs = Arc::try_clone(&station)?;
     let dial = TcpDial::new(rt, ports.to_vec(alloc)?);
+    let (topology, site) = (member.topology, member.site);
     match SiteThreads::start(rt, alloc, topology, site, theirs, taps, listen, dial) {
         Ok(threads) => Ok((threads, station)),
         Err(_) => Err(AllocError),

@@ -1,6 +1,6 @@
 //! Taps and readers of a station that is locked, and threads that sleep.
 
-use crate::fixture::{Shared, Watch, process, share, site, sites};
+use crate::fixture::{Member, Shared, Watch, process, share, site, sites};
 use cmh_frames::{Event, Frame, ProcId, Request, Targets};
 use cmh_station::{BoardReader, ParkingTap};
 use std::alloc::{AllocError, Global};
@@ -91,7 +91,12 @@ fn first_of_two<R: Wait + Copy + Drop>(
 ) -> Result<(Shared<R>, Vec<ParkingTap>, Vec<BoardReader>), Fail> {
     let topology = sites(alloc, 2, 1)?;
     let watch = Watch::new(alloc)?;
-    Ok(share(rt, alloc, &topology, site(1)?, &watch, 1)?)
+    let first = Member {
+        topology: &topology,
+        site: site(1)?,
+        watch: &watch,
+    };
+    Ok(share(rt, alloc, &first, 1)?)
 }
 
 #[test]

@@ -28,7 +28,7 @@ pub enum Note {
     NoThreadTo(SiteId),
     /// The journal could not be written, and the site takes no more steps.
     Sealed,
-    /// A journal of before was kept under its name with this number behind it.
+    /// A journal of before was kept under its name with this number after it.
     Kept(u32),
     /// So many notes were not told, since they came too fast.
     LeftOut(u64),

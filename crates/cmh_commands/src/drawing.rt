@@ -13,7 +13,7 @@ use crate::files::files_of;
 use crate::options::{FORMAT, KIND};
 use clap::ArgMatches;
 use cmh_console::Output;
-use cmh_picture::{Format, Kind, run_draw};
+use cmh_picture::{Drawing, Format, Kind, run_draw};
 use std::io::Write;
 use std::rt::Files;
 
@@ -34,15 +34,15 @@ pub fn draw<R: AllocGlobal + Files, W: Write, E: Write>(
     let kind = kind_of(words);
     let format = format_of(words);
     match files_of(rt, words) {
-        Ok(files) => run_draw(
-            rt.alloc(),
-            &files.topology,
-            &files.journals,
-            kind,
-            format,
-            out,
-            err,
-        ),
+        Ok(files) => {
+            let drawing = Drawing {
+                topology: &files.topology,
+                journals: &files.journals,
+                kind,
+                format,
+            };
+            run_draw(rt.alloc(), &drawing, out, err)
+        }
         Err(fault) => fault.name_on(err),
     }
 }

@@ -1,4 +1,4 @@
--- Want of memory.
+-- Out of memory.
 use Rattle.std.proofs.Common.{ℕ, ap, arith}
 use Rattle.cmh_frames.specs.Topology.{Topology}
 use Rattle.cmh_frames.specs.Rules.{Accepts}

@@ -2,22 +2,16 @@
 
 ghost use Rattle.std.specs.Prelude.{◌≡◌, ◌++◌, None, IfOk, OnOk, map, option_map, slice_get};
 ghost use Rattle.cmh_frames.specs.Journals.{frame_from};
+ghost use Rattle.cmh_audit.specs.Journals.{journal_of};
 ghost use Rattle.cmh_draw.specs.Arrows as spec;
 ghost use Rattle.cmh_draw.specs.Inner.Ways as inner;
 
 use crate::columns::{Columns, column_of};
+use crate::drawn_run::{DrawnRun, Line};
 use crate::mark::{Arrow, EntrySpot, Spot};
 use cmh_audit::entries_at;
 use cmh_frames::{Entry, Event, Frame, SiteId, Topology};
-use cmh_journal::Journal;
 use std::alloc::{AllocError, Global};
-
-/// A site and its place among those of the topology, from 0.
-#[derive(Clone, Copy)]
-struct Line {
-    row: u32,
-    site: SiteId,
-}
 
 /// Where the frames of a site go.
 #[derive(Clone, Copy)]
@@ -28,23 +22,18 @@ pub enum Way {
     Astray,
 }
 
-/// The arrows of all frames that the journals record as sent, link by link, between entries in these columns. An entry
-/// that has none is in column 0.
-pub fn arrows_of(
-    alloc: Global,
-    topology: &Topology,
-    journals: &[Journal],
-    columns: &[Columns],
-) -> Result<Vec<Arrow>, AllocError>
-    ensures { IfOk result (λ all. all.items ≡ spec.arrows_of topology.now journals.now columns.now) }
+/// The arrows of all frames that the journals record as sent, link by link.
+pub fn arrows_of(alloc: Global, run: &DrawnRun<'_>) -> Result<Vec<Arrow>, AllocError>
+    ensures { IfOk result (λ all. all.items
+        ≡ spec.arrows_of run.now.topology.now run.now.journals.now run.now.columns.now) }
 {
     let mut all = Vec::new(alloc);
-    for (row, site) in topology.sites().iter().enumerate() {
+    for (row, site) in run.topology.sites().iter().enumerate() {
         let from = Line {
             row: row as u32,
             site: *site,
         };
-        add_from_site(alloc, topology, journals, columns, &from, &mut all)?;
+        add_from_site(alloc, run, &from, &mut all)?;
     }
     Ok(all)
 }
@@ -52,52 +41,39 @@ pub fn arrows_of(
 /// Adds the arrows of the frames of a site.
 fn add_from_site(
     alloc: Global,
-    topology: &Topology,
-    journals: &[Journal],
-    columns: &[Columns],
+    run: &DrawnRun<'_>,
     from: &Line,
     all: &mut Vec<Arrow>,
 ) -> Result<(), AllocError>
-    ensures { OnOk result (all.new.items
-        ≡ all.old.items ++ inner.from_site topology.now journals.now columns.now from.now.row from.now.site) }
+    ensures { OnOk result (all.new.items ≡ all.old.items
+        ++ inner.from_site run.now.topology.now run.now.journals.now run.now.columns.now from.now.row from.now.site) }
 {
-    for (row, site) in topology.sites().iter().enumerate() {
+    for (row, site) in run.topology.sites().iter().enumerate() {
         let to = Line {
             row: row as u32,
             site: *site,
         };
-        add_to_site(alloc, topology, journals, columns, from, &to, all)?;
+        add_to_site(alloc, run, from, &to, all)?;
     }
-    let entries = entries_at(journals, from.site);
-    add_sent(topology, &Way::Astray, columns, from, entries, all)
+    add_sent(run, &Way::Astray, from, all)
 }
 
 /// Adds the arrows of the frames of the link from a site to another.
 fn add_to_site(
     alloc: Global,
-    topology: &Topology,
-    journals: &[Journal],
-    columns: &[Columns],
+    run: &DrawnRun<'_>,
     from: &Line,
     to: &Line,
     all: &mut Vec<Arrow>,
 ) -> Result<(), AllocError>
     ensures { OnOk result (all.new.items ≡ all.old.items
-        ++ inner.to_site journals.now (spec.spot_of columns.now from.now.row from.now.site)
-        (spec.spot_of columns.now to.now.row to.now.site) from.now.site to.now.site) }
+        ++ inner.to_site run.now.journals.now (spec.spot_of run.now.columns.now from.now.row from.now.site)
+        (spec.spot_of run.now.columns.now to.now.row to.now.site) from.now.site to.now.site) }
 {
-    let entries = entries_at(journals, from.site);
     let mut sent = Vec::new(alloc);
-    add_sent(
-        topology,
-        &Way::To(to.site),
-        columns,
-        from,
-        entries,
-        &mut sent,
-    )?;
-    let got = got_from(alloc, from.site, entries_at(journals, to.site))?;
-    pair_up(columns, to, &sent, &got, all)
+    add_sent(run, &Way::To(to.site), from, &mut sent)?;
+    let got = got_from(alloc, from.site, entries_at(run.journals, to.site))?;
+    pair_up(run.columns, to, &sent, &got, all)
 }
 
 /// Adds the arrows of a link with their ends: the frame at each place of those sent is got at this place of those got.
@@ -148,19 +124,19 @@ pub fn spot_of(columns: &[Columns], row: u32, site: SiteId, number: usize) -> En
 
 /// Adds the frames that the entries of a site sent on a way, in their order, with open ends.
 fn add_sent(
-    topology: &Topology,
+    run: &DrawnRun<'_>,
     way: &Way,
-    columns: &[Columns],
     from: &Line,
-    entries: &[Entry],
     all: &mut Vec<Arrow>,
 ) -> Result<(), AllocError>
     ensures { OnOk result (all.new.items ≡ all.old.items
-        ++ spec.sent_where (inner.is_on topology.now way.now) (spec.spot_of columns.now from.now.row from.now.site) entries.now) }
+        ++ spec.sent_where (inner.is_on run.now.topology.now way.now)
+        (spec.spot_of run.now.columns.now from.now.row from.now.site) (journal_of run.now.journals.now from.now.site)) }
 {
+    let entries = entries_at(run.journals, from.site);
     for (i, entry) in entries.iter().enumerate() {
-        let at = spot_of(columns, from.row, from.site, i + 1);
-        add_sent_by(topology, way, &at, entry.sent.as_slice(), all)?;
+        let at = spot_of(run.columns, from.row, from.site, i + 1);
+        add_sent_by(run.topology, way, &at, entry.sent.as_slice(), all)?;
     }
     Ok(())
 }

@@ -5,6 +5,7 @@ ghost use Rattle.cmh_frames.specs.Rules.{IsAscending};
 ghost use Rattle.cmh_draw.specs.Inner.Columns.{AreColumns, lengths_of};
 
 use crate::arrows::arrows_of;
+use crate::drawn_run::DrawnRun;
 use crate::mark::{Arrow, EntrySpot};
 use cmh_audit::entries_at;
 use cmh_frames::{SiteId, Topology};
@@ -136,7 +137,12 @@ fn search(
     topology: &Topology,
     journals: &[Journal],
 ) -> Result<Vec<Columns>, AllocError> {
-    let arrows = arrows_of(alloc, topology, journals, &[])?;
+    let unplaced = DrawnRun {
+        topology,
+        journals,
+        columns: &[],
+    };
+    let arrows = arrows_of(alloc, &unplaced)?;
     let sources = sources_of(alloc, topology.sites(), journals, &arrows)?;
     let mut found = Vec::new(alloc);
     for _ in topology.sites() {

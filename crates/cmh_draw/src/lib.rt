@@ -3,6 +3,7 @@
 
 mod arrows;
 mod columns;
+mod drawn_run;
 mod mark;
 mod picture;
 mod running;

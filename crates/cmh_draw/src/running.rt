@@ -1,6 +1,7 @@
 //! The run as a space-time diagram: a line a site, a mark an entry, an arrow a frame.
 
 ghost use Rattle.std.specs.Prelude.{◌≡◌, ◌≤◌, ◌++◌, IfOk, OnOk, length, map};
+ghost use Rattle.cmh_audit.specs.Journals.{journal_of};
 ghost use Rattle.cmh_draw.specs.Arrows.{arrows_of};
 ghost use Rattle.cmh_draw.specs.Each.{number_from};
 ghost use Rattle.cmh_draw.specs.Inner.Marks.{entry_marks, stop_mark};
@@ -10,11 +11,12 @@ ghost use Rattle.cmh_draw.specs.declared.mark.Mark.TheVariants.{Arrow as Arrow_m
 
 use crate::arrows::{arrows_of, spot_of};
 use crate::columns::{Columns, columns_of};
+use crate::drawn_run::{DrawnRun, Line};
 use crate::mark::{Arrow, EntryMark, Mark, Site};
 use crate::picture::{Kind, Picture};
 use crate::size::width_of;
 use cmh_audit::{Verdict, entries_at};
-use cmh_frames::{Entry, SiteId, Topology};
+use cmh_frames::{SiteId, Topology};
 use cmh_journal::Journal;
 use std::alloc::{AllocError, Global};
 
@@ -34,7 +36,12 @@ pub fn run_picture(
 {
     let columns = columns_of(alloc, topology, journals)?;
     let width = width_of(&columns);
-    let marks = marks_of(alloc, topology, journals, verdict, &columns, width)?;
+    let run = DrawnRun {
+        topology,
+        journals,
+        columns: &columns,
+    };
+    let marks = marks_of(alloc, &run, verdict, width)?;
     Ok(Picture {
         kind: Kind::Run,
         columns: width,
@@ -45,25 +52,24 @@ pub fn run_picture(
 
 fn marks_of(
     alloc: Global,
-    topology: &Topology,
-    journals: &[Journal],
+    run: &DrawnRun<'_>,
     verdict: &Verdict,
-    columns: &[Columns],
     width: u32,
 ) -> Result<Vec<Mark>, AllocError>
     ensures { IfOk result (λ marks. marks.items
-        ≡ spec.site_marks topology.now (λ site. width) ++ map Arrow_mark (arrows_of topology.now journals.now columns.now)
-        ++ spec.entry_marks topology.now journals.now columns.now
-        ++ spec.stop_marks topology.now columns.now verdict.now) }
+        ≡ spec.site_marks run.now.topology.now (λ site. width)
+        ++ map Arrow_mark (arrows_of run.now.topology.now run.now.journals.now run.now.columns.now)
+        ++ spec.entry_marks run.now.topology.now run.now.journals.now run.now.columns.now
+        ++ spec.stop_marks run.now.topology.now run.now.columns.now verdict.now) }
 {
-    let arrows = arrows_of(alloc, topology, journals, columns)?;
+    let arrows = arrows_of(alloc, run)?;
     let mut marks = Vec::new(alloc);
-    add_sites(topology, width, &mut marks)?;
+    add_sites(run.topology, width, &mut marks)?;
     add_arrows(&arrows, &mut marks)?;
-    add_all_entries(alloc, topology, journals, columns, &mut marks)?;
+    add_all_entries(alloc, run, &mut marks)?;
     match verdict {
         Verdict::Accepted(_) => {}
-        Verdict::Refused(stops) => add_stops(topology, columns, stops.rows(), &mut marks)?,
+        Verdict::Refused(stops) => add_stops(run.topology, run.columns, stops.rows(), &mut marks)?,
     }
     Ok(marks)
 }
@@ -92,34 +98,36 @@ fn add_arrows(arrows: &[Arrow], marks: &mut Vec<Mark>) -> Result<(), AllocError>
 
 fn add_all_entries(
     alloc: Global,
-    topology: &Topology,
-    journals: &[Journal],
-    columns: &[Columns],
+    run: &DrawnRun<'_>,
     marks: &mut Vec<Mark>,
 ) -> Result<(), AllocError>
-    ensures { OnOk result (marks.new.items
-        ≡ marks.old.items ++ spec.entry_marks topology.now journals.now columns.now) }
+    ensures { OnOk result (marks.new.items ≡ marks.old.items
+        ++ spec.entry_marks run.now.topology.now run.now.journals.now run.now.columns.now) }
 {
-    for (row, site) in topology.sites().iter().enumerate() {
-        let entries = entries_at(journals, *site);
-        add_entries(alloc, columns, *site, row as u32, entries, marks)?;
+    for (row, site) in run.topology.sites().iter().enumerate() {
+        let line = Line {
+            row: row as u32,
+            site: *site,
+        };
+        add_entries(alloc, run, &line, marks)?;
     }
     Ok(())
 }
 
+/// Adds the entries of a site.
 fn add_entries(
     alloc: Global,
-    columns: &[Columns],
-    site: SiteId,
-    row: u32,
-    entries: &[Entry],
+    run: &DrawnRun<'_>,
+    line: &Line,
     marks: &mut Vec<Mark>,
 ) -> Result<(), AllocError>
-    ensures { OnOk result (marks.new.items ≡ marks.old.items ++ entry_marks columns.now row site entries.now) }
+    ensures { OnOk result (marks.new.items ≡ marks.old.items
+        ++ entry_marks run.now.columns.now line.now.row line.now.site (journal_of run.now.journals.now line.now.site)) }
 {
+    let entries = entries_at(run.journals, line.site);
     for (i, entry) in entries.iter().enumerate() {
         let number = i + 1;
-        let at = spot_of(columns, row, site, number);
+        let at = spot_of(run.columns, line.row, line.site, number);
         let event = entry.event.copy(alloc)?;
         marks.push(Mark::Entry(EntryMark {
             at,

@@ -37,7 +37,7 @@ pub fn lowest_stop(
     Ok(Some(stop))
 }
 
-/// Walks through the journals, each behind as many entries as its length says.
+/// Walks through the journals, each after as many entries as its length says.
 fn walks_to<'a>(
     alloc: Global,
     lengths: &[usize],

@@ -49,13 +49,14 @@ pub fn reason_lines(
         (string_bytes text)) }
 {
     let mut text = String::new(alloc);
-    for (site, number) in stops {
-        let reason = reason_of(alloc, topology, journals, stops, *site, *number)?;
+    for stop in stops {
+        let (site, number) = *stop;
+        let reason = reason_of(alloc, topology, journals, stops, *stop)?;
         let line = ReasonLine {
-            site: *site,
-            number: *number,
+            site,
+            number,
             reason,
-            entry: &entries_at(journals, *site)[*number - 1],
+            entry: &entries_at(journals, site)[number - 1],
         };
         write!(text, "{line}")?;
     }

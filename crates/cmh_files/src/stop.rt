@@ -21,14 +21,14 @@ pub fn reason_of(
     topology: &Topology,
     journals: &[Journal],
     stops: &[(SiteId, usize)],
-    site: SiteId,
-    number: usize,
+    stop: (SiteId, usize),
 ) -> Result<Reason, AllocError>
     requires stops { AreStops topology.now journals.now stops.now }
-    requires one { Contains stops.now (site, number) }
-    ensures { IfOk result (IsReasonOf topology.now journals.now stops.now (site, number)) }
+    requires one { Contains stops.now stop }
+    ensures { IfOk result (IsReasonOf topology.now journals.now stops.now stop) }
 {
     growing_law(topology);
+    let (site, number) = stop;
     let entry = &entries_at(journals, site)[number - 1];
     let before = before_stop(journals, stops, site);
     if let Some(fault) = fault_at(alloc, topology, site, before, entry)? {

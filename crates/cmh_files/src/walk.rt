@@ -10,7 +10,7 @@ use cmh_frames::SiteId;
 use cmh_journal::{Entries, StoredEntry, StoredJournal};
 use std::alloc::{AllocError, Global};
 
-/// A place behind some of the first entries of a journal, and how many frames they sent to each site and got from it.
+/// A place after some of the first entries of a journal, and how many frames they sent to each site and got from it.
 #[derive(Debug, Drop)]
 pub struct Walk<'a> {
     pub site: SiteId,
@@ -20,7 +20,7 @@ pub struct Walk<'a> {
 }
 
 impl<'a> Walk<'a> {
-    /// Behind so many entries of the journal.
+    /// After so many entries of the journal.
     pub fn to(
         alloc: Global,
         journal: &StoredJournal<'a>,

@@ -25,8 +25,8 @@ pub use crate::site_reply::{ClosedLink, LinkEnds, SiteReply};
 pub use crate::site_script::{ClusterLine, Order, SiteLine, parse_for_cluster, parse_for_site};
 pub use crate::start::{SiteSetup, SiteStart, start_site};
 pub use crate::starting::{
-    FileStation, Opened, Running, RunningSite, SiteHandle, Speakers, closed_in, closed_out,
-    fault_of, link_ends, note_seal, open_station, start_threads, step,
+    Carriers, FileStation, Opened, Running, RunningSite, SiteHandle, Speakers, closed_in,
+    closed_out, fault_of, link_ends, note_seal, open_station, start_threads, step,
 };
 pub use crate::system::System;
 pub use crate::together::{Answer, answer_events, reply_to};

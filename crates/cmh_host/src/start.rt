@@ -2,9 +2,11 @@
 
 ghost use Rattle.std.specs.Prelude.{◌≡◌, ◌⊎◌, IfOk, IfErr};
 
-use crate::starting::{Opened, RunningSite, Speakers, fault_of, open_station, start_threads};
+use crate::starting::{
+    Carriers, Opened, RunningSite, Speakers, fault_of, open_station, start_threads,
+};
 use crate::system::System;
-use crate::{Disk, NewJournal, Ports, can_be_made, make_journal};
+use crate::{Disk, NewJournal, NoFile, Ports, can_be_made, make_journal};
 use cmh_carriers::{Note, Noting, Origin, Speaker, TcpDial, TcpListen};
 use cmh_console::Fault;
 use cmh_frames::{SiteId, Topology};
@@ -50,34 +52,24 @@ where
     ensures fault { IfErr result (λ fault. (fault ≡ Fault.Listen) ⊎ (fault ≡ Fault.JournalDisk)
         ⊎ (fault ≡ Fault.Memory)) }
 {
-    let Ready {
-        listen,
-        dial,
-        speakers,
-    } = make_ready(rt, alloc, setup, noting)?;
-    let opened = open_own(rt, alloc, setup, speakers.handle.as_ref())?;
-    start_threads(rt, alloc, setup.topology, opened, listen, dial, speakers)
-}
-
-/// What the threads of a site need besides its station.
-#[derive(Drop)]
-struct Ready<R: System + 'static> {
-    listen: TcpListen<R>,
-    dial: TcpDial<R>,
-    speakers: Speakers,
+    let carriers = make_carriers(rt, alloc, setup, noting)?;
+    match open_own(rt, alloc, setup, carriers.speakers.handle.as_ref()) {
+        Ok(opened) => start_threads(rt, alloc, setup.topology, opened, carriers),
+        Err(refused) => Err(fault_of(refused, Fault::JournalDisk)),
+    }
 }
 
 /// Takes the site's port.
-fn make_ready<R>(
+fn make_carriers<R>(
     rt: R,
     alloc: Global,
     setup: &SiteSetup<'_>,
     noting: &Noting,
-) -> Result<Ready<R>, Fault>
+) -> Result<Carriers<R>, Fault>
 where
     R: System + Files<File = File> + Send + 'static,
-    ensures listens { IfOk result (λ ready. ready.listen.faults ≡ 0) }
-    ensures dials { IfOk result (λ ready. ready.dial.faults ≡ 0) }
+    ensures listens { IfOk result (λ carriers. carriers.listen.faults ≡ 0) }
+    ensures dials { IfOk result (λ carriers. carriers.dial.faults ≡ 0) }
     ensures fault { IfErr result (λ fault. (fault ≡ Fault.Listen) ⊎ (fault ≡ Fault.JournalDisk)
         ⊎ (fault ≡ Fault.Memory)) }
 {
@@ -91,7 +83,7 @@ where
     };
     let pairs = setup.ports.pairs(alloc)?;
     let dial = TcpDial::new(rt, pairs).with_patience(setup.patience);
-    Ok(Ready {
+    Ok(Carriers {
         listen: listen_at(&rt, alloc, port, setup.journal)?,
         dial,
         speakers,
@@ -104,18 +96,13 @@ fn open_own<R>(
     alloc: Global,
     setup: &SiteSetup<'_>,
     speaker: Option<&Speaker>,
-) -> Result<Opened<R>, Fault>
+) -> Result<Opened<R>, NoFile>
 where
     R: System + Files<File = File> + Send + 'static,
-    ensures site { IfOk result (λ opened. opened.site ≡ setup.now.site) }
-    ensures fault { IfErr result (λ fault. (fault ≡ Fault.JournalDisk) ⊎ (fault ≡ Fault.Memory)) }
+    ensures { IfOk result (λ opened. opened.site ≡ setup.now.site) }
 {
-    let NewJournal { sink, kept } = match make_journal(&rt, alloc, setup.journal) {
-        Ok(made) => made,
-        Err(refused) => return Err(fault_of(refused, Fault::JournalDisk)),
-    };
-    let disk = Fault::JournalDisk;
-    let opened = open_station(rt, alloc, setup.topology, setup.site, sink, disk)?;
+    let NewJournal { sink, kept } = make_journal(&rt, alloc, setup.journal)?;
+    let opened = open_station(rt, alloc, setup.topology, setup.site, sink)?;
     note_kept(&rt, speaker, kept);
     Ok(opened)
 }

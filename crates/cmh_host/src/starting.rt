@@ -13,7 +13,7 @@ use cmh_carriers::{Dial, Note, Speaker, TcpDial, TcpListen};
 use cmh_console::Fault;
 use cmh_frames::{Done, Event, SiteId, Topology};
 use cmh_journal::Sink;
-use cmh_links::{LinkFault, LinkState, SharedLinks, SiteThreads};
+use cmh_links::{LinkFault, LinkState, SharedLinks, SiteParts, SiteThreads};
 use cmh_station::{
     BoardReader, KeptBoard, LinkTap, Listing, ParkingTap, SharedStation, Station, StationRefusal,
 };
@@ -55,26 +55,28 @@ pub fn fault_of(refused: NoFile, disk: Fault) -> Fault
     }
 }
 
-/// Makes the station of a site over its journal. Where the disk refuses the journal's header, the given fault is answered.
+/// Makes the station of a site over its journal.
+///
+/// # Errors
+///
+/// The disk refused the journal's header, or memory was refused.
 pub fn open_station<R>(
     rt: R,
     alloc: Global,
     topology: &Topology,
     site: SiteId,
     sink: JournalSink,
-    disk: Fault,
-) -> Result<Opened<R>, Fault>
+) -> Result<Opened<R>, NoFile>
 where
     R: Wait + Copy + Drop,
     requires { sink.faults ≡ 0 }
     ensures site { IfOk result (λ opened. opened.site ≡ site) }
     ensures fresh { IfOk result (λ opened. IsNewStation topology.now site opened.station.core) }
-    ensures fault { IfErr result (λ fault. (fault ≡ disk) ⊎ (fault ≡ Fault.Memory)) }
 {
     let (station, taps, mut readers) = match Station::new(rt, alloc, topology, site, sink, 1) {
         Ok(opened) => opened,
-        Err((StationRefusal::Rule(_), _)) => return Err(Fault::Memory),
-        Err(_) => return Err(disk),
+        Err((StationRefusal::Rule(_), _)) => return Err(NoFile::Memory),
+        Err(_) => return Err(NoFile::Disk),
     };
     match readers.pop() {
         Some(reader) => Ok(Opened {
@@ -83,7 +85,7 @@ where
             taps,
             reader,
         }),
-        None => Err(Fault::Memory),
+        None => Err(NoFile::Memory),
     }
 }
 
@@ -94,6 +96,14 @@ pub struct Speakers {
     pub handle: Option<Speaker>,
     /// In its threads.
     pub threads: Option<Speaker>,
+}
+
+/// What the threads of a station work with besides it.
+#[derive(Drop)]
+pub struct Carriers<R: System + 'static> {
+    pub listen: TcpListen<R>,
+    pub dial: TcpDial<R>,
+    pub speakers: Speakers,
 }
 
 /// What a running site is asked by.
@@ -149,14 +159,12 @@ pub fn start_threads<R>(
     alloc: Global,
     topology: &Topology,
     opened: Opened<R>,
-    listen: TcpListen<R>,
-    dial: TcpDial<R>,
-    speakers: Speakers,
+    carriers: Carriers<R>,
 ) -> Result<RunningSite<R>, Fault>
 where
     R: System + Send + 'static,
-    requires listens { listen.faults ≡ 0 }
-    requires dials { dial.faults ≡ 0 }
+    requires listens { carriers.listen.faults ≡ 0 }
+    requires dials { carriers.dial.faults ≡ 0 }
     ensures site { IfOk result (λ running. running.handle.site ≡ opened.site) }
     ensures fault { IfErr result (λ fault. fault ≡ Fault.Memory) }
 {
@@ -166,18 +174,27 @@ where
         taps,
         reader,
     } = opened;
-    let Speakers {
-        handle: speaker,
-        threads: theirs,
-    } = speakers;
+    let Carriers {
+        listen,
+        dial,
+        speakers: Speakers {
+            handle: speaker,
+            threads: theirs,
+        },
+    } = carriers;
     let Locked {
         station,
         shared,
         taps,
     } = lock_station(alloc, station, taps)?;
-    match SiteThreads::start_noting(
-        rt, alloc, topology, site, shared, taps, listen, dial, theirs,
-    ) {
+    let parts = SiteParts {
+        station: shared,
+        taps,
+        listen,
+        dial,
+        speaker: theirs,
+    };
+    match SiteThreads::start_noting(rt, alloc, topology, site, parts) {
         Ok(threads) => {
             let handle = SiteHandle {
                 site,

@@ -8,11 +8,11 @@ use crate::seats::{Seat, Seats};
 use crate::shared::{Shared, StationHandover};
 use crate::turned_away::turns_away;
 use crate::{ReaderEnd, run_reader};
-use cmh_carriers::{Incoming, Line, Listen, Note};
+use cmh_carriers::{Gate, Incoming, Line, Listen, Note};
 use cmh_journal::Sink;
 use cmh_reader::{FrameReader, ReadFault};
 use cmh_station::Listing;
-use crossbeam_utils::sync::Parker;
+use crossbeam_utils::sync::{Parker, Unparker};
 use std::alloc::{AllocError, Global};
 use std::sync::atomic::Ordering;
 use std::sync::{Arc, Wait};
@@ -23,48 +23,188 @@ use std::time::Clock;
 /// A reading thread, and its connection.
 type Reading<L> = (JoinHandle<()>, Arc<Seat<L>>);
 
-/// Accepts connections and starts a reading thread for each, until accepting fails or the site is ending. Once it is
-/// ending it waits for these threads.
-pub(crate) fn accept_all<R, S, B, L>(
+/// What accepts the connections of a site, and starts their reading threads.
+#[derive(Drop)]
+pub(crate) struct Accepter<S: Sink, B: Listing, L: Listen> {
+    shared: Arc<Shared<S, B>>,
+    /// The connections that it accepted.
+    seats: Arc<Seats<L::Line>>,
+    listen: L,
+    /// What its thread sleeps on once it accepts no more.
+    parker: Parker,
+}
+
+impl<S: Sink, B: Listing, L: Listen> Accepter<S, B, L> {
+    /// It accepted no connection.
+    pub fn new(
+        alloc: Global,
+        shared: &Arc<Shared<S, B>>,
+        listen: L,
+    ) -> Result<Accepter<S, B, L>, AllocError>
+    where
+        L: Drop,
+        ensures { IfOk result (λ accepter. L.failures accepter.listen ≡ L.failures listen) }
+    {
+        let shared = Arc::try_clone(shared)?;
+        let seats = Arc::new(alloc, Seats::new(alloc))?;
+        let parker = Parker::new(alloc)?;
+        Ok(Accepter {
+            shared,
+            seats,
+            listen,
+            parker,
+        })
+    }
+
+    /// The connections that it accepted.
+    pub fn seats(&self) -> &Arc<Seats<L::Line>> {
+        &self.seats
+    }
+}
+
+/// The accepting thread of a site, and what ends it. It isn't `Drop`: whoever starts it has to stop it.
+pub(crate) struct Accepting {
+    thread: JoinHandle<()>,
+    unparker: Unparker,
+    gate: Gate,
+}
+
+impl Accepting {
+    /// Has it look whether the site is ending. It waits for nobody.
+    pub fn wake(&self) {
+        self.unparker.unpark();
+    }
+
+    /// Has it accept no more, and waits for its end, which comes once the site is ending and the reading threads have ended.
+    pub fn stop<R: Wait + Threads>(self, rt: &R) {
+        let Accepting {
+            thread,
+            unparker: _,
+            gate,
+        } = self;
+        gate.shut();
+        thread.join(rt);
+    }
+}
+
+/// Starts the accepting thread. `None` where memory or a thread was refused.
+pub(crate) fn start_accepting<R, S, B, L>(
     rt: R,
     alloc: Global,
-    shared: Arc<Shared<S, B>>,
-    seats: Arc<Seats<L::Line>>,
-    mut listen: L,
-    parker: Parker,
-)
+    accepter: Accepter<S, B, L>,
+) -> Option<Accepting>
 where
     R: Wait + Threads + Clock + Copy + Send + Drop + 'static,
     S: Sink + Send + 'static,
     B: Listing + Send + 'static,
-    L: Listen + Drop,
-    requires { L.failures listen ≡ 0 }
+    L: Listen + Send + Drop + 'static,
+    requires { L.failures accepter.listen ≡ 0 }
 {
-    let mut readers: Vec<Reading<L::Line>> = Vec::new(alloc);
-    for _ in rt.forever() {
-        let Ok(incoming) = listen.accept() else {
-            break;
+    let gate = accepter.listen.gate()?;
+    let unparker = accepter.parker.unparker().clone().ok()?;
+    let spawned = thread::spawn(
+        &rt,
+        move || -> ()
+            requires { L.failures accepter.listen ≡ 0 }
+        { accepter.accept_all(rt, alloc) },
+    );
+    let thread = spawned.ok()?;
+    Some(Accepting {
+        thread,
+        unparker,
+        gate,
+    })
+}
+
+impl<S, B, L> Accepter<S, B, L>
+where
+    S: Sink + Send + 'static,
+    B: Listing + Send + 'static,
+    L: Listen,
+{
+    /// Accepts connections and starts a reading thread for each, until accepting fails or the site is ending. Once it is
+    /// ending it waits for these threads.
+    fn accept_all<R>(mut self, rt: R, alloc: Global)
+    where
+        R: Wait + Threads + Clock + Copy + Send + Drop + 'static,
+        L: Drop,
+        requires { L.failures self.listen ≡ 0 }
+    {
+        let mut readers: Vec<Reading<L::Line>> = Vec::new(alloc);
+        for _ in rt.forever() {
+            let Ok(incoming) = self.listen.accept() else {
+                break;
+            };
+            if self.shared.ending.load(Ordering::SeqCst) {
+                break;
+            }
+            give_up(&rt, &mut readers);
+            self.admit(rt, alloc, incoming, &mut readers);
+        }
+        self.shared.note(&rt, Note::AcceptingEnded);
+        let Accepter {
+            shared,
+            seats: _,
+            listen,
+            parker,
+        } = self;
+        listen.shut();
+        drop(listen);
+        for _ in rt.forever() {
+            if shared.ending.load(Ordering::SeqCst) {
+                break;
+            }
+            parker.park(&rt);
+        }
+        for (reader, seat) in readers {
+            if shared.cutting.load(Ordering::SeqCst) {
+                seat.shut(&rt);
+            }
+            reader.join(&rt);
+        }
+    }
+
+    /// Starts a reading thread for a connection. One that is turned away, or for which no memory or no thread can be had,
+    /// is closed at once.
+    fn admit<R>(&self, rt: R, alloc: Global, incoming: L::In, readers: &mut Vec<Reading<L::Line>>)
+    where
+        R: Wait + Threads + Clock + Copy + Send + Drop + 'static,
+        requires { L.In.failures incoming ≡ 0 }
+        ensures turned_away { is_turned_away (vec_len readers.old) ≡ true → readers.new.items ≡ readers.old.items }
+        ensures one { vec_len readers.new ≤ vec_len readers.old + 1 }
+    {
+        if turns_away(readers.len()) {
+            self.shared.note(&rt, Note::TurnedAway);
+            return;
+        }
+        if readers.reserve(1).is_ok() {
+            if let Some(reading) = self.start_reader(rt, alloc, incoming) {
+                let _ = readers.push(reading);
+                return;
+            }
+        }
+        self.shared.note(&rt, Note::NoThread);
+    }
+
+    /// Starts a reading thread. `None` where no memory or no thread can be had; then the connection is closed.
+    fn start_reader<R>(&self, rt: R, alloc: Global, incoming: L::In) -> Option<Reading<L::Line>>
+    where
+        R: Wait + Threads + Clock + Copy + Send + Drop + 'static,
+        requires { L.In.failures incoming ≡ 0 }
+    {
+        let theirs = Arc::try_clone(&self.shared).ok()?;
+        let seat = self.seats.seat(&rt, self.listen.line(&incoming)?)?;
+        let Ok(taken) = Arc::try_clone(&seat) else {
+            seat.leave(&rt);
+            return None;
         };
-        if shared.ending.load(Ordering::SeqCst) {
-            break;
+        match thread::spawn(&rt, move || serve(rt, alloc, theirs, taken, incoming)) {
+            Ok(reader) => Some((reader, seat)),
+            Err(_) => {
+                seat.leave(&rt);
+                None
+            }
         }
-        give_up(&rt, &mut readers);
-        admit(rt, alloc, &shared, &seats, &listen, incoming, &mut readers);
-    }
-    shared.note(&rt, Note::AcceptingEnded);
-    listen.shut();
-    drop(listen);
-    for _ in rt.forever() {
-        if shared.ending.load(Ordering::SeqCst) {
-            break;
-        }
-        parker.park(&rt);
-    }
-    for (reader, seat) in readers {
-        if shared.cutting.load(Ordering::SeqCst) {
-            seat.shut(&rt);
-        }
-        reader.join(&rt);
     }
 }
 
@@ -78,70 +218,6 @@ fn give_up<R: Wait + Threads, L: Line + Drop>(rt: &R, readers: &mut Vec<Reading<
         if readers[left].1.is_over() {
             let (reader, _) = readers.swap_remove(left);
             reader.join(rt);
-        }
-    }
-}
-
-/// Starts a reading thread for a connection. One that is turned away, or for which no memory or no thread can be had, is
-/// closed at once.
-fn admit<R, S, B, L>(
-    rt: R,
-    alloc: Global,
-    shared: &Arc<Shared<S, B>>,
-    seats: &Seats<L::Line>,
-    listen: &L,
-    incoming: L::In,
-    readers: &mut Vec<Reading<L::Line>>,
-)
-where
-    R: Wait + Threads + Clock + Copy + Send + Drop + 'static,
-    S: Sink + Send + 'static,
-    B: Listing + Send + 'static,
-    L: Listen,
-    requires { L.In.failures incoming ≡ 0 }
-    ensures turned_away { is_turned_away (vec_len readers.old) ≡ true → readers.new.items ≡ readers.old.items }
-    ensures one { vec_len readers.new ≤ vec_len readers.old + 1 }
-{
-    if turns_away(readers.len()) {
-        shared.note(&rt, Note::TurnedAway);
-        return;
-    }
-    if readers.reserve(1).is_ok() {
-        if let Some(reading) = start_reader(rt, alloc, shared, seats, listen, incoming) {
-            let _ = readers.push(reading);
-            return;
-        }
-    }
-    shared.note(&rt, Note::NoThread);
-}
-
-/// Starts a reading thread. `None` where no memory or no thread can be had; then the connection is closed.
-fn start_reader<R, S, B, L>(
-    rt: R,
-    alloc: Global,
-    shared: &Arc<Shared<S, B>>,
-    seats: &Seats<L::Line>,
-    listen: &L,
-    incoming: L::In,
-) -> Option<Reading<L::Line>>
-where
-    R: Wait + Threads + Clock + Copy + Send + Drop + 'static,
-    S: Sink + Send + 'static,
-    B: Listing + Send + 'static,
-    L: Listen,
-    requires { L.In.failures incoming ≡ 0 }
-{
-    let theirs = Arc::try_clone(shared).ok()?;
-    let seat = seats.seat(&rt, listen.line(&incoming)?)?;
-    let Ok(taken) = Arc::try_clone(&seat) else {
-        seat.leave(&rt);
-        return None;
-    };
-    match thread::spawn(&rt, move || serve(rt, alloc, theirs, taken, incoming)) {
-        Ok(reader) => Some((reader, seat)),
-        Err(_) => {
-            seat.leave(&rt);
-            None
         }
     }
 }

@@ -2,14 +2,19 @@
 
 ghost use Rattle.std.specs.Prelude.{◌≡◌, ◌+◌, ◌-◌, ◌<◌, ◌^◌, IfOk, OnOk, OnErr};
 
+use crate::seats::{Seat, Seats};
 use cmh_carriers::{Dial, IoFault};
 use cmh_frames::SiteId;
+use std::alloc::{AllocError, Global};
 use std::marker::Model;
+use std::sync::{Arc, Wait};
+use std::time::Clock;
 
-/// A dial. Contracts see how many of its calls have failed.
+/// A dial, and the seats of the connections that it opened. Contracts see how many of its calls have failed.
 #[derive(Drop)]
 pub(crate) struct Dialler<D: Dial> {
     dial: D,
+    seats: Arc<Seats<D::Line>>,
 }
 
 impl<D: Dial> Model for Dialler<D> {
@@ -21,10 +26,19 @@ impl<D: Dial> Model for Dialler<D> {
 }
 
 impl<D: Dial> Dialler<D> {
-    pub fn new(dial: D) -> Dialler<D>
-        ensures { result ≡ D.failures dial }
+    /// It opened no connection.
+    pub fn new(alloc: Global, dial: D) -> Result<Dialler<D>, AllocError>
+    where
+        D: Drop,
+        ensures { IfOk result (λ dialler. dialler ≡ D.failures dial) }
     {
-        Dialler { dial }
+        let seats = Arc::new(alloc, Seats::new(alloc))?;
+        Ok(Dialler { dial, seats })
+    }
+
+    /// The connections that it opened.
+    pub fn seats(&self) -> &Arc<Seats<D::Line>> {
+        &self.seats
     }
 
     /// Opens a connection to where a site listens. It may wait.
@@ -37,8 +51,8 @@ impl<D: Dial> Dialler<D> {
         self.dial.connect(site)
     }
 
-    /// Another handle of a connection. `None` where memory for one was refused.
-    pub fn line(&self, outgoing: &D::Out) -> Option<D::Line> {
-        self.dial.line(outgoing)
+    /// A seat for a connection that it opened. `None` where memory was refused, or the clock can't be read.
+    pub fn seat<R: Wait + Clock>(&self, rt: &R, outgoing: &D::Out) -> Option<Arc<Seat<D::Line>>> {
+        self.seats.seat(rt, self.dial.line(outgoing)?)
     }
 }

@@ -15,7 +15,7 @@ mod writing;
 
 pub use crate::lent::{Lent, lent_law};
 pub use crate::reading::{Handover, ReaderEnd, run_reader};
-pub use crate::threads::{LinkView, SiteThreads};
+pub use crate::threads::{LinkView, SiteParts, SiteThreads};
 pub use crate::turned_away::stranger_law;
 pub use crate::writing::{FrameSource, Next, run_writer};
 pub use cmh_carriers::{LinkFault, LinkState, LinkTable, SharedLinks};

@@ -7,7 +7,7 @@ ghost use Rattle.cmh_carriers.specs.declared.table.LinkFault.{LinkFault};
 
 use crate::dialler::Dialler;
 use crate::run_writer;
-use crate::seats::{Seat, Seats};
+use crate::seats::Seat;
 use crate::shared::{Shared, TapSource};
 use cmh_carriers::{Dial, IoFault, Line, LinkFault, Note, Outgoing};
 use cmh_frames::SiteId;
@@ -39,12 +39,18 @@ pub(crate) enum Place {
     Writing(PromisedHandle<LinkTap, GivesBack>),
 }
 
+/// A connection that was opened, and its seat.
+#[derive(Drop)]
+struct Connection<O, L: Line + Drop> {
+    out: O,
+    seat: Arc<Seat<L>>,
+}
+
 /// Connects the link of a tap and starts its writing thread, or closes it; unless it was not new.
 pub(crate) fn open<R, S, B, D>(
     rt: R,
     shared: &Arc<Shared<S, B>>,
     dial: &mut Dialler<D>,
-    outs: &Seats<D::Line>,
     tap: ParkingTap,
     is_new: bool,
 ) -> Place
@@ -64,22 +70,12 @@ where
         return Place::Idle(tap.into_tap());
     }
     match dial.connect(tap.to()) {
-        Ok(out) => match seat_of(&rt, dial, outs, &out) {
-            Some(seat) => start_writer(rt, shared, tap, out, seat),
+        Ok(out) => match dial.seat(&rt, &out) {
+            Some(seat) => start_writer(rt, shared, tap, Connection { out, seat }),
             None => closed(&rt, shared, tap.into_tap(), LinkFault::Memory),
         },
         Err(IoFault) => closed(&rt, shared, tap.into_tap(), LinkFault::Connect),
     }
-}
-
-/// A seat for a connection that was opened. `None` where memory was refused.
-fn seat_of<R: Wait + Clock, D: Dial>(
-    rt: &R,
-    dial: &Dialler<D>,
-    outs: &Seats<D::Line>,
-    out: &D::Out,
-) -> Option<Arc<Seat<D::Line>>> {
-    outs.seat(rt, dial.line(out)?)
 }
 
 /// Closes the link of a tap.
@@ -104,8 +100,7 @@ fn start_writer<R, S, B, O, L>(
     rt: R,
     shared: &Arc<Shared<S, B>>,
     tap: ParkingTap,
-    out: O,
-    seat: Arc<Seat<L>>,
+    connection: Connection<O, L>,
 ) -> Place
 where
     R: Wait + Threads + Copy + Send + Drop + 'static,
@@ -113,7 +108,7 @@ where
     B: Listing + Send + 'static,
     O: Outgoing + Send + Drop + 'static,
     L: Line + Send + Drop + 'static,
-    requires fresh { O.failures out ≡ 0 }
+    requires fresh { O.failures connection.out ≡ 0 }
     ensures to { leads_to result ≡ tap.to }
     ensures new { is_idle result ≡ false }
     ensures causes { is_failed result ≡ length (closed_with 6 (result ∷ [])) }
@@ -121,10 +116,10 @@ where
 {
     let to = tap.to();
     let (Ok(theirs), Ok(own)) = (Arc::try_clone(shared), Arc::try_clone(shared)) else {
-        seat.leave(&rt);
+        connection.seat.leave(&rt);
         return closed(&rt, shared, tap.into_tap(), LinkFault::Memory);
     };
-    let run = move || write_unless_abandoned(rt, theirs, own, tap, out, seat);
+    let run = move || write_unless_abandoned(rt, theirs, own, tap, connection);
     match thread::spawn_with(&rt, GivesBack { to }, run) {
         Ok(writer) => Place::Writing(writer),
         Err(refused) => {
@@ -156,8 +151,7 @@ fn write_unless_abandoned<R, S, B, O, L>(
     shared: Arc<Shared<S, B>>,
     own: Arc<Shared<S, B>>,
     tap: ParkingTap,
-    mut out: O,
-    seat: Arc<Seat<L>>,
+    connection: Connection<O, L>,
 ) -> LinkTap
 where
     R: Wait + Copy + Drop,
@@ -165,9 +159,10 @@ where
     B: Listing,
     O: Outgoing + Drop,
     L: Line + Drop,
-    requires fresh { O.failures out ≡ 0 }
+    requires fresh { O.failures connection.out ≡ 0 }
     ensures { result.to ≡ tap.to }
 {
+    let Connection { mut out, seat } = connection;
     let tap = if shared.abandoned.load(Ordering::SeqCst) == tap.to().get() {
         tap.into_tap()
     } else {

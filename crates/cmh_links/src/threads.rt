@@ -4,35 +4,40 @@ ghost use Rattle.std.specs.Prelude.{◌≡◌, ◌+◌, ◌≤◌, [], length, m
 ghost use Rattle.std.specs.Vec.{vec_capacity};
 ghost use Rattle.cmh_links.specs.Threads.{closed_with, connected_in, failed_in, link_sites, site_of};
 
-use crate::accepting::accept_all;
+use crate::accepting::{Accepter, Accepting, start_accepting};
 use crate::dialler::Dialler;
 use crate::opening::{Place, open};
-use crate::seats::Seats;
 use crate::shared::Shared;
 use crate::watching::{start_watching, stop_watching};
-use cmh_carriers::{Dial, Gate, Line, Listen, SharedLinks, Speaker};
+use cmh_carriers::{Dial, Listen, SharedLinks, Speaker};
 use cmh_frames::{SiteId, Topology};
 use cmh_journal::Sink;
 use cmh_station::{LinkTap, Listing, ParkingTap, SharedStation};
-use crossbeam_utils::sync::{Parker, Unparker};
 use std::alloc::{AllocError, Global};
 use std::sync::atomic::Ordering;
 use std::sync::{Arc, Wait};
-use std::thread;
 use std::thread::{JoinHandle, Threads};
 use std::time::Clock;
+
+/// What the threads of a site work with.
+#[derive(Drop)]
+pub struct SiteParts<S: Sink, B: Listing, L, D> {
+    pub station: Arc<SharedStation<S, B>>,
+    /// The taps of the station's links, ascending.
+    pub taps: Vec<ParkingTap>,
+    pub listen: L,
+    pub dial: D,
+    /// What notes what the threads notice, where that is wanted.
+    pub speaker: Option<Speaker>,
+}
 
 /// The running threads of a site. It isn't `Drop`: whoever starts it has to stop it.
 pub struct SiteThreads<R, S: Sink, B: Listing, D: Dial> {
     rt: R,
     shared: Arc<Shared<S, B>>,
     dial: Dialler<D>,
-    accepting: JoinHandle<()>,
-    accepter: Unparker,
-    gate: Gate,
+    accepting: Accepting,
     watching: JoinHandle<()>,
-    /// The connections that it opened.
-    outs: Arc<Seats<D::Line>>,
     /// The taps of the links that were not opened yet, the next one last.
     waiting: Vec<ParkingTap>,
     /// Those of the others, in their order.
@@ -56,45 +61,6 @@ impl<S: Sink, B: Listing> LinkView<S, B> {
     pub fn links(&self) -> &SharedLinks {
         &self.shared.links
     }
-}
-
-/// What `start` needs memory for.
-struct Parts<S: Sink, B: Listing, L: Line + Drop, O: Line + Drop> {
-    shared: Arc<Shared<S, B>>,
-    theirs: Arc<Shared<S, B>>,
-    seats: Arc<Seats<L>>,
-    outs: Arc<Seats<O>>,
-    parker: Parker,
-    accepter: Unparker,
-    places: Vec<Place>,
-    taps: Vec<LinkTap>,
-    ghost empty: { (places.items ≡ []) × (taps.items ≡ []) },
-}
-
-fn make_parts<S: Sink, B: Listing, L: Line + Drop, O: Line + Drop>(
-    alloc: Global,
-    topology: &Topology,
-    site: SiteId,
-    station: Arc<SharedStation<S, B>>,
-    speaker: Option<Speaker>,
-    count: usize,
-) -> Result<Parts<S, B, L, O>, AllocError>
-    ensures { IfOk result (λ parts. (count ≤ vec_capacity parts.places) × (count ≤ vec_capacity parts.taps)) }
-{
-    let shared = Shared::open(alloc, topology, site, station, speaker)?;
-    let theirs = Arc::try_clone(&shared)?;
-    let parker = Parker::new(alloc)?;
-    let accepter = parker.unparker().clone()?;
-    Ok(Parts {
-        shared,
-        theirs,
-        seats: Arc::new(alloc, Seats::new(alloc))?,
-        outs: Arc::new(alloc, Seats::new(alloc))?,
-        parker,
-        accepter,
-        places: Vec::with_capacity(alloc, count)?,
-        taps: Vec::with_capacity(alloc, count)?,
-    })
 }
 
 impl<R, S, B, D> SiteThreads<R, S, B, D>
@@ -126,7 +92,14 @@ where
             ≡ map site_of taps.items) }
         ensures back { IfErr result (λ back. back ≡ taps) }
     {
-        SiteThreads::start_noting(rt, alloc, topology, site, station, taps, listen, dial, None)
+        let parts = SiteParts {
+            station,
+            taps,
+            listen,
+            dial,
+            speaker: None,
+        };
+        SiteThreads::start_noting(rt, alloc, topology, site, parts)
     }
 
     /// As `start`, and what the threads notice is noted, where a speaker is given.
@@ -135,48 +108,40 @@ where
         alloc: Global,
         topology: &Topology,
         site: SiteId,
-        station: Arc<SharedStation<S, B>>,
-        taps: Vec<ParkingTap>,
-        listen: L,
-        dial: D,
-        speaker: Option<Speaker>,
+        parts: SiteParts<S, B, L, D>,
     ) -> Result<SiteThreads<R, S, B, D>, Vec<ParkingTap>>
     where
         D: Drop,
-        requires listen { L.failures listen ≡ 0 }
-        requires dial { D.failures dial ≡ 0 }
-        ensures waiting { IfOk result (λ threads. vec_len threads.waiting ≡ vec_len taps) }
+        requires listen { L.failures parts.listen ≡ 0 }
+        requires dial { D.failures parts.dial ≡ 0 }
+        ensures waiting { IfOk result (λ threads. vec_len threads.waiting ≡ vec_len parts.taps) }
         ensures none_open { IfOk result (λ threads. vec_len threads.places ≡ 0) }
         ensures links { IfOk result (λ threads. link_sites threads.places.items threads.waiting.items
-            ≡ map site_of taps.items) }
-        ensures back { IfErr result (λ back. back ≡ taps) }
+            ≡ map site_of parts.taps.items) }
+        ensures back { IfErr result (λ back. back ≡ parts.taps) }
     {
-        let Some(gate) = listen.gate() else {
-            return Err(taps);
-        };
-        let Ok(parts) = make_parts(alloc, topology, site, station, speaker, taps.len()) else {
-            return Err(taps);
-        };
-        let Parts {
-            shared,
-            theirs,
-            seats,
-            outs,
-            parker,
-            accepter,
-            places,
-            taps: room,
+        let SiteParts {
+            station,
+            taps,
+            listen,
+            dial,
+            speaker,
         } = parts;
-        let Some(watching) = start_watching(rt, &shared, &seats, &outs) else {
+        let Ok(shared) = Shared::open(alloc, topology, site, station, speaker) else {
             return Err(taps);
         };
-        let spawned = thread::spawn(
-            &rt,
-            move || -> ()
-                requires { L.failures listen ≡ 0 }
-            { accept_all(rt, alloc, theirs, seats, listen, parker) },
-        );
-        let Ok(accepting) = spawned else {
+        let (Ok(accepter), Ok(dial), Ok(places), Ok(room)) = (
+            Accepter::new(alloc, &shared, listen),
+            Dialler::new(alloc, dial),
+            Vec::with_capacity(alloc, taps.len()),
+            Vec::with_capacity(alloc, taps.len()),
+        ) else {
+            return Err(taps);
+        };
+        let Some(watching) = start_watching(rt, &shared, accepter.seats(), dial.seats()) else {
+            return Err(taps);
+        };
+        let Some(accepting) = start_accepting(rt, alloc, accepter) else {
             stop_watching(&rt, &shared, watching);
             return Err(taps);
         };
@@ -185,12 +150,9 @@ where
         Ok(SiteThreads {
             rt,
             shared,
-            dial: Dialler::new(dial),
+            dial,
             accepting,
-            accepter,
-            gate,
             watching,
-            outs,
             waiting,
             places,
             taps: room,
@@ -232,14 +194,7 @@ where
         let mut failed = 0;
         while let Some(tap) = self.waiting.pop() {
             let is_new = self.shared.links.lock(&self.rt).open_out(tap.to());
-            let place = open(
-                self.rt,
-                &self.shared,
-                &mut self.dial,
-                &self.outs,
-                tap,
-                is_new,
-            );
+            let place = open(self.rt, &self.shared, &mut self.dial, tap, is_new);
             match &place {
                 Place::Idle(_) => {}
                 Place::Closed { .. } => failed += 1,
@@ -254,7 +209,7 @@ where
     pub fn end(&self) {
         self.shared.ending.store(true, Ordering::SeqCst);
         self.shared.station.wake();
-        self.accepter.unpark();
+        self.accepting.wake();
     }
 
     /// As `end`, and `stop` will not wait for peers that keep their connections open, nor for longer than some seconds for
@@ -278,10 +233,7 @@ where
             shared,
             dial: _,
             accepting,
-            accepter: _,
-            gate,
             watching,
-            outs: _,
             waiting,
             places,
             taps,
@@ -299,8 +251,7 @@ where
         while let Some(tap) = waiting.pop() {
             taps.push_reserved(tap.into_tap());
         }
-        gate.shut();
-        accepting.join(&rt);
+        accepting.stop(&rt);
         stop_watching(&rt, &shared, watching);
         taps
     }

@@ -72,7 +72,7 @@ fn write_whole<O: Outgoing>(out: &mut O, bytes: &[u8]) -> Result<(), IoFault>
     Ok(())
 }
 
-/// Puts a frame's bytes behind others.
+/// Puts a frame's bytes after others.
 #[tactic(auto, using(cmh_journal::proofs::WholeEntries::short_frame))]
 fn put(bytes: &mut ArrayVec<u8, MOST_GATHERED>, frame: &Frame)
     requires { array_vec_len bytes.old + 7 ≤ 4096 }
@@ -85,7 +85,7 @@ fn put(bytes: &mut ArrayVec<u8, MOST_GATHERED>, frame: &Frame)
     };
 }
 
-/// The bytes of a frame and of those behind it that are there, as many as there is room for.
+/// The bytes of a frame and of those after it that are there, as many as there is room for.
 #[tactic(auto, using(crate::proofs::Writes::gathers_first, crate::proofs::Writes::gathers_on, crate::proofs::Writes::gathers_same))]
 fn gather<F: FrameSource>(source: &mut F, first: &Frame, bytes: &mut ArrayVec<u8, MOST_GATHERED>)
     ensures gathers { Gathers first.now (F.given source.old) (F.given source.new) bytes.new.items }

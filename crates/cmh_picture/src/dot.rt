@@ -8,7 +8,7 @@ use crate::point::Point;
 use crate::scene::Scene;
 use crate::svg_run::{is_below, way_of};
 use cmh_draw::{Arrow, EntryMark, EntrySpot, Kind, Mark, Process, Site, Spot, Wait};
-use cmh_frames::{Event, Frame, SiteId};
+use cmh_frames::{Event, Frame};
 use std::alloc::{AllocError, Global};
 use std::fmt;
 
@@ -147,36 +147,45 @@ fn add_entry(
         text,
         "{node} [label={number}, fixedsize=true, {position}, {look}]\n"
     )?;
+    let side = Side::of(scene, entry);
     match &entry.event {
-        Event::Got { from, frame } => { add_got(alloc, scene, entry, *from, *frame, text) }
+        Event::Got { frame, .. } => {
+            let length = length_of(alloc, frame)?;
+            add_label(text, node, "got", left_of(at, length, side.near), *frame)?;
+        }
         event => {
             let words = StepText { event };
             let length = length_of(alloc, &words)?;
             let words = StepText { event };
-            add_label(text, node, "step", left_of(at, length, -17), words)?;
-            add_declared(alloc, entry, at, -31, text)
+            add_label(text, node, "step", left_of(at, length, side.near), words)?;
         }
     }
+    add_declared(alloc, entry, at, side.far, text)
 }
 
-/// The label of what came, on the side that its arrow does not come from.
-fn add_got(
-    alloc: Global,
-    scene: Scene<'_>,
-    entry: &EntryMark,
-    from: SiteId,
-    frame: Frame,
-    text: &mut String,
-) -> Result<(), AllocError> {
-    let at = scene.layout.point(entry.at.spot);
-    let node = Node { at: entry.at };
-    let length = length_of(alloc, &frame)?;
-    if is_below(scene, from, entry.at) {
-        add_label(text, node, "got", left_of(at, length, -17), frame)?;
-        add_declared(alloc, entry, at, -31, text)
-    } else {
-        add_label(text, node, "got", left_of(at, length, 17), frame)?;
-        add_declared(alloc, entry, at, 31, text)
+/// The side of an entry on which its labels stand, by how far down they are.
+#[derive(Clone, Copy)]
+struct Side {
+    /// The label of what happened.
+    near: i32,
+    /// The label of who was declared then.
+    far: i32,
+}
+
+impl Side {
+    const OVER: Side = Side {
+        near: -17,
+        far: -31,
+    };
+
+    const UNDER: Side = Side { near: 17, far: 31 };
+
+    /// The side from which no arrow comes: over the entry, but under it where it got a frame from above.
+    fn of(scene: Scene<'_>, entry: &EntryMark) -> Side {
+        match &entry.event {
+            Event::Got { from, .. } if !is_below(scene, *from, entry.at) => Side::UNDER,
+            _ => Side::OVER,
+        }
     }
 }
 

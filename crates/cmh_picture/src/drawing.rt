@@ -14,28 +14,36 @@ use cmh_journal::list_journals;
 use std::alloc::{AllocError, Global};
 use std::io::Write;
 
-/// Audits the journals of all sites of a topology, whose files are given in any order, and writes their picture: of the
-/// run, or of who waits for whom at its end. Where they come from no run, it shows how far they can be taken.
+/// Of what files a picture is drawn, of which kind, and how it is written.
+#[derive(Clone, Copy)]
+pub struct Drawing<'a> {
+    /// The bytes of the topology file.
+    pub topology: &'a [u8],
+    /// The bytes of the journals' files, in any order.
+    pub journals: &'a [Vec<u8>],
+    pub kind: Kind,
+    pub format: Format,
+}
+
+/// Audits the journals of all sites of a topology and writes their picture: of the run, or of who waits for whom at its
+/// end. Where they come from no run, it shows how far they can be taken.
 ///
 /// The answer is the status of the program: 0 where a picture is written, also of journals that come from no run, 1
 /// where memory ran out, 3 at any other fault. The faults are those of `run_audit`. A fault is named on `err`, and a
 /// write to it that fails is ignored. Nothing is written to `out` before a fault but where writing itself failed.
 pub fn run_draw<W: Write, E: Write>(
     alloc: Global,
-    topology: &[u8],
-    journals: &[Vec<u8>],
-    kind: Kind,
-    format: Format,
+    drawing: &Drawing<'_>,
     out: &mut Output<W>,
     err: &mut Output<E>,
 ) -> u8
     ensures status { IsStatus result }
 
     // A picture is written, or a fault is named, and nothing else.
-    ensures ends { DrawEnds topology.now (map (λ file. file.items) journals.now) kind format
-        out.old out.new err.old err.new result }
+    ensures ends { DrawEnds drawing.now.topology.now (map (λ file. file.items) drawing.now.journals.now)
+        drawing.now.kind drawing.now.format out.old out.new err.old err.new result }
 {
-    match draw_into(alloc, topology, journals, kind, format, out) {
+    match draw_into(alloc, drawing, out) {
         Ok(()) => 0,
         Err(fault) => fault.name_on(err),
     }
@@ -44,37 +52,33 @@ pub fn run_draw<W: Write, E: Write>(
 /// Writes the picture.
 fn draw_into<W: Write>(
     alloc: Global,
-    topology: &[u8],
-    journals: &[Vec<u8>],
-    kind: Kind,
-    format: Format,
+    drawing: &Drawing<'_>,
     out: &mut Output<W>,
 ) -> Result<(), Fault>
-    ensures wrote { OnOk result (WroteDrawing topology.now (map (λ file. file.items) journals.now) kind format
+    ensures wrote { OnOk result (WroteDrawing drawing.now.topology.now
+        (map (λ file. file.items) drawing.now.journals.now) drawing.now.kind drawing.now.format
         out.old.written out.new.written) }
     ensures flushed { OnOk result (out.new.is_flushed ≡ true) }
-    ensures fault { IfErr result (IsCause topology.now (map (λ file. file.items) journals.now)
+    ensures fault { IfErr result (IsCause drawing.now.topology.now
+        (map (λ file. file.items) drawing.now.journals.now)
         out.old.written out.new.written out.new.has_failed) }
 {
-    let picture = picture_of_files(alloc, topology, journals, kind)?;
-    let text = picture_text(alloc, format, &picture)?;
+    let picture = picture_of_files(alloc, drawing)?;
+    let text = picture_text(alloc, drawing.format, &picture)?;
     out.write_text(text)?;
     out.flush()?;
     Ok(())
 }
 
 /// The picture of these files. The first fault is answered, as of an audit.
-fn picture_of_files(
-    alloc: Global,
-    topology: &[u8],
-    journals: &[Vec<u8>],
-    kind: Kind,
-) -> Result<Picture, Fault>
-    ensures draws { IfOk result (DrawsFiles topology.now (map (λ file. file.items) journals.now) kind) }
-    ensures fault { IfErr result (IsAuditFault topology.now (map (λ file. file.items) journals.now)) }
+fn picture_of_files(alloc: Global, drawing: &Drawing<'_>) -> Result<Picture, Fault>
+    ensures draws { IfOk result (DrawsFiles drawing.now.topology.now
+        (map (λ file. file.items) drawing.now.journals.now) drawing.now.kind) }
+    ensures fault { IfErr result (IsAuditFault drawing.now.topology.now
+        (map (λ file. file.items) drawing.now.journals.now)) }
 {
-    let audited = audit_files(alloc, topology, journals)?;
-    let picture = picture_of(alloc, &audited, kind)?;
+    let audited = audit_files(alloc, drawing.topology, drawing.journals)?;
+    let picture = picture_of(alloc, &audited, drawing.kind)?;
     Ok(picture)
 }
 

@@ -17,6 +17,6 @@ mod svg;
 mod svg_run;
 mod svg_waits;
 
-pub use crate::drawing::run_draw;
+pub use crate::drawing::{Drawing, run_draw};
 pub use crate::format::{Format, NoFormat};
 pub use cmh_draw::{Kind, NoKind};

@@ -1,12 +1,12 @@
 -- A script that is played, and whose journals are kept.
 use Rattle.std.proofs.Common.{◌≡◌, ◌≢◌, ℕ, zero, suc, Bool, Box, List, [], Option, None, Some, refl, sym, subst, inl, inr, true≢false}
-use Rattle.std.specs.Prelude.{◌⊎◌, IfErr, IfSome, IsErr, IsErrAnd, OnOk, Result, Ok, Err}
+use Rattle.std.specs.Prelude.{IfErr, IfSome, IsErr, OnOk, Result, Ok, Err}
 use Rattle.std.specs.Global.{Global}
 use Rattle.std.specs.Io.KnownBytes.{Keeps}
 use Rattle.std.proofs.KnownBytes.{Appends-kept}
-use Rattle.cmh_console.specs.Faults.{IsAnswerFault, IsPlayFault, NamesFault}
+use Rattle.cmh_console.specs.Faults.{IsPlayFault, NamesFault}
 use Rattle.cmh_console.specs.declared.faults.Fault.{Fault}
-use Rattle.cmh_console.specs.declared.faults.Fault.TheVariants.{Input, Memory}
+use Rattle.cmh_console.specs.declared.faults.Fault.TheVariants.{Input}
 use Rattle.cmh_journal.specs.Journal.{Journal}
 use Rattle.cmh_console.proofs.LinesSeen.{if_some}
 use Rattle.cmh_console.specs.Device.{Writing}
@@ -14,11 +14,11 @@ use Rattle.cmh_console.specs.Lines.{IsNextLine}
 use Rattle.cmh_console.specs.declared.lines.NextLine.{NextLine}
 use Rattle.cmh_console.specs.declared.lines.NextLine.TheVariants.{End}
 use Rattle.cmh_console.proofs.LineLemmas.{at_some}
-use Rattle.cmh_console.proofs.Dialogues.{HasTalked, talked_fault, talked_some}
+use Rattle.cmh_console.proofs.Dialogues.{HasTalked}
 use Rattle.cmh_console.specs.Dialogue.{Conversed, Dialogue}
 use Rattle.cmh_console.specs.declared.dialogue.Flow.TheVariants.{Awaits}
-use Rattle.cmh_play.proofs.Plays.{answer_fault, status_above_0}
-use Rattle.cmh_play.specs.Keeping.{AnsweredAndKept, IsKeptPlayFault, IsUnanswered, KeepsAt, KeepsWorld, PlayedToEnd}
+use Rattle.cmh_play.proofs.Plays.{status_above_0}
+use Rattle.cmh_play.specs.Keeping.{AnsweredAndKept, IsKeptPlayFault, KeepsAt, KeepsWorld, PlayedToEnd}
 use Rattle.cmh_play.specs.Play.{Answered, IsTurnOfScript, new_state, status_after}
 use Rattle.cmh_play.specs.PlayStates.{PlayState}
 use Rattle.cmh_play.specs.declared.reply.Reply.{Reply}
@@ -33,16 +33,6 @@ pub keeps_none : {K : Type 0} → (Kept : K → List Journal → K → Type 0) (
     → ((edition : Edition) (verdict : Box Verdict Global) → reply ≢ Report edition verdict) → new ≡ old → KeepsAt Kept reply state old new
 keeps_none Kept (Report edition verdict) state old new other same = absurd (other edition verdict refl)
 keeps_none Kept reply state old new other same = same
-
--- nothing was written before journals were to be kept
-pub unkept : (Fails : Fault → Type 0) (out : Option (List ℕ)) (has_failed : Bool) (fault : Fault) → (fault ≡ Memory) ⊎ Fails fault → IsUnanswered Fails out out has_failed fault
-unkept Fails out has_failed fault (inl memory) = inl (subst (IsAnswerFault out out has_failed) (sym memory) refl)
-unkept Fails out has_failed fault (inr fails) = inr (fails, refl)
-
-pub unkept_err : {X : Type 0} → (Fails : Fault → Type 0) (out : Option (List ℕ)) (has_failed : Bool) (r : Result X Fault) (lower : Fault) → IsErrAnd r (λ fault. fault ≡ lower) → (lower ≡ Memory) ⊎ Fails lower
-    → IfErr r (IsUnanswered Fails out out has_failed)
-unkept_err Fails out has_failed (Ok x) lower is h = tt
-unkept_err Fails out has_failed (Err fault) lower is h = subst (IsUnanswered Fails out out has_failed) (sym is) (unkept Fails out has_failed lower h)
 
 -- ---- the lines so far
 
@@ -59,31 +49,12 @@ module _ (start old now out : Option (List ℕ)) (state : PlayState) (n : ℕ) (
         wrote = s.wrote;
       })
 
-  -- a line is not answered
-  pub unanswered : (Fails : Fault → Type 0) (after : Option (List ℕ)) (has_failed : Bool) (fault : Fault) → IsUnanswered Fails out after has_failed fault
-      → IfSome start (λ bytes. Conversed IsTurnOfScript new_state bytes old after has_failed (Err Input))
-  unanswered Fails after has_failed fault (inl why) = talked_fault _ _ _ _ _ _ _ state n so_far after has_failed Input fault why
-  unanswered Fails after has_failed fault (inr why) =
-      subst (λ (o : Option (List ℕ)). IfSome start (λ bytes. Conversed IsTurnOfScript new_state bytes old o has_failed (Err Input))) (sym why.1)
-      (talked_some _ _ _ _ _ _ _ state n so_far has_failed Input)
-
 -- ---- faults
 
 pub kept_fault : (Fails : Fault → Type 0) (start : Option (List ℕ)) (read_failed write_failed : Bool) (r : Result (Unit {0}) Fault) → IfErr r (IsPlayFault start read_failed write_failed)
     → IfErr r (IsKeptPlayFault Fails start read_failed write_failed)
 kept_fault Fails start read_failed write_failed (Ok x) h = tt
 kept_fault Fails start read_failed write_failed (Err fault) h = inl h
-
-unanswered_fault : (Fails : Fault → Type 0) (start out after : Option (List ℕ)) (read_failed has_failed : Bool) (fault : Fault) → IsUnanswered Fails out after has_failed fault
-    → IsKeptPlayFault Fails start read_failed has_failed fault
-unanswered_fault Fails start out after read_failed has_failed fault (inl why) = inl (answer_fault start out after read_failed has_failed fault why)
-unanswered_fault Fails start out after read_failed has_failed fault (inr why) = inr why.0
-
-pub unanswered_fault_err : (Fails : Fault → Type 0) (start out after : Option (List ℕ)) (read_failed has_failed : Bool) (r : Result (Unit {0}) Fault) (lower : Fault)
-    → IsErrAnd r (λ fault. fault ≡ lower) → IsUnanswered Fails out after has_failed lower → IfErr r (IsKeptPlayFault Fails start read_failed has_failed)
-unanswered_fault_err Fails start out after read_failed has_failed (Ok x) lower is h = tt
-unanswered_fault_err Fails start out after read_failed has_failed (Err fault) lower is h =
-    subst (IsKeptPlayFault Fails start read_failed has_failed) (sym is) (unanswered_fault Fails start out after read_failed has_failed lower h)
 
 -- ---- the end
 

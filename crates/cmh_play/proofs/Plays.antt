@@ -5,7 +5,7 @@ use Rattle.std.specs.Io.KnownBytes.{Keeps}
 use Rattle.std.proofs.KnownBytes.{Appends-kept, Appends-nil}
 use Rattle.cmh_console.specs.Device.{Tells}
 use Rattle.cmh_console.specs.Dialogue.{Conversed, begin}
-use Rattle.cmh_console.specs.Faults.{IsAnswerFault, IsPlayFault, status_of}
+use Rattle.cmh_console.specs.Faults.{status_of}
 use Rattle.cmh_console.specs.declared.device.WriteFault.{WriteFault}
 use Rattle.cmh_console.specs.declared.faults.Fault.{Fault}
 use Rattle.cmh_console.specs.declared.faults.Fault.TheVariants.{TopologyFile, ScriptFile, OutFile, JournalFile, Json, Topology, Journal, Set, Site, JournalDisk, Listen, Input, Output, Memory}
@@ -51,21 +51,3 @@ pub some_flushed : (start old out new : Option (List ℕ)) (before after : Bool)
 some_flushed None old out new before after flushed c kept ok failed = tt
 some_flushed (Some bytes) old out new before after (Ok x) c kept ok failed = record { text = c.text; is = c.is; wrote = tells_kept old out new before after c.text c.wrote kept ok }
 some_flushed (Some bytes) old out new before after (Err e) c kept ok failed = record { text = c.text; is = c.is; wrote = inl failed }
-
--- ---- why a line was not answered
-
-pub answer_fault : (start out after : Option (List ℕ)) (read_failed has_failed : Bool) (fault : Fault) → IsAnswerFault out after has_failed fault → IsPlayFault start read_failed has_failed fault
-answer_fault start out after read_failed has_failed Output failed = failed
-answer_fault start out after read_failed has_failed Memory same = tt
-answer_fault start out after read_failed has_failed TopologyFile none = absurd none
-answer_fault start out after read_failed has_failed ScriptFile none = absurd none
-answer_fault start out after read_failed has_failed OutFile none = absurd none
-answer_fault start out after read_failed has_failed (JournalFile place) none = absurd none
-answer_fault start out after read_failed has_failed Json none = absurd none
-answer_fault start out after read_failed has_failed (Topology fault) none = absurd none
-answer_fault start out after read_failed has_failed (Journal place fault) none = absurd none
-answer_fault start out after read_failed has_failed (Set fault) none = absurd none
-answer_fault start out after read_failed has_failed Site none = absurd none
-answer_fault start out after read_failed has_failed JournalDisk none = absurd none
-answer_fault start out after read_failed has_failed Listen none = absurd none
-answer_fault start out after read_failed has_failed Input none = absurd none

@@ -19,7 +19,7 @@ use Rattle.cmh_audit.specs.Sums.{in_entries, in_journals}
 use Rattle.cmh_audit.proofs.TotalLemmas.{totals_more}
 use Rattle.cmh_play.specs.History.{History, Grows, blank_journal, kept_of}
 use Rattle.cmh_play.specs.Held.{Held, IsWorldStep, Shows, ShowsLater, Takes, IsReasonAt, IsTaken, step_counts}
-use Rattle.cmh_play.specs.Links.{Links, link_of, with_all}
+use Rattle.cmh_play.specs.Links.{Links, link_of, link_after, with_all}
 use Rattle.cmh_play.specs.Sites.{IsStanding}
 use Rattle.cmh_play.specs.World.{World, IsReason}
 use Rattle.cmh_frames.specs.declared.done.Done.{Done}
@@ -117,7 +117,7 @@ module _ (keeps : Bool) (world : World) (held : Held) (shows : Shows keeps world
   unfolding j
   few = shows.limit place (blank_journal t.edition s) l
 
-  taken : (done : Done) → Takes s c d place held.history history held.links links event done → ShowsLater (λ old new. IsWorldStep old new s event (Taken done)) keeps world (record { topology = held.topology; controllers = set held.controllers place d; history = history; links = links })
+  taken : (done : Done) → Takes c d place held.history history held.links links event done → ShowsLater (λ old new. IsWorldStep old new s event (Taken done)) keeps world (record { topology = held.topology; controllers = set held.controllers place d; history = history; links = links })
   taken done takes =
       let entry : Entry = record { event = event; sent = takes.sent; declared = done.declared } in
       let w = written keeps js held.history.journals history.journals place j entry l j_here shows.journals takes.adds.written in
@@ -153,6 +153,7 @@ module _ (keeps : Bool) (world : World) (held : Held) (shows : Shows keeps world
           others = λ q other. others_stay js place grown l same q (λ e. other (e ∙ site));
           topology = refl;
           links = λ a b. takes.links_are a b
+              ∙ ap (λ (k : Controller). link_after held.links k.site takes.sent a b) wrote
               ∙ ap (λ (link : Option (List Frame)). if s == a then with_all link (frames_to b takes.sent) else link) (sym (shows.links a b));
         };
       }
@@ -164,7 +165,7 @@ module _ (keeps : Bool) (world : World) (held : Held) (shows : Shows keeps world
     subst (λ (k : Controller). Refuses k.topology k.site k.state event refusal) wrote because.1,
   )
 
-  pub step_shown : (step : Step) → IsTaken s c d place held.history history held.links links event step
+  pub step_shown : (step : Step) → IsTaken c d place held.history history held.links links event step
       → ShowsLater (λ old new. IsWorldStep old new s event step) keeps world (record { topology = held.topology; controllers = set held.controllers place d; history = history; links = links })
   step_shown (Taken done) takes = taken done takes
   step_shown (StepRefused refused) stays =

@@ -80,8 +80,8 @@ pub record AreKept (t : Topology) (old new : History) : Type 0 where
   pub counted : length new.steps ≡ length old.steps
   pub edition : AreOfEdition t new.journals
 
--- the controller took the event by the rules, the history have the entry, its frames are on the links of the site s
-pub record Takes (s : ℕ) (c d : Controller) (place : ℕ) (old new : History) (before after_links : Links) (event : Event)
+-- the controller took the event by the rules, the history has the entry, its frames are on the links of its site
+pub record Takes (c d : Controller) (place : ℕ) (old new : History) (before after_links : Links) (event : Event)
     (done : Done) : Type 0 where
   pub sent : List (ℕ × Frame)
   pub accepted : Accepts c.topology c.site c.state event
@@ -90,7 +90,7 @@ pub record Takes (s : ℕ) (c d : Controller) (place : ℕ) (old new : History) 
   pub adds : Adds old new place (record { event = event; sent = sent; declared = done.declared })
   pub counted : done.sent ≡ length sent
   pub room : slice_index old.steps place < entry_limit
-  pub links_are : (a b : ℕ) → link_of after_links a b ≡ link_after before s sent a b
+  pub links_are : (a b : ℕ) → link_of after_links a b ≡ link_after before c.site sent a b
 
 -- why it took no step
 abbrev pub IsReasonAt : Controller → ℕ → Event → Refused → Type 0
@@ -99,10 +99,10 @@ IsReasonAt c steps event (Rule refusal) =
     (steps < entry_limit) × Refuses c.topology c.site c.state event refusal
 
 -- what came of an event
-abbrev pub IsTaken : ℕ → Controller → Controller → ℕ → History → History → Links → Links → Event → Step → Type 0
-IsTaken s c d place old new before after_links event (Taken done) =
-    Takes s c d place old new before after_links event done
-IsTaken s c d place old new before after_links event (StepRefused refused) =
+abbrev pub IsTaken : Controller → Controller → ℕ → History → History → Links → Links → Event → Step → Type 0
+IsTaken c d place old new before after_links event (Taken done) =
+    Takes c d place old new before after_links event done
+IsTaken c d place old new before after_links event (StepRefused refused) =
     (d ≡ c) × (new ≡ old) × (after_links ≡ before) × IsReasonAt c (slice_index old.steps place) event refused
 
 -- what an event at the site s does to a world that is shown

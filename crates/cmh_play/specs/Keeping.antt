@@ -1,5 +1,5 @@
 -- A script that is played, and whose journals are kept.
-use Rattle.std.specs.Prelude.{◌≡◌, ℕ, zero, suc, Bool, ◌⊎◌, List, [], Option, Err, ⊤}
+use Rattle.std.specs.Prelude.{◌≡◌, ℕ, zero, suc, Bool, ◌⊎◌, List, [], Option, Err, MatchOption, ⊤}
 use Rattle.std.specs.Io.KnownBytes.{Appends}
 use Rattle.cmh_journal.specs.Journal.{Journal}
 use Rattle.cmh_play.specs.World.{World}
@@ -7,9 +7,12 @@ use Rattle.cmh_console.specs.Dialogue.{Conversed, Dialogue}
 use Rattle.cmh_console.specs.declared.dialogue.Flow.TheVariants.{Awaits}
 use Rattle.cmh_console.specs.declared.faults.Fault.{Fault}
 use Rattle.cmh_console.specs.declared.faults.Fault.TheVariants.{OutFile, Input, Memory}
-use Rattle.cmh_play.specs.Play.{AnswersLine, IsTurnOfScript, new_state}
+use Rattle.cmh_play.specs.Play.{IsTurnOfScript, Replies, new_state}
 use Rattle.cmh_play.specs.Showing.{IsWorldOf}
-use Rattle.cmh_console.specs.Faults.{IsAnswerFault, IsPlayFault}
+use Rattle.cmh_console.specs.Faults.{IsPlayFault}
+use Rattle.cmh_console.specs.Script.{Says}
+use Rattle.cmh_console.specs.declared.script.Line.{Line}
+use Rattle.cmh_console.specs.declared.script.Line.TheVariants.{Bad}
 use Rattle.cmh_play.specs.PlayStates.{PlayState}
 use Rattle.cmh_play.specs.declared.reply.Reply.{Reply}
 use Rattle.cmh_play.specs.declared.reply.Reply.TheVariants.{Report}
@@ -31,11 +34,13 @@ abbrev pub KeepsAt : {K : Type 0} → (K → List Journal → K → Type 0) → 
 KeepsAt Keeps (Report edition verdict) state old new = KeepsWorld Keeps state old new
 KeepsAt Keeps reply state old new = new ≡ old
 
--- a line was answered, and journals were kept where it asked for a report
+-- a line did this to the state, and has this reply; journals were kept where it asked for a report
 pub record AnswersAndKeeps {K : Type 0} (Keeps : K → List Journal → K → Type 0) (old new : PlayState) (line : Option (List ℕ))
-    (out_old out_new : Option (List ℕ)) (keeper_old keeper_new : K) : Type 0 where
-  pub answers : AnswersLine old new line out_old out_new
-  pub keeps : KeepsAt Keeps answers.reply new keeper_old keeper_new
+    (reply : Reply) (keeper_old keeper_new : K) : Type 0 where
+  pub said : Line
+  pub says : MatchOption line (said ≡ Bad) (λ bytes. Says bytes said)
+  pub replies : Replies old new said reply
+  pub keeps : KeepsAt Keeps reply new keeper_old keeper_new
 
 -- all lines of the bytes were answered, and led to the state
 pub record PlayedToEnd (bytes : List ℕ) (old new : Option (List ℕ)) (state : PlayState) : Type 0 where
@@ -49,10 +54,6 @@ AnsweredAndKept {K} Keeps bytes old new has_failed zero keeper =
     (state : PlayState) × PlayedToEnd bytes old new state × ((before : K) × KeepsWorld Keeps state before keeper)
 AnsweredAndKept Keeps bytes old new has_failed (suc status) keeper =
     Conversed IsTurnOfScript new_state bytes old new has_failed (Err Input)
-
--- why a line was not answered: before a report, also that the journals were not kept
-abbrev pub IsUnanswered : (Fault → Type 0) → Option (List ℕ) → Option (List ℕ) → Bool → Fault → Type 0
-IsUnanswered Fails old new has_failed fault = IsAnswerFault old new has_failed fault ⊎ (Fails fault × (new ≡ old))
 
 -- why a script is not played to its end, or its journals are not kept
 abbrev pub IsKeptPlayFault : (Fault → Type 0) → Option (List ℕ) → Bool → Bool → Fault → Type 0

@@ -1,6 +1,5 @@
 -- A script that is played: what each line does to the state, and what is written for it.
 use Rattle.std.specs.Prelude.{◌≡◌, ◌≢◌, ℕ, zero, suc, Bool, List, [], ◌∷◌, ◌++◌, Option, None, Some, Result, Ok as Ok_result, Err, MatchOption, ⊤}
-use Rattle.std.specs.Io.KnownBytes.{Appends}
 use Rattle.cmh_frames.specs.declared.edition.Edition.{Edition}
 use Rattle.cmh_frames.specs.declared.edition.Edition.TheVariants.{One}
 use Rattle.cmh_frames.specs.Rows.{Row, IsFaultOf, fault_of}
@@ -57,15 +56,6 @@ Replies old new line reply = ⊥
 -- neither sites nor commands
 abbrev pub new_state : PlayState
 new_state = Named One []
-
--- a line did this to the state, and its reply was written
-pub record AnswersLine (old new : PlayState) (line : Option (List ℕ))
-    (out_old out_new : Option (List ℕ)) : Type 0 where
-  pub said : Line
-  pub reply : Reply
-  pub says : MatchOption line (said ≡ Bad) (λ bytes. Says bytes said)
-  pub replies : Replies old new said reply
-  pub wrote : Appends out_old out_new (reply_text reply)
 
 -- a state whose world, if it has one, is at the end of a run
 abbrev pub IsOfRun : PlayState → Type 0

@@ -5,7 +5,7 @@ ghost use Rattle.std.specs.Io.KnownBytes.{Keeps};
 ghost use Rattle.cmh_console.specs.Dialogue.{Conversed, line_of};
 ghost use Rattle.cmh_console.specs.Faults.{IsPlayFault, NamesFault};
 ghost use Rattle.cmh_play.specs.PlayStates as states;
-ghost use Rattle.cmh_play.specs.Keeping.{AnsweredAndKept, AnswersAndKeeps, IsKeptPlayFault, IsUnanswered, KeepsAt, KeepsWorld, PlayedToEnd};
+ghost use Rattle.cmh_play.specs.Keeping.{AnsweredAndKept, AnswersAndKeeps, IsKeptPlayFault, KeepsAt, KeepsWorld, PlayedToEnd};
 ghost use Rattle.cmh_play.specs.Play.{Answered, IsTurnOfScript, Replies, new_state, status_after};
 ghost use Rattle.cmh_play.specs.World.{CarriesOut};
 ghost use Rattle.cmh_console.specs.Script.{Says};
@@ -123,7 +123,9 @@ fn answer_all<R: BufRead + Ahead, W: Write, K: Keeper>(
         if next.is_end() {
             return Ok(());
         }
-        state.answer_line(alloc, next, &mut spare, input.has_line(), out, keeper)?;
+        let reply = state.answer_line(alloc, next, &mut spare, keeper)?;
+        write_reply(out, &reply)?;
+        flush_awaited(out, input.has_line())?;
     }
     Err(Fault::Input)
 }
@@ -214,28 +216,24 @@ impl PlayState {
         }
     }
 
-    /// Answers what was read of a script, after which a whole line is at hand or not. The journals are kept before a
-    /// report is written. The targets of an ask take the memory of `spare`, which has it back where nobody keeps them.
-    fn answer_line<W: Write, K: Keeper>(
+    /// Carries out what was read of a script, and answers its reply. The journals are kept before a report is answered.
+    /// The targets of an ask take the memory of `spare`, which has it back where nobody keeps them.
+    #[inline(always)]
+    fn answer_line<K: Keeper>(
         &mut self,
         alloc: Global,
         next: NextLine<'_>,
         spare: &mut Vec<ProcId>,
-        has_line: bool,
-        out: &mut Output<W>,
         keeper: &mut K,
-    ) -> Result<(), Fault>
-        ensures answers { OnOk result (LeadsOn K.wants (λ old new. AnswersAndKeeps K.keeps old new (line_of next.entry)
-            out.old.written out.new.written keeper.old keeper.new) self.old self.new) }
-        ensures unfailed { OnOk result (out.new.has_failed ≡ out.old.has_failed) }
-        ensures fault { IfErr result (IsUnanswered K.fails out.old.written out.new.written out.new.has_failed) }
+    ) -> Result<Reply, Fault>
+        ensures answers { IfOk result (λ reply. LeadsOn K.wants (λ old new. AnswersAndKeeps K.keeps old new
+            (line_of next.entry) reply keeper.old keeper.new) self.old self.new) }
+        ensures fault { IfErr result (λ fault. (fault ≡ Fault.Memory) ⊎ K.fails fault) }
     {
         let said = said_by(alloc, next, spare)?;
         let reply = self.answer(alloc, said, spare, keeper.wants_journals())?;
         self.keep_for(alloc, &reply, keeper)?;
-        write_reply(out, &reply)?;
-        flush_awaited(out, has_line)?;
-        Ok(())
+        Ok(reply)
     }
 
     /// What a line does, and its reply. What is done seldom is never inlined: each line would pay for its large values.

@@ -163,8 +163,6 @@ impl Playground {
         whole_law(&self.topology);
         let place = place_of(&self.topology, site);
         take(
-            &self.topology,
-            site,
             place,
             &mut self.controllers[place],
             &mut self.history,

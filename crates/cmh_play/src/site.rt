@@ -8,7 +8,7 @@ ghost use Rattle.cmh_play.specs.Sites.{AreOfEdition};
 use crate::history::History;
 use crate::links::Links;
 use cmh_controller::{Controller, Refusal};
-use cmh_frames::{Done, Event, Frame, ProcId, SiteId, Topology};
+use cmh_frames::{Done, Event, Frame, ProcId, SiteId};
 use cmh_journal::whole_law;
 use std::alloc::AllocError;
 
@@ -33,8 +33,6 @@ pub(crate) enum Step {
 /// which the history and the links may lack what the controller did.
 #[inline(always)]
 pub(crate) fn take(
-    topology: &Topology,
-    site: SiteId,
     place: usize,
     controller: &mut Controller,
     history: &mut History,
@@ -42,24 +40,24 @@ pub(crate) fn take(
     event: Event,
 ) -> Result<Step, AllocError>
     requires place { place < length history.old.steps }
-    requires ready { IsReady topology.now controller.old }
-    requires edition { AreOfEdition topology.now history.old.journals }
-    ensures ready { IsReady topology.now controller.new }
-    ensures kept { AreKept topology.now history.old history.new }
-    ensures step { IfOk result (IsTaken site controller.old controller.new place history.old history.new links.old
+    requires ready { IsReady controller.old.topology controller.old }
+    requires edition { AreOfEdition controller.old.topology history.old.journals }
+    ensures ready { IsReady controller.old.topology controller.new }
+    ensures kept { AreKept controller.old.topology history.old history.new }
+    ensures step { IfOk result (IsTaken controller.old controller.new place history.old history.new links.old
         links.new event) }
 {
     if history.is_full(place) {
         return Ok(Step::Refused(Refused::Full));
     }
-    whole_law(topology);
+    whole_law(controller.topology());
     match controller.step(&event) {
         Ok(outcome) => {
             let done = Done {
                 sent: outcome.sent.as_slice().len(),
                 declared: outcome.declared,
             };
-            send_all(links, site, outcome.sent.as_slice())?;
+            send_all(links, controller.site(), outcome.sent.as_slice())?;
             history.add(place, event, outcome)?;
             Ok(Step::Taken(done))
         }

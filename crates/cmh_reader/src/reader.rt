@@ -67,7 +67,7 @@ impl FrameReader {
         ensures stays { (fault : ReadFault) → fault_of self.old.standing ≡ Some fault
             → (result ≡ Err fault) × (self.new ≡ self.old) }
 
-        // Want of memory comes only where there are new frames, changes nothing, and leaves its mark.
+        // Out of memory comes only where there are new frames, changes nothing, and leaves its mark.
         ensures wanted { result ≡ Err ReadFault.Memory → (stream : List ℕ) (frames : List Frame)
             → StandsFor self.old stream frames
             → HasMore self.old.edition self.old.senders (stream ++ piece.now) frames }

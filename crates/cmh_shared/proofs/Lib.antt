@@ -1,4 +1,5 @@
 pub mod Sites
+pub mod Queuing
 pub mod Paired
 pub mod Refill
 pub mod Fronts

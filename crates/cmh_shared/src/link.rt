@@ -1,9 +1,9 @@
 //! The site's end of one link.
 
-ghost use Rattle.std.specs.Prelude.{◌==◌, ◌≡◌, length, IfOk, OnOk};
+ghost use Rattle.std.specs.Prelude.{◌==◌, ◌≡◌, ◌+◌, ℕ, length, flat_map, IfOk, OnOk};
 
 use crate::tap::LinkTap;
-use cmh_frames::{Frame, SiteId};
+use cmh_frames::{Entry, Frame, SiteId};
 use rtrb::{Producer, RingBuffer};
 use std::alloc::{AllocError, Global};
 use std::collections::VecDeque;
@@ -51,11 +51,22 @@ impl Link {
         self.backlog.reserve(count)
     }
 
-    /// The frames for the link's site go to the end of the backlog. It takes no memory.
+    /// The frames of entries for the link's site go to the end of the backlog, in their order. It takes no memory.
+    pub fn queue_all(&mut self, entries: &[Entry])
+        requires { HasRoom (length (flat_map (λ entry. entry.sent) entries.now)) self.old }
+        ensures { seen self.new ≡ queued (flat_map (λ entry. entry.sent) entries.now) (seen self.old) }
+    {
+        for entry in entries {
+            self.queue(entry.sent.as_slice());
+        }
+    }
+
+    /// The same of one entry; what room it does not take is left.
     #[tactic(auto, using(crate::proofs::Sites::frames_to_here, crate::proofs::Sites::frames_to_other))]
-    pub fn queue(&mut self, sent: &[(SiteId, Frame)])
+    fn queue(&mut self, sent: &[(SiteId, Frame)])
         requires { HasRoom (length sent.now) self.old }
-        ensures { seen self.new ≡ queued sent.now (seen self.old) }
+        ensures backlog { seen self.new ≡ queued sent.now (seen self.old) }
+        ensures room { (more : ℕ) → HasRoom (length sent.now + more) self.old → HasRoom more self.new }
     {
         for (to, frame) in sent {
             if is_same(*to, self.to) {

@@ -1,13 +1,13 @@
 //! All links of a site.
 
-ghost use Rattle.std.specs.Prelude.{◌≡◌, ◌≤◌, length, map, All, IfOk, OnOk};
+ghost use Rattle.std.specs.Prelude.{◌≡◌, ◌≤◌, length, flat_map, map, All, IfOk, OnOk};
 ghost use Rattle.cmh_shared.specs.Backlogs.{AtEach, HasRoom, seen};
 ghost use Rattle.std.specs.List.{AllZip};
 ghost use Rattle.cmh_shared.specs.Links.{AreFresh, IsTapOf, Released, Through, ends_of, queued};
 
 use crate::link::Link;
 use crate::tap::LinkTap;
-use cmh_frames::{Frame, SiteId};
+use cmh_frames::{Entry, SiteId};
 use std::alloc::{AllocError, Global};
 use std::marker::Model;
 
@@ -49,23 +49,24 @@ impl Links {
         Ok((Links { links, reserved: 0 }, taps))
     }
 
-    /// Makes room in each backlog for so many more frames, so that a `queue` of them right after it takes no memory.
-    pub fn reserve(&mut self, count: usize) -> Result<(), AllocError>
+    /// Makes room in each backlog for the frames of entries, so that `queue_all` of them right after it takes no memory.
+    pub fn reserve_for(&mut self, entries: &[Entry]) -> Result<(), AllocError>
         ensures same { self.new.each ≡ self.old.each }
-        ensures room { OnOk result (count ≤ self.new.reserved) }
+        ensures room { OnOk result (length (flat_map (λ entry. entry.sent) entries.now) ≤ self.new.reserved) }
     {
+        let count = count_frames(entries)?;
         self.reserved = 0;
         reserve_each(self.links.as_mut_slice(), count)?;
         self.reserved = count;
         Ok(())
     }
 
-    /// Each frame goes to the end of the backlog of its site. It takes no memory.
-    pub fn queue(&mut self, sent: &[(SiteId, Frame)])
-        requires { length sent.now ≤ self.old.reserved }
-        ensures { self.new.each ≡ map (queued sent.now) self.old.each }
+    /// Each frame of the entries goes to the end of the backlog of its site, in their order. It takes no memory.
+    pub fn queue_all(&mut self, entries: &[Entry])
+        requires { length (flat_map (λ entry. entry.sent) entries.now) ≤ self.old.reserved }
+        ensures { self.new.each ≡ map (queued (flat_map (λ entry. entry.sent) entries.now)) self.old.each }
     {
-        queue_each(self.links.as_mut_slice(), sent);
+        queue_each(self.links.as_mut_slice(), entries);
         self.reserved = 0;
     }
 
@@ -87,6 +88,20 @@ impl Links {
     }
 }
 
+/// How many frames entries send. A count that doesn't fit is out of memory, too.
+fn count_frames(entries: &[Entry]) -> Result<usize, AllocError>
+    ensures { IfOk result (λ count. count ≡ length (flat_map (λ entry. entry.sent) entries.now)) }
+{
+    let mut count: usize = 0;
+    for entry in entries {
+        let Some(more) = count.checked_add(entry.sent.as_slice().len()) else {
+            return Err(AllocError);
+        };
+        count = more;
+    }
+    Ok(count)
+}
+
 fn reserve_each(links: &mut [Link], count: usize) -> Result<(), AllocError>
     ensures same { AtEach (λ a b. seen b ≡ seen a) links.old links.new }
     ensures room { OnOk result (All (HasRoom count) links.new) }
@@ -97,12 +112,13 @@ fn reserve_each(links: &mut [Link], count: usize) -> Result<(), AllocError>
     Ok(())
 }
 
-fn queue_each(links: &mut [Link], sent: &[(SiteId, Frame)])
-    requires { All (HasRoom (length sent.now)) links.old }
-    ensures { AtEach (λ a b. seen b ≡ queued sent.now (seen a)) links.old links.new }
+fn queue_each(links: &mut [Link], entries: &[Entry])
+    requires { All (HasRoom (length (flat_map (λ entry. entry.sent) entries.now))) links.old }
+    ensures { AtEach (λ a b. seen b ≡ queued (flat_map (λ entry. entry.sent) entries.now) (seen a))
+        links.old links.new }
 {
     for link in links.iter_mut() {
-        link.queue(sent);
+        link.queue_all(entries);
     }
 }
 

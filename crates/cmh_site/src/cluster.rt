@@ -22,9 +22,9 @@ use cmh_controller::Refusal;
 use cmh_files::run_audit;
 use cmh_frames::{Event, ProcId, SiteId, Topology};
 use cmh_host::{
-    ClosedLink, ClusterLine, Disk, JournalFolder, JournalSink, Opened, Ports, RunningSite, Setting,
-    SiteReply, Speakers, System, can_be_made, closed_in, closed_out, fault_of, open_station,
-    parse_for_cluster, read_setting, start_threads,
+    Carriers, ClosedLink, ClusterLine, Disk, JournalFolder, JournalSink, Opened, Ports,
+    RunningSite, Setting, SiteReply, Speakers, System, can_be_made, closed_in, closed_out,
+    fault_of, open_station, parse_for_cluster, read_setting, start_threads,
 };
 use cmh_journal::Sink;
 use cmh_links::LinkFault;
@@ -32,10 +32,7 @@ use cmh_station::{KeptBoard, Listing, StationRefusal};
 use std::alloc::{AllocError, Global};
 use std::fs::File;
 use std::io::{BufRead, ErrorKind, Write};
-use std::net::{Net, TcpListener, TcpStream};
-use std::rt::{Clock, Files};
-use std::sync::Wait;
-use std::thread::Threads;
+use std::rt::Files;
 use std::{fs, thread};
 
 /// How often it is looked whether all frames have come, before the sites are said not to settle.
@@ -43,6 +40,17 @@ const MOST_TURNS: u32 = 1_000_000;
 
 /// How many of these looks come without a pause before the next one.
 const BUSY_TURNS: u32 = 1_000;
+
+/// What all sites of a topology are run with.
+#[derive(Clone, Copy)]
+pub struct ClusterStart<'a> {
+    /// The bytes of the topology file.
+    pub topology: &'a [u8],
+    /// The bytes of the script.
+    pub script: &'a [u8],
+    /// The path of the folder for the journals.
+    pub dir: &'a str,
+}
 
 /// Runs all sites of a topology as threads, over TCP on 127.0.0.1, gives each line of the script to its site and waits
 /// until all frames have come, and then audits the journals that it wrote into the folder, as it reads them back.
@@ -52,44 +60,30 @@ const BUSY_TURNS: u32 = 1_000;
 /// A journal of an earlier run in the folder is replaced.
 pub fn run_cluster<R, W: Write, E: Write>(
     rt: R,
-    alloc: Global,
-    topology: &[u8],
-    script: &[u8],
-    dir: &str,
+    start: &ClusterStart<'_>,
     out: &mut Output<W>,
     err: &mut Output<E>,
 ) -> u8
 where
-    R: Wait
-        + Threads
-        + Clock
-        + Net<Listener = TcpListener, Stream = TcpStream>
-        + Files<File = File>
-        + AllocGlobal
-        + Copy
-        + Send
-        + Drop
-        + 'static,
+    R: System + Files<File = File> + AllocGlobal + Send + 'static,
     ensures status { IsStatus result }
 
     // The audit of what was read back stands after the answers to the script; or the sites did not settle, which is said;
     // or a fault is named that has its cause.
-    ensures ends { ClusterEnds topology.now script.now out.old out.new err.old err.new result }
+    ensures ends { ClusterEnds start.now.topology.now start.now.script.now out.old out.new err.old err.new result }
 
     // At status 0 the files that were read back were audited and accepted.
-    ensures audit { result ≡ 0 → EndsInAudit topology.now script.now out.old out.new err.old err.new result }
+    ensures audit { result ≡ 0
+        → EndsInAudit start.now.topology.now start.now.script.now out.old out.new err.old err.new result }
 {
     let nobody: Option<NoVoice> = None;
-    run_cluster_noting(rt, alloc, topology, script, dir, out, err, nobody)
+    run_cluster_noting(rt, start, out, err, nobody)
 }
 
 /// The same, where what the sites notice is told by a voice, if there is one, in a thread that nobody waits for.
 pub fn run_cluster_noting<R, W: Write, E: Write, V>(
     rt: R,
-    alloc: Global,
-    topology: &[u8],
-    script: &[u8],
-    dir: &str,
+    start: &ClusterStart<'_>,
     out: &mut Output<W>,
     err: &mut Output<E>,
     voice: Option<V>,
@@ -101,19 +95,20 @@ where
 
     // The audit of what was read back stands after the answers to the script; or the sites did not settle, which is said;
     // or a fault is named that has its cause.
-    ensures ends { ClusterEnds topology.now script.now out.old out.new err.old err.new result }
+    ensures ends { ClusterEnds start.now.topology.now start.now.script.now out.old out.new err.old err.new result }
 
     // At status 0 the files that were read back were audited and accepted.
-    ensures audit { result ≡ 0 → EndsInAudit topology.now script.now out.old out.new err.old err.new result }
+    ensures audit { result ≡ 0
+        → EndsInAudit start.now.topology.now start.now.script.now out.old out.new err.old err.new result }
 {
-    let noting = match Noting::start(rt, alloc, voice) {
+    let noting = match Noting::start(rt, rt.alloc(), voice) {
         Ok(noting) => noting,
         Err(AllocError) => return Fault::Memory.name_on(err),
     };
-    let played = cluster_into(rt, alloc, topology, script, dir, out, &noting);
+    let played = cluster_into(rt, start, out, &noting);
     noting.end(&rt);
     match played {
-        Ok(Played::Read(journals)) => run_audit(alloc, topology, &journals, out, err),
+        Ok(Played::Read(journals)) => run_audit(rt.alloc(), start.topology, &journals, out, err),
         Ok(Played::NotSettled) => 1,
         Err(fault) => fault.name_on(err),
     }
@@ -124,29 +119,27 @@ where
 enum Played {
     /// The files of all journals, ascending by site, as they were read back.
     Read(Vec<Vec<u8>>),
-    /// Behind a line frames did not come.
+    /// After a line frames did not come.
     NotSettled,
 }
 
 /// Plays the script, and reads the journals back or says that the sites did not settle.
 fn cluster_into<R, W: Write>(
     rt: R,
-    alloc: Global,
-    topology: &[u8],
-    script: &[u8],
-    dir: &str,
+    start: &ClusterStart<'_>,
     out: &mut Output<W>,
     noting: &Noting,
 ) -> Result<Played, Fault>
 where
     R: System + Files<File = File> + AllocGlobal + Send + 'static,
-    ensures played { IfOk result (ComesTo topology.now script.now out.old.written out.new.written out.new.is_flushed) }
-    ensures fault { IfErr result (IsClusterFault topology.now script.now out.old.written
+    ensures played { IfOk result (ComesTo start.now.topology.now start.now.script.now out.old.written out.new.written
+        out.new.is_flushed) }
+    ensures fault { IfErr result (IsClusterFault start.now.topology.now start.now.script.now out.old.written
         out.new.written out.new.has_failed) }
 {
-    let setting = read_setting(alloc, topology)?;
-    match run_sites(rt, alloc, &setting, script, dir, out, noting)? {
-        Flow::Awaits => Ok(Played::Read(read_back(&rt, alloc, &setting.world, dir)?)),
+    let setting = read_setting(rt.alloc(), start.topology)?;
+    match run_sites(rt, &setting, start, out, noting)? {
+        Flow::Awaits => Ok(Played::Read(read_back(&rt, &setting.world, start.dir)?)),
         Flow::Ends => {
             say_not_settled(out)?;
             Ok(Played::NotSettled)
@@ -169,20 +162,20 @@ fn say_not_settled<W: Write>(out: &mut Output<W>) -> Result<(), Fault>
 /// is the last one that was answered.
 fn run_sites<R, W: Write>(
     rt: R,
-    alloc: Global,
     setting: &Setting,
-    script: &[u8],
-    dir: &str,
+    start: &ClusterStart<'_>,
     out: &mut Output<W>,
     noting: &Noting,
 ) -> Result<Flow, Fault>
 where
-    R: System + Files<File = File> + Send + 'static,
-    ensures played { IfOk result (HasPlayed setting.now.world script.now out.old.written out.new.written) }
-    ensures fault { IfErr result (IsRunFault setting.now.world script.now out.old.written out.new.written out.new.has_failed) }
+    R: System + Files<File = File> + AllocGlobal + Send + 'static,
+    ensures played { IfOk result
+        (HasPlayed setting.now.world start.now.script.now out.old.written out.new.written) }
+    ensures fault { IfErr result (IsRunFault setting.now.world start.now.script.now out.old.written out.new.written
+        out.new.has_failed) }
 {
-    let mut cluster = Cluster::new(rt, alloc, &setting.world, noting)?;
-    let played = cluster.play(&setting.ports, dir, script, out);
+    let mut cluster = Cluster::new(rt, rt.alloc(), &setting.world, noting)?;
+    let played = cluster.play(&setting.ports, start.dir, start.script, out);
     cluster.stop();
     played
 }
@@ -190,13 +183,13 @@ where
 /// The files of all journals, ascending by site.
 fn read_back<R: Files<File = File> + AllocGlobal>(
     rt: &R,
-    alloc: Global,
     world: &Topology,
     dir: &str,
 ) -> Result<Vec<Vec<u8>>, Fault>
     ensures one_each { IfOk result (λ journals. length journals.items ≡ length (sites_of world.now)) }
     ensures fault { IfErr result (λ fault. (fault ≡ Fault.OutFile) ⊎ (fault ≡ Fault.Memory)) }
 {
+    let alloc = rt.alloc();
     let mut journals = Vec::with_capacity(alloc, world.sites().len())?;
     for site in world.sites() {
         let path = path_in(alloc, dir, *site)?;
@@ -336,24 +329,23 @@ where
         ensures topology { self.new.topology ≡ self.old.topology }
         ensures fault { IfErr result IsStartFault }
     {
-        let (speakers, dial) = self.prepare(ports, opened.site(), &listen)?;
-        let (rt, topology) = (self.rt, self.topology);
-        let member = start_threads(rt, self.alloc, topology, opened, listen, dial, speakers)?;
+        let carriers = self.prepare(ports, opened.site(), listen)?;
+        let member = start_threads(self.rt, self.alloc, self.topology, opened, carriers)?;
         self.members.push_reserved(member);
         Ok(())
     }
 
-    /// What the threads of a site need besides its station and its port, and a place for it among the members.
+    /// What the threads of a site work with besides its station, and a place for it among the members.
     fn prepare(
         &mut self,
         ports: &Ports,
         site: SiteId,
-        listen: &TcpListen<R>,
-    ) -> Result<(Speakers, TcpDial<R>), Fault>
+        listen: TcpListen<R>,
+    ) -> Result<Carriers<R>, Fault>
         ensures topology { self.new.topology ≡ self.old.topology }
         ensures place { OnOk result (vec_len self.new.members < vec_capacity self.new.members) }
-        ensures listens { OnOk result (listen.now.faults ≡ 0) }
-        ensures dials { IfOk result (λ ready. ready.1.faults ≡ 0) }
+        ensures listens { IfOk result (λ carriers. carriers.listen.faults ≡ 0) }
+        ensures dials { IfOk result (λ carriers. carriers.dial.faults ≡ 0) }
         ensures fault { IfErr result IsStartFault }
     {
         if listen.faults() != 0 {
@@ -367,7 +359,11 @@ where
             threads: self.noting.speaker(origin)?,
         };
         let dial = TcpDial::new(self.rt, ports.pairs(self.alloc)?);
-        Ok((speakers, dial))
+        Ok(Carriers {
+            listen,
+            dial,
+            speakers,
+        })
     }
 
     /// Listens for all sites. Where a port is taken and a journal can't be made, the journal is named.
@@ -432,15 +428,12 @@ where
     ) -> Result<Opened<R>, Fault>
         ensures { IfErr result IsStartFault }
     {
-        match folder.replace(self.alloc, dir, site) {
-            Ok(sink) => open_station(
-                self.rt,
-                self.alloc,
-                self.topology,
-                site,
-                sink,
-                Fault::OutFile,
-            ),
+        let sink = match folder.replace(self.alloc, dir, site) {
+            Ok(sink) => sink,
+            Err(refused) => return Err(fault_of(refused, Fault::OutFile)),
+        };
+        match open_station(self.rt, self.alloc, self.topology, site, sink) {
+            Ok(opened) => Ok(opened),
             Err(refused) => Err(fault_of(refused, Fault::OutFile)),
         }
     }

@@ -6,7 +6,7 @@ mod cluster;
 mod settling;
 mod site;
 
-pub use crate::cluster::{run_cluster, run_cluster_noting};
+pub use crate::cluster::{ClusterStart, run_cluster, run_cluster_noting};
 pub use crate::site::{run_site, run_site_noting};
 pub use cmh_carriers::{NoVoice, Note, Noted, Voice};
 pub use cmh_console::{

@@ -23,11 +23,7 @@ use cmh_station::{BATCH_LIMIT, KeptBoard, Listing};
 use std::alloc::{AllocError, Global};
 use std::fs::File;
 use std::io::{BufRead, Write};
-use std::net::{Net, TcpListener, TcpStream};
 use std::rt::Files;
-use std::sync::Wait;
-use std::thread::Threads;
-use std::time::{Clock, Duration};
 
 /// Runs one site of a topology until `quit` or the end of its input, and answers the status of the program: 0 then, 1 where
 /// memory ran out, 3 at any other fault. A fault is named on `err`, and a write to it that fails is ignored.
@@ -38,59 +34,13 @@ use std::time::{Clock, Duration};
 /// free.
 pub fn run_site<R, I: BufRead + Ahead, W: Write, E: Write>(
     rt: R,
-    alloc: Global,
-    topology: &[u8],
-    site: SiteId,
-    journal: &str,
-    input: &mut Input<I>,
-    out: &mut Output<W>,
-    err: &mut Output<E>,
-) -> u8
-where
-    R: Wait
-        + Threads
-        + Clock
-        + Net<Listener = TcpListener, Stream = TcpStream>
-        + Files<File = File>
-        + Copy
-        + Send
-        + Drop
-        + 'static,
-    ensures status { IsStatus result }
-
-    // At status 0 it said that it listens, answered each line in its order, and said that it stopped.
-    ensures served { result ≡ 0 → IfSome input.old.left (λ bytes. Served site bytes out.old.written out.new.written) }
-    ensures flushed { result ≡ 0 → out.new.is_flushed ≡ true }
-    ensures silent { result ≡ 0 → err.new ≡ err.old }
-
-    // Else a fault is named that has a cause.
-    ensures fault { result ≢ 0 → NamesFault
-        (IsSiteFault topology.now site input.old.left input.new.has_failed out.new.has_failed)
-        result err.old err.new }
-{
-    let nobody: Option<NoVoice> = None;
-    let start = SiteStart {
-        topology,
-        site,
-        journal,
-        patience: Duration::ZERO,
-    };
-    run_site_noting(rt, alloc, &start, input, out, err, nobody)
-}
-
-/// The same, where what the site notices is told by a voice, if there is one, in a thread that nobody waits for.
-pub fn run_site_noting<R, I: BufRead + Ahead, W: Write, E: Write, V>(
-    rt: R,
-    alloc: Global,
     start: &SiteStart<'_>,
     input: &mut Input<I>,
     out: &mut Output<W>,
     err: &mut Output<E>,
-    voice: Option<V>,
 ) -> u8
 where
-    R: System + Files<File = File> + Send + 'static,
-    V: Voice + Send + Drop + 'static,
+    R: System + Files<File = File> + AllocGlobal + Send + 'static,
     ensures status { IsStatus result }
 
     // At status 0 it said that it listens, answered each line in its order, and said that it stopped.
@@ -104,35 +54,56 @@ where
         (IsSiteFault start.now.topology.now start.now.site input.old.left input.new.has_failed out.new.has_failed)
         result err.old err.new }
 {
-    let noting = match Noting::start(rt, alloc, voice) {
-        Ok(noting) => noting,
-        Err(AllocError) => return Fault::Memory.name_on(err),
-    };
-    let served = site_into(rt, alloc, start, input, out, &noting);
-    noting.end(&rt);
-    match served {
+    let nobody: Option<NoVoice> = None;
+    match run_site_noting(rt, start, input, out, nobody) {
         Ok(()) => 0,
         Err(fault) => fault.name_on(err),
     }
 }
 
+/// The same, where a fault is answered, and what the site notices is told by a voice, if there is one, in a thread that
+/// nobody waits for.
+pub fn run_site_noting<R, I: BufRead + Ahead, W: Write, V>(
+    rt: R,
+    start: &SiteStart<'_>,
+    input: &mut Input<I>,
+    out: &mut Output<W>,
+    voice: Option<V>,
+) -> Result<(), Fault>
+where
+    R: System + Files<File = File> + AllocGlobal + Send + 'static,
+    V: Voice + Send + Drop + 'static,
+    // It said that it listens, answered each line in its order, and said that it stopped.
+    ensures served { OnOk result (IfSome input.old.left
+        (λ bytes. Served start.now.site bytes out.old.written out.new.written)) }
+    ensures flushed { OnOk result (out.new.is_flushed ≡ true) }
+
+    // The fault has a cause.
+    ensures fault { IfErr result
+        (IsSiteFault start.now.topology.now start.now.site input.old.left input.new.has_failed out.new.has_failed) }
+{
+    let noting = Noting::start(rt, rt.alloc(), voice)?;
+    let served = site_into(rt, start, input, out, &noting);
+    noting.end(&rt);
+    served
+}
+
 fn site_into<R, I: BufRead + Ahead, W: Write>(
     rt: R,
-    alloc: Global,
     start: &SiteStart<'_>,
     input: &mut Input<I>,
     out: &mut Output<W>,
     noting: &Noting,
 ) -> Result<(), Fault>
 where
-    R: System + Files<File = File> + Send + 'static,
+    R: System + Files<File = File> + AllocGlobal + Send + 'static,
     ensures served { OnOk result (IfSome input.old.left
         (λ bytes. Served start.now.site bytes out.old.written out.new.written)) }
     ensures flushed { OnOk result (out.new.is_flushed ≡ true) }
     ensures fault { IfErr result
         (IsSiteFault start.now.topology.now start.now.site input.old.left input.new.has_failed out.new.has_failed) }
 {
-    let Setting { world, ports } = read_setting(alloc, start.topology)?;
+    let Setting { world, ports } = read_setting(rt.alloc(), start.topology)?;
     if !world.has_site(start.site) {
         return Err(Fault::Site);
     }
@@ -143,7 +114,7 @@ where
         journal: start.journal,
         patience: start.patience,
     };
-    let mut host = SiteHost::start(rt, alloc, &setup, noting)?;
+    let mut host = SiteHost::start(rt, rt.alloc(), &setup, noting)?;
     let answered = host.serve(input, out);
     host.stop();
     answered?;

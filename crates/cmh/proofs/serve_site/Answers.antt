@@ -6,29 +6,42 @@ pub returns-in-Err-clause-serves_some : goal.returns-in-Err-clause-serves_some
 returns-in-Err-clause-serves_some g c = inl (0, search rules)
 
 pub returns-clause-serves_some : goal.returns-clause-serves_some
-returns-clause-serves_some g c = inl (
-  c.in-Some.site,
-  inl (
-    _,
-    record {
-      served = c.run_site_noting.ensures.served;
-      flushed = c.run_site_noting.ensures.flushed;
-      silent = λ done. search rules;
-      fault = c.run_site_noting.ensures.fault;
-    },
-  ),
-)
+returns-clause-serves_some g c =
+    let named = c.name_on-in-Err-run_site_noting.ensures in
+    inl (
+      c.in-Some.site,
+      inl (
+        _,
+        record {
+          served = λ done. absurd (named.fails done);
+          flushed = λ done. absurd (named.fails done);
+          silent = λ done. absurd (named.fails done);
+          fault = λ failed. record {
+            fault = c.in-Err-run_site_noting.fault;
+            cause = c.in-Err-run_site_noting.ensures.fault;
+            status_is = named.status;
+            named = named.named;
+          };
+        },
+      ),
+    )
 
 pub returns-clause-serves : goal.returns-clause-serves
 returns-clause-serves g c = λ site is told.
-    subst (λ (s : ℕ). ServesSite s c.args.input.now c.run_site_noting.new.input c.args.out.now c.run_site_noting.new.out c.args.err.now c.run_site_noting.new.err c.run_site_noting.result)
+    let named = c.name_on-in-Err-run_site_noting.ensures in
+    subst (λ (s : ℕ). ServesSite s c.args.input.now c.run_site_noting.new.input c.args.out.now c.run_site_noting.new.out c.args.err.now c.name_on-in-Err-run_site_noting.new.err c.name_on-in-Err-run_site_noting.result)
     (c.in-Some.ensures.1 ∙ c.number_of.ensures site is told)
     (inl (
       _,
       record {
-        served = c.run_site_noting.ensures.served;
-        flushed = c.run_site_noting.ensures.flushed;
-        silent = λ done. search rules;
-        fault = c.run_site_noting.ensures.fault;
+        served = λ done. absurd (named.fails done);
+        flushed = λ done. absurd (named.fails done);
+        silent = λ done. absurd (named.fails done);
+        fault = λ failed. record {
+          fault = c.in-Err-run_site_noting.fault;
+          cause = c.in-Err-run_site_noting.ensures.fault;
+          status_is = named.status;
+          named = named.named;
+        };
       },
     ))

@@ -1,4 +1,4 @@
-use Rattle.std.proofs.Common.{◌≡◌, ◌+◌, ℕ, List, [], ◌∷◌, set, drop, length, replicate, None, Some, subst, subst₂, sym, ap, ◌∙◌, arith, length-append, rules}
+use Rattle.std.proofs.Common.{◌≡◌, ◌+◌, ℕ, List, [], ◌∷◌, set, drop, length, replicate, Some, subst, subst₂, sym, ap, ◌∙◌, arith, length-append, rules}
 use Rattle.cmh_journal.specs.Journal.{Journal}
 use Rattle.cmh_audit.specs.declared.step.Step.{Step}
 use Rattle.cmh_audit.specs.Inner.Places.{OneEach}
@@ -16,14 +16,13 @@ pub loop-turn-init : goal.loop-turn-init
 loop-turn-init c =
     let js = c.args.journals.now in
     let zeros : c.in_ok-taken.taken.items ≡ replicate (length c.args.journals.now) 0 = search rules in
-    let none : c.in_ok-lacks.lacks.items ≡ replicate (length c.args.journals.now) None = search rules in
     let ready = with_turn c.last_of-turn.result c.last_of-turn.new.ready.items in
-    let places = subst (λ r. ArePlaces r (length js)) (sym c.last_of-turn.ensures.list) c.in_ok-ready.ensures in
-    let L : List ℕ → Type 0 = λ counts. Listed c.args.topology.now js c.args.limits.now counts c.new-links.result c.in_ok-lacks.lacks.items ready 0 in
+    let places = subst (λ r. ArePlaces r (length js)) (sym c.last_of-turn.ensures.list) c.in_ok-schedule.ensures.ready in
+    let L : List ℕ → Type 0 = λ counts. Listed c.args.topology.now js c.args.limits.now counts c.new-links.result c.in_ok-schedule.schedule.lacks.items ready 0 in
     let A : List ℕ → Type 0 = λ counts. AreLeftAt js counts c.in_ok-walks.walks.items in
     let O : List ℕ → List Step → Type 0 = λ counts steps. IsKept c.args.keeps_order c.args.topology.now js counts steps in
     record {
-      listed = subst L (sym zeros) (listed_start c.args.topology.now js c.args.limits.now c.new-links.result c.in_ok-lacks.lacks.items ready c.new-links.ensures none places);
+      listed = subst L (sym zeros) (listed_start c.args.topology.now js c.args.limits.now c.new-links.result c.in_ok-schedule.schedule.lacks.items ready c.new-links.ensures c.in_ok-schedule.ensures.lacks places);
       last = c.last_of-turn.ensures.none;
       left = subst A (sym zeros) (left_start js c.in_ok-walks.walks.items c.in_ok-walks.ensures);
       kept = subst₂ O (sym zeros) (sym c.new-steps.ensures.items) (kept_start c.args.keeps_order c.args.topology.now js);

@@ -7,5 +7,5 @@ use Rattle.cmh_draw.proofs.arrows.add_from_site.Given as goal
 
 abbrev pub invariant-loop-row : goal.invariant-loop-row
 invariant-loop-row l =
-    l.all.items ++ each_from (λ row site. inner.to_site l.journals (spot_of l.columns l.from.row l.from.site) (spot_of l.columns row site) l.from.site site) l.row (drop l.row (sites_of l.topology))
-    ≡ l.fn.all.items ++ each_from (λ row site. inner.to_site l.journals (spot_of l.columns l.from.row l.from.site) (spot_of l.columns row site) l.from.site site) 0 (sites_of l.topology)
+    l.all.items ++ each_from (λ row site. inner.to_site l.run.journals.now (spot_of l.run.columns.now l.from.row l.from.site) (spot_of l.run.columns.now row site) l.from.site site) l.row (drop l.row (sites_of l.run.topology.now))
+    ≡ l.fn.all.items ++ each_from (λ row site. inner.to_site l.run.journals.now (spot_of l.run.columns.now l.from.row l.from.site) (spot_of l.run.columns.now row site) l.from.site site) 0 (sites_of l.run.topology.now)

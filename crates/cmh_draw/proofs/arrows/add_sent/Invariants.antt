@@ -7,5 +7,5 @@ use Rattle.cmh_draw.proofs.arrows.add_sent.Given as goal
 
 abbrev pub invariant-loop-i : goal.invariant-loop-i
 invariant-loop-i l =
-    l.all.items ++ each_from (λ number (e : Entry). inner.sent_by l.topology l.way (spec.spot_of l.columns l.from.row l.from.site number) e.sent) (l.i + 1) (drop l.i l.entries)
-    ≡ l.fn.all.items ++ spec.sent_where (inner.is_on l.topology l.way) (spec.spot_of l.columns l.from.row l.from.site) l.entries
+    l.all.items ++ each_from (λ number (e : Entry). inner.sent_by l.run.topology.now l.way (spec.spot_of l.run.columns.now l.from.row l.from.site number) e.sent) (l.i + 1) (drop l.i l.entries)
+    ≡ l.fn.all.items ++ spec.sent_where (inner.is_on l.run.topology.now l.way) (spec.spot_of l.run.columns.now l.from.row l.from.site) l.entries

@@ -7,5 +7,5 @@ use Rattle.cmh_draw.proofs.arrows.arrows_of.Given as goal
 
 abbrev pub invariant-loop-row : goal.invariant-loop-row
 invariant-loop-row l =
-    l.all.items ++ each_from (λ row site. inner.from_site l.topology l.journals l.columns row site) l.row (drop l.row (sites_of l.topology))
-    ≡ spec.arrows_of l.topology l.journals l.columns
+    l.all.items ++ each_from (λ row site. inner.from_site l.run.topology.now l.run.journals.now l.run.columns.now row site) l.row (drop l.row (sites_of l.run.topology.now))
+    ≡ spec.arrows_of l.run.topology.now l.run.journals.now l.run.columns.now

@@ -8,5 +8,5 @@ use Rattle.cmh_draw.proofs.running.add_all_entries.Given as goal
 
 abbrev pub invariant-loop-row : goal.invariant-loop-row
 invariant-loop-row l =
-    l.marks.items ++ each_from (λ row site. inner.entry_marks l.columns row site (journal_of l.journals site)) l.row (drop l.row (sites_of l.topology))
-    ≡ l.fn.marks.items ++ spec.entry_marks l.topology l.journals l.columns
+    l.marks.items ++ each_from (λ row site. inner.entry_marks l.run.columns.now row site (journal_of l.run.journals.now site)) l.row (drop l.row (sites_of l.run.topology.now))
+    ≡ l.fn.marks.items ++ spec.entry_marks l.run.topology.now l.run.journals.now l.run.columns.now

@@ -6,5 +6,5 @@ use Rattle.cmh_draw.proofs.running.add_entries.Given as goal
 
 abbrev pub invariant-loop-i : goal.invariant-loop-i
 invariant-loop-i l =
-    l.marks.items ++ each_from (λ number (e : Entry). inner.entry_mark l.columns l.row l.site number e ∷ []) (l.i + 1) (drop l.i l.entries)
-    ≡ l.fn.marks.items ++ inner.entry_marks l.columns l.row l.site l.entries
+    l.marks.items ++ each_from (λ number (e : Entry). inner.entry_mark l.run.columns.now l.line.row l.line.site number e ∷ []) (l.i + 1) (drop l.i l.entries)
+    ≡ l.fn.marks.items ++ inner.entry_marks l.run.columns.now l.line.row l.line.site l.entries

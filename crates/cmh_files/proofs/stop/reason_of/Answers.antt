@@ -10,11 +10,11 @@ use Rattle.cmh_files.proofs.stop.reason_of.Goals as goal
 pub returns-in-Some : goal.returns-in-Some
 returns-in-Some c =
     let t = c.args.topology.now in
-    let s = c.args.site in
+    let s = c.args.stop.0 in
     let js = c.args.journals.now in
     let stops = c.args.stops.now in
     let e = c.index-entries_at-number.result in
-    let read = entry_read t js stops s c.args.number c.entries_at.result.now e c.requires.stops c.requires.one c.entries_at.ensures.value c.index-entries_at-number.is in
+    let read = entry_read t js stops s c.args.stop.1 c.entries_at.result.now e c.requires.stops c.requires.one c.entries_at.ensures.value c.index-entries_at-number.is in
     let fault = subst (λ (found : Option Reason). MatchOption found (Makes t s (value t s c.before_stop-before.result.now) e.event e.sent e.declared)
     (IsOwnFault t s (value t s c.before_stop-before.result.now) e)) c.in-Some.is c.in_ok-fault.ensures in
     let held = subst (λ (l : List Entry). IsOwnFault t s (value t s l) e c.in-Some.fault) c.before_stop-before.ensures fault in
@@ -23,26 +23,26 @@ returns-in-Some c =
 pub unreachable-requires : goal.unreachable-requires
 unreachable-requires c =
     let t = c.args.topology.now in
-    let s = c.args.site in
+    let s = c.args.stop.0 in
     let js = c.args.journals.now in
     let stops = c.args.stops.now in
     let e = c.index-entries_at-number.result in
-    let read = entry_read t js stops s c.args.number c.entries_at.result.now e c.requires.stops c.requires.one c.entries_at.ensures.value c.index-entries_at-number.is in
+    let read = entry_read t js stops s c.args.stop.1 c.entries_at.result.now e c.requires.stops c.requires.one c.entries_at.ensures.value c.index-entries_at-number.is in
     let made = subst (λ (found : Option Reason). MatchOption found (Makes t s (value t s c.before_stop-before.result.now) e.event e.sent e.declared)
     (IsOwnFault t s (value t s c.before_stop-before.result.now) e)) c.in_default.is c.in_ok-fault.ensures in
     let makes = subst (λ (l : List Entry). Makes t s (value t s l) e.event e.sent e.declared) c.before_stop-before.ensures made in
-    got_some t c.growing_law.ensures.grows js stops c.requires.stops s c.args.number c.requires.one e read.within read.is makes
+    got_some t c.growing_law.ensures.grows js stops c.requires.stops s c.args.stop.1 c.requires.one e read.within read.is makes
     (no_frame e.event c.in_default-event.not-Got)
 
 pub returns : goal.returns
 returns c =
     let t = c.args.topology.now in
-    let s = c.args.site in
+    let s = c.args.stop.0 in
     let js = c.args.journals.now in
     let stops = c.args.stops.now in
     let from = c.in-Got.from in
     let e = c.index-entries_at-number.result in
-    let read = entry_read t js stops s c.args.number c.entries_at.result.now e c.requires.stops c.requires.one c.entries_at.ensures.value c.index-entries_at-number.is in
+    let read = entry_read t js stops s c.args.stop.1 c.entries_at.result.now e c.requires.stops c.requires.one c.entries_at.ensures.value c.index-entries_at-number.is in
     let made = subst (λ (found : Option Reason). MatchOption found (Makes t s (value t s c.before_stop-before.result.now) e.event e.sent e.declared)
     (IsOwnFault t s (value t s c.before_stop-before.result.now) e)) c.in_default.is c.in_ok-fault.ensures in
     let makes = subst (λ (l : List Entry). Makes t s (value t s l) e.event e.sent e.declared) c.before_stop-before.ensures made in
@@ -51,7 +51,7 @@ returns c =
     ∙ ap (λ (l : List Entry). slice_get (sendings_of s l) (length (receipts_of from c.before_stop-before.result.now))) (sym c.before_stop-sender.ensures)
     ∙ sym c.in_ok-next.ensures in
     let other : c.in_ok-next.next ≢ Some c.in-Got.frame = λ h.
-    not_next t c.growing_law.ensures.grows js stops c.requires.stops s c.args.number c.requires.one e read.within read.is makes from c.in-Got.frame c.in-Got.is (next ∙ h) in (
+    not_next t c.growing_law.ensures.grows js stops c.requires.stops s c.args.stop.1 c.requires.one e read.within read.is makes from c.in-Got.frame c.in-Got.is (next ∙ h) in (
       e,
       read.stands,
       subst (λ (reason : Reason). IsReason t (held_before js stops) s e reason) (sym c.awaited.ensures)

@@ -8,7 +8,7 @@ pub returns-in_err-read_back-in-Awaits-clause-fault : goal.returns-in_err-read_b
 returns-in_err-read_back-in-Awaits-clause-fault g c =
     let world = c.in_ok-setting.setting.world in
     unread_back _ _ world _ _ _ c.from_residual-in_err-read_back-in-Awaits.result c.in_err-read_back-in-Awaits.field-0.0 c.in_ok-setting.ensures.world
-    (subst (λ (flow : Flow). HasPlayed world c.args.script.now c.args.out.now.written c.run_sites.new.out.written flow) c.in-Awaits.is c.in_ok-run_sites.ensures.played)
+    (subst (λ (flow : Flow). HasPlayed world c.args.start.now.script.now c.args.out.now.written c.run_sites.new.out.written flow) c.in-Awaits.is c.in_ok-run_sites.ensures.played)
     c.from_residual-in_err-read_back-in-Awaits.ensures.1 c.in_err-read_back-in-Awaits.ensures.fault
 
 pub returns-clause-played : goal.returns-clause-played
@@ -19,7 +19,7 @@ returns-clause-played g c =
         c.in_ok-setting.ensures.world,
         (
           c.run_sites.new.out.written,
-          subst (λ (flow : Flow). HasPlayed world c.args.script.now c.args.out.now.written c.run_sites.new.out.written flow) c.in-Ends.is c.in_ok-run_sites.ensures.played,
+          subst (λ (flow : Flow). HasPlayed world c.args.start.now.script.now c.args.out.now.written c.run_sites.new.out.written flow) c.in-Ends.is c.in_ok-run_sites.ensures.played,
           c.in_ok-say_not_settled-in-Ends.ensures.said,
         ),
       ),

@@ -1,6 +1,4 @@
 use Rattle.std.proofs.Common.{Bool, subst}
-use Rattle.std.proofs.KnownBytes.{Appends-kept}
-use Rattle.cmh_play.proofs.KeptPlays.{unkept_err}
 use Rattle.cmh_play.specs.PlayStates.{PlayState}
 use Rattle.cmh_play.specs.Play.{Replies}
 use Rattle.cmh_play.specs.Showing.{LeadsOn}
@@ -15,17 +13,9 @@ returns-clause-answers g c = λ state shown of.
       state = later.state;
       shows = later.shows;
       holds = record {
-        answers = record {
-          said = c.in_ok-said.said;
-          reply = c.in_ok-reply.reply;
-          says = c.in_ok-said.ensures;
-          replies = later.holds;
-          wrote = Appends-kept _ _ _ _ c.in_ok-write_reply.ensures.bytes c.in_ok-flush_awaited.ensures.bytes;
-        };
+        said = c.in_ok-said.said;
+        says = c.in_ok-said.ensures;
+        replies = later.holds;
         keeps = c.in_ok-keep_for.ensures.kept later.state later.shows;
       };
     }
-
-pub returns-in_err-keep_for-clause-fault : goal.returns-in_err-keep_for-clause-fault
-returns-in_err-keep_for-clause-fault g c =
-    unkept_err _ _ _ c.from_residual-in_err-keep_for.result c.in_err-keep_for.field-0.0 c.from_residual-in_err-keep_for.ensures.1 c.in_err-keep_for.ensures.fault

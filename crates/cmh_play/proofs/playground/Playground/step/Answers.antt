@@ -13,7 +13,7 @@ returns c =
     let old = c.index_mut.result.now in
     let held : Held = record { topology = c.self.inside.topology; controllers = c.self.inside.controllers.items; history = c.self.inside.history; links = c.self.inside.links } in
     let new : Held = record { topology = held.topology; controllers = set held.controllers place c.take.new.controller; history = c.take.new.history; links = c.take.new.links } in
-    IfOk-weaker c.take.result (λ (step : Step). IsTaken s old c.take.new.controller place held.history c.take.new.history held.links c.take.new.links c.args.event step)
+    IfOk-weaker c.take.result (λ (step : Step). IsTaken old c.take.new.controller place held.history c.take.new.history held.links c.take.new.links c.args.event step)
     (λ (step : Step). Leads (λ (before later : World). IsWorldStep before later s c.args.event step) c.args.self.now new)
     (λ step taken keeps world shown.
     step_shown keeps world held (subst (λ (h : Held). Shows keeps world h) (sym c.self.view_is) shown) s place c.place_of-place.ensures.within c.place_of-place.ensures.site

@@ -1,8 +1,7 @@
-use Rattle.std.proofs.Common.{rules, ◌≡◌, ◌+◌, ◌<◌, ◌∷◌, [], ℕ, length, get_or, take, arith, ◌∙◌, ap, sym, append_assoc}
+use Rattle.std.proofs.Common.{◌≡◌, ◌-◌, ◌≤◌, ◌∷◌, [], ℕ, length, get_or, take, arith, ◌∙◌, ap, sym, append_assoc}
 use Rattle.std.proofs.lemmas.Bool.{eqb-true, eqb-false}
 use Rattle.std.specs.VecDeque.{deque_len, deque_capacity}
 use Rattle.cmh_frames.specs.declared.frame.Frame.{Frame}
-use Rattle.cmh_frames.specs.declared.frame.Frame.TheVariants.{Request}
 use Rattle.cmh_shared.specs.declared.link.Link.{Link}
 use Rattle.cmh_frames.specs.Journals.{frames_to}
 use Rattle.cmh_shared.proofs.Sites.{frames_to_here, frames_to_other}
@@ -16,6 +15,7 @@ loop-to-preserved c =
     let frame : (get_or c.args.sent.now c.loop-to.to-index d).1 ≡ d.1 = ap (λ (x : ℕ × Frame). x.1) at in
     let to : (get_or c.args.sent.now c.loop-to.to-index d).0 ≡ d.0 = ap (λ (x : ℕ × Frame). x.0) at in
     let i = c.loop-to.to-index in
+    let room : length c.args.sent.now ≤ deque_capacity c.args.self.now.backlog - deque_len c.args.self.now.backlog = c.requires in
     elim c.if-is_same.branch [
       | then-is_same w ↦
           let here = frames_to_here c.args.self.now.to c.args.sent.now i d c.loop-to-test.true (to ∙ (eqb-true d.0 c.loop-to.self.to (sym c.is_same.ensures ∙ w.if-is_same.true) ∙ c.loop-to.invariant.to)) in
@@ -40,3 +40,8 @@ loop-to-preserved c =
             room = omega arith;
           }
     ]
+
+pub returns-clause-room : goal.returns-clause-room
+returns-clause-room c = λ more h.
+    let ended : length c.args.sent.now ≤ c.loop-to.to-index = c.loop-to-test.false in
+    omega (arith, h, c.loop-to.invariant.room, ended)

@@ -8,5 +8,6 @@ invariant-loop-to l = record {
   to : l.self.to ≡ l.initial.self.to;
   producer : l.self.producer ≡ l.initial.self.producer;
   backlog : l.self.backlog.items ≡ l.initial.self.backlog.items ++ frames_to l.initial.self.to (take l.to-index l.sent);
-  room : length l.sent - l.to-index ≤ deque_capacity l.self.backlog - deque_len l.self.backlog;
+  room : length l.sent - l.to-index + (deque_capacity l.initial.self.backlog - deque_len l.initial.self.backlog)
+      ≤ (deque_capacity l.self.backlog - deque_len l.self.backlog) + length l.sent;
 }
