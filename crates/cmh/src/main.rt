@@ -18,8 +18,9 @@ ghost use Rattle.cmh_console.specs.Status.{IsStatus};
 use clap::{ArgMatches, Error, error};
 use cmh_carriers::{Noted, Voice};
 use cmh_commands::{
-    AUDIT, CLUSTER, DRAW, Help, JOURNAL, JOURNALS, NOTES, OUT, PATIENCE, PLAY, PORT, QUIET, SERVE,
-    SHOW, SITE, TOPOLOGY, audit, cluster_files_of, command, draw, play_into, read_file, show,
+    AUDIT, CLUSTER, DRAW, FileFault, Help, JOURNAL, JOURNALS, NOTES, OUT, PATIENCE, PLAY, PORT,
+    QUIET, SERVE, SHOW, SITE, TOPOLOGY, audit, cluster_files_of, command, draw, play_into,
+    read_file, show,
 };
 use cmh_console::{Ahead, Fault, Input, Output};
 use cmh_frames::SiteId;
@@ -204,9 +205,9 @@ where
     ensures serves_some { ServesSome input.old input.new out.old out.new err.old err.new result }
 {
     let path = words.get_str(TOPOLOGY).unwrap_or("");
-    let topology = match read_file(rt, path, Fault::TopologyFile) {
+    let topology = match read_file(rt, path, FileFault::Topology) {
         Ok(bytes) => bytes,
-        Err(fault) => return fault.name_on(err),
+        Err(fault) => return Fault::from(fault).name_on(err),
     };
     let Some(site) = SiteId::new(number_of(words)) else {
         // Never so: the command line takes no other number.
@@ -221,7 +222,7 @@ where
     let voice = voice_of(rt, words);
     match run_site_noting(*rt, &start, input, out, voice) {
         Ok(()) => 0,
-        Err(fault) => fault.name_on(err),
+        Err(fault) => Fault::from(fault).name_on(err),
     }
 }
 
@@ -237,9 +238,9 @@ where
     ensures status { IsStatus result }
 {
     let path = words.get_str(TOPOLOGY).unwrap_or("");
-    let topology = match read_file(rt, path, Fault::TopologyFile) {
+    let topology = match read_file(rt, path, FileFault::Topology) {
         Ok(bytes) => bytes,
-        Err(fault) => return fault.name_on(err),
+        Err(fault) => return Fault::from(fault).name_on(err),
     };
     let Some(own) = SiteId::new(number_of(words)) else {
         // Never so: the command line takes no other number.
@@ -312,7 +313,7 @@ where
 {
     let files = match cluster_files_of(rt, words) {
         Ok(files) => files,
-        Err(fault) => return fault.name_on(err),
+        Err(fault) => return Fault::from(fault).name_on(err),
     };
     let start = ClusterStart {
         topology: &files.topology,

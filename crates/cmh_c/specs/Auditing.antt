@@ -3,14 +3,15 @@ use Rattle.std.specs.Prelude.{◌≡◌, ◌≢◌, ℕ, ◌⊎◌, List, [], �
 use Rattle.std.specs.List.{concat, sum}
 use Rattle.cmh_files.specs.Audits.{IsAuditFault, TellsAudit}
 use Rattle.cmh_console.specs.Faults.{fault_text}
-use Rattle.cmh_console.specs.declared.faults.Fault.{Fault}
-use Rattle.cmh_console.specs.declared.faults.Fault.TheVariants.{Memory}
+use Rattle.cmh_files.specs.AuditFaults.{as_fault}
+use Rattle.cmh_files.specs.declared.audit_fault.AuditFault.{AuditFault}
+use Rattle.cmh_files.specs.declared.audit_fault.AuditFault.TheVariants.{Memory}
 
 -- the line of the files' first fault
 abbrev pub SaysFault : List ℕ → List (List ℕ) → List ℕ → ℕ → Type 0
 SaysFault world files text status =
-    (fault : Fault) × IsAuditFault world files fault × (fault ≢ Memory)
-    × (text ≡ fault_text fault ++ 10 ∷ []) × (status ≡ 3)
+    (fault : AuditFault) × IsAuditFault world files fault × (fault ≢ Memory)
+    × (text ≡ fault_text (as_fault fault) ++ 10 ∷ []) × (status ≡ 3)
 
 -- the bytes are those of files that have these lengths, and this is what is said of the files
 pub record Says (world bytes lens text : List ℕ) (status : ℕ) : Type 0 where

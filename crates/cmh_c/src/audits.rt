@@ -9,7 +9,7 @@ ghost use Rattle.cmh_c.specs.Inner.Faults.{code_of_call};
 
 use crate::codes::{CallFault, DONE, SHORT};
 use cmh_console::Fault;
-use cmh_files::audit_files;
+use cmh_files::{AuditFault, audit_files};
 use std::alloc::{AllocError, Global};
 use std::fmt;
 
@@ -71,9 +71,9 @@ fn audited_of(
             text: audited.text(alloc)?,
             status: audited.status(),
         }),
-        Err(Fault::Memory) => Err(CallFault::Memory),
+        Err(AuditFault::Memory) => Err(CallFault::Memory),
         Err(fault) => Ok(AuditAnswer {
-            text: line_of(alloc, fault)?,
+            text: line_of(alloc, Fault::from(fault))?,
             status: 3,
         }),
     }

@@ -1,9 +1,8 @@
 -- What commands over files come to.
-use Rattle.std.specs.Prelude.{◌≡◌, ℕ, ◌≤◌, ◌⊎◌, List, ⊤, codes, Option, None, Some}
+use Rattle.std.specs.Prelude.{◌≡◌, ℕ, ◌⊎◌, List, codes, Option, None, Some}
 use Rattle.cmh_console.specs.Device.{Writing}
 use Rattle.cmh_console.specs.Faults.{NamesFault}
-use Rattle.cmh_console.specs.declared.faults.Fault.{Fault}
-use Rattle.cmh_console.specs.declared.faults.Fault.TheVariants.{TopologyFile, ScriptFile, JournalFile, Memory}
+use Rattle.cmh_commands.specs.FileFaults.{IsUnread, as_fault}
 use Rattle.cmh_files.specs.Audits.{AuditEnds}
 use Rattle.cmh_files.specs.Explains.{ExplainEnds}
 use Rattle.cmh_files.specs.RunAudits.{RunEnds}
@@ -13,31 +12,23 @@ use Rattle.cmh_files.specs.Shows.{ShowEnds}
 abbrev pub IsUnset : Option (List ℕ) → Type 0
 IsUnset told = (told ≡ None) ⊎ (told ≡ Some (codes "false"))
 
--- a file could not be read: the topology, a script, or a journal by its place from 1; or memory ran out
-abbrev pub IsUnread : Fault → Type 0
-IsUnread TopologyFile = ⊤
-IsUnread ScriptFile = ⊤
-IsUnread (JournalFile place) = 1 ≤ place
-IsUnread Memory = ⊤
-IsUnread fault = ⊥
-
 -- some files were audited, or nothing is written and the fault of one that could not be read is named
 abbrev pub AuditsFiles : {W E : Type 0} → Writing W → Writing W → Writing E → Writing E → ℕ → Type 0
 AuditsFiles old new err_old err_new status =
     ((topology : List ℕ) × (files : List (List ℕ)) × AuditEnds topology files old new err_old err_new status)
-    ⊎ ((new ≡ old) × NamesFault IsUnread status err_old err_new)
+    ⊎ ((new ≡ old) × NamesFault as_fault IsUnread status err_old err_new)
 
 -- the same, with the reasons for stops
 abbrev pub ExplainsFiles : {W E : Type 0} → Writing W → Writing W → Writing E → Writing E → ℕ → Type 0
 ExplainsFiles old new err_old err_new status =
     ((topology : List ℕ) × (files : List (List ℕ)) × ExplainEnds topology files old new err_old err_new status)
-    ⊎ ((new ≡ old) × NamesFault IsUnread status err_old err_new)
+    ⊎ ((new ≡ old) × NamesFault as_fault IsUnread status err_old err_new)
 
 -- the same, with a run
 abbrev pub ListsFiles : {W E : Type 0} → Writing W → Writing W → Writing E → Writing E → ℕ → Type 0
 ListsFiles old new err_old err_new status =
     ((topology : List ℕ) × (files : List (List ℕ)) × RunEnds topology files old new err_old err_new status)
-    ⊎ ((new ≡ old) × NamesFault IsUnread status err_old err_new)
+    ⊎ ((new ≡ old) × NamesFault as_fault IsUnread status err_old err_new)
 
 -- some files were audited, with or without reasons or a run
 abbrev pub AuditsSomehow : {W E : Type 0} → Writing W → Writing W → Writing E → Writing E → ℕ → Type 0
@@ -49,4 +40,4 @@ AuditsSomehow old new err_old err_new status =
 abbrev pub ShowsFiles : {W E : Type 0} → Writing W → Writing W → Writing E → Writing E → ℕ → Type 0
 ShowsFiles old new err_old err_new status =
     ((files : List (List ℕ)) × ShowEnds files old new err_old err_new status)
-    ⊎ ((new ≡ old) × NamesFault IsUnread status err_old err_new)
+    ⊎ ((new ≡ old) × NamesFault as_fault IsUnread status err_old err_new)

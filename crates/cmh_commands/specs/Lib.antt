@@ -1,3 +1,4 @@
+pub mod FileFaults
 pub mod Files
 pub mod Drawing
 pub mod Playing

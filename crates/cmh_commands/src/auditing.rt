@@ -8,7 +8,7 @@ ghost use Rattle.cmh_commands.specs.Files.{AuditsFiles, AuditsSomehow, ExplainsF
 use crate::files::{files_of, journals_of};
 use crate::options::{RUN, WHY};
 use clap::ArgMatches;
-use cmh_console::Output;
+use cmh_console::{Fault, Output};
 use cmh_files::{run_audit, run_audit_run, run_audit_why, run_show};
 use std::io::Write;
 use std::rt::Files;
@@ -32,7 +32,7 @@ pub fn audit<R: AllocGlobal + Files, W: Write, E: Write>(
 {
     let files = match files_of(rt, words) {
         Ok(files) => files,
-        Err(fault) => return fault.name_on(err),
+        Err(fault) => return Fault::from(fault).name_on(err),
     };
     if words.get_flag(WHY) {
         return run_audit_why(rt.alloc(), &files.topology, &files.journals, out, err);
@@ -55,6 +55,6 @@ pub fn show<R: AllocGlobal + Files, W: Write, E: Write>(
 {
     match journals_of(rt, words) {
         Ok(journals) => run_show(rt.alloc(), &journals, out, err),
-        Err(fault) => fault.name_on(err),
+        Err(fault) => Fault::from(fault).name_on(err),
     }
 }

@@ -12,7 +12,7 @@ ghost use Rattle.cmh_picture.specs.declared.format.Format as formats;
 use crate::files::files_of;
 use crate::options::{FORMAT, KIND};
 use clap::ArgMatches;
-use cmh_console::Output;
+use cmh_console::{Fault, Output};
 use cmh_picture::{Drawing, Format, Kind, run_draw};
 use std::io::Write;
 use std::rt::Files;
@@ -43,7 +43,7 @@ pub fn draw<R: AllocGlobal + Files, W: Write, E: Write>(
             };
             run_draw(rt.alloc(), &drawing, out, err)
         }
-        Err(fault) => fault.name_on(err),
+        Err(fault) => Fault::from(fault).name_on(err),
     }
 }
 

@@ -1,11 +1,11 @@
 //! The files that the words of a command line name.
 
 ghost use Rattle.std.specs.Prelude.{◌≡◌, ◌⊎◌, IfErr};
-ghost use Rattle.cmh_commands.specs.Files.{IsUnread};
+ghost use Rattle.cmh_commands.specs.FileFaults.{IsUnread};
 
+use crate::file_fault::FileFault;
 use crate::options::{JOURNALS, SCRIPT, TOPOLOGY};
 use clap::ArgMatches;
-use cmh_console::Fault;
 use cmh_files::stop_of;
 use std::fs;
 use std::io::ErrorKind;
@@ -22,13 +22,13 @@ pub struct ClusterFiles {
 pub fn cluster_files_of<R: AllocGlobal + Files>(
     rt: &R,
     words: &ArgMatches<'_>,
-) -> Result<ClusterFiles, Fault>
+) -> Result<ClusterFiles, FileFault>
     ensures { IfErr result IsUnread }
 {
     let path = words.get_str(TOPOLOGY).unwrap_or("");
-    let topology = read_file(rt, path, Fault::TopologyFile)?;
+    let topology = read_file(rt, path, FileFault::Topology)?;
     let path = words.get_str(SCRIPT).unwrap_or("");
-    let script = read_file(rt, path, Fault::ScriptFile)?;
+    let script = read_file(rt, path, FileFault::Script)?;
     Ok(ClusterFiles { topology, script })
 }
 
@@ -41,11 +41,14 @@ pub struct AuditFiles {
 
 /// Reads the files that the words name: the topology, and then the journals in their order. The journals of sites that
 /// run are cut where their sites might have stopped, all at once.
-pub fn files_of<R: AllocGlobal + Files>(rt: &R, words: &ArgMatches<'_>) -> Result<AuditFiles, Fault>
+pub fn files_of<R: AllocGlobal + Files>(
+    rt: &R,
+    words: &ArgMatches<'_>,
+) -> Result<AuditFiles, FileFault>
     ensures { IfErr result IsUnread }
 {
     let path = words.get_str(TOPOLOGY).unwrap_or("");
-    let topology = read_file(rt, path, Fault::TopologyFile)?;
+    let topology = read_file(rt, path, FileFault::Topology)?;
     let read = journals_of(rt, words)?;
     let journals = if has_grown(rt, words, &read)? {
         as_stopped(rt, words, read)?
@@ -61,7 +64,7 @@ fn has_grown<R: AllocGlobal + Files>(
     rt: &R,
     words: &ArgMatches<'_>,
     read: &[Vec<u8>],
-) -> Result<bool, Fault>
+) -> Result<bool, FileFault>
     ensures { IfErr result IsUnread }
 {
     let Some(paths) = words.get_strs(JOURNALS) else {
@@ -70,7 +73,7 @@ fn has_grown<R: AllocGlobal + Files>(
     for (path, file) in paths.iter().zip(read) {
         match fs::metadata(rt, *path) {
             Ok(metadata) if metadata.len() > file.len() as u64 => return Ok(true),
-            Err(error) if error.kind() == ErrorKind::OutOfMemory => return Err(Fault::Memory),
+            Err(error) if error.kind() == ErrorKind::OutOfMemory => return Err(FileFault::Memory),
             _ => {}
         }
     }
@@ -83,7 +86,7 @@ fn as_stopped<R: AllocGlobal + Files>(
     rt: &R,
     words: &ArgMatches<'_>,
     first: Vec<Vec<u8>>,
-) -> Result<Vec<Vec<u8>>, Fault>
+) -> Result<Vec<Vec<u8>>, FileFault>
     ensures { IfErr result IsUnread }
 {
     let mut journals = journals_of(rt, words)?;
@@ -100,25 +103,29 @@ fn as_stopped<R: AllocGlobal + Files>(
 pub fn journals_of<R: AllocGlobal + Files>(
     rt: &R,
     words: &ArgMatches<'_>,
-) -> Result<Vec<Vec<u8>>, Fault>
+) -> Result<Vec<Vec<u8>>, FileFault>
     ensures { IfErr result IsUnread }
 {
     let mut journals = Vec::new(rt.alloc());
     if let Some(paths) = words.get_strs(JOURNALS) {
         for (i, path) in paths.iter().enumerate() {
-            journals.push(read_file(rt, *path, Fault::JournalFile(i + 1))?)?;
+            journals.push(read_file(rt, *path, FileFault::Journal(i + 1))?)?;
         }
     }
     Ok(journals)
 }
 
 /// What a file holds; the fault is the one given, but where memory was refused.
-pub fn read_file<R: AllocGlobal + Files>(rt: &R, path: &str, fault: Fault) -> Result<Vec<u8>, Fault>
-    ensures { IfErr result (λ named. (named ≡ fault) ⊎ (named ≡ Fault.Memory)) }
+pub fn read_file<R: AllocGlobal + Files>(
+    rt: &R,
+    path: &str,
+    fault: FileFault,
+) -> Result<Vec<u8>, FileFault>
+    ensures { IfErr result (λ named. (named ≡ fault) ⊎ (named ≡ FileFault.Memory)) }
 {
     match fs::read(rt, path) {
         Ok(bytes) => Ok(bytes),
-        Err(error) if error.kind() == ErrorKind::OutOfMemory => Err(Fault::Memory),
+        Err(error) if error.kind() == ErrorKind::OutOfMemory => Err(FileFault::Memory),
         Err(_) => Err(fault),
     }
 }

@@ -4,6 +4,7 @@
 
 mod auditing;
 mod drawing;
+mod file_fault;
 mod files;
 mod help;
 mod options;
@@ -11,6 +12,7 @@ mod playing;
 
 pub use crate::auditing::{audit, show};
 pub use crate::drawing::draw;
+pub use crate::file_fault::FileFault;
 pub use crate::files::{
     AuditFiles, ClusterFiles, cluster_files_of, files_of, journals_of, read_file,
 };

@@ -3,8 +3,8 @@
 ghost use Rattle.cmh_console.specs.Status.{IsStatus};
 ghost use Rattle.cmh_commands.specs.Playing.{PlaysScript};
 
-use cmh_console::{Ahead, Input, Output};
-use cmh_play::{Folder, run_play_keeping};
+use cmh_console::{Ahead, Fault, Input, Output};
+use cmh_play::{Folder, PlayFault, run_play_keeping};
 use std::fs::File;
 use std::io::{BufRead, Write};
 use std::rt::Files;
@@ -23,6 +23,9 @@ pub fn play_into<R: AllocGlobal + Files<File = File>, I: BufRead + Ahead, W: Wri
     let alloc = rt.alloc();
     match Folder::open(rt, path) {
         Ok(mut folder) => run_play_keeping(alloc, input, out, err, &mut folder),
-        Err(fault) => fault.name_on(err),
+        Err(refused) => {
+            let fault = PlayFault::from(refused);
+            Fault::from(fault).name_on(err)
+        }
     }
 }

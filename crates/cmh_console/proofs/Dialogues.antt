@@ -9,12 +9,11 @@ use Rattle.cmh_console.specs.Lines.{IsNextLine, IsEndless, IsLineFault}
 use Rattle.cmh_console.specs.declared.lines.LineFault.{LineFault}
 use Rattle.cmh_console.specs.declared.lines.NextLine.{NextLine}
 use Rattle.cmh_console.specs.declared.lines.NextLine.TheVariants.{Line as Read, TooLong, End}
-use Rattle.cmh_console.specs.Faults.{IsAnswerFault, IsPlayFault, of_line}
-use Rattle.cmh_console.specs.declared.faults.Fault.{Fault}
-use Rattle.cmh_console.specs.declared.faults.Fault.TheVariants.{TopologyFile, ScriptFile, OutFile, JournalFile, Json, Topology, Journal, Set, Site, JournalDisk, Listen, Input, Output, Memory}
+use Rattle.cmh_console.specs.declared.dialogue.DialogueFault.{DialogueFault}
+use Rattle.cmh_console.specs.declared.dialogue.DialogueFault.TheVariants.{Input, Output, Memory}
 use Rattle.cmh_console.proofs.LineLemmas.{HasLeft, at_some, endless_input, length-drop_through, long_some, unread_err}
 use Rattle.std.proofs.KnownBytes.{Appends-nil, Appends-trans}
-use Rattle.cmh_console.specs.Dialogue.{line_of, line_in, HasAnswered, Dialogue, begin, turn, Conversed}
+use Rattle.cmh_console.specs.Dialogue.{line_of, line_in, HasAnswered, Dialogue, begin, turn, Conversed, IsAnswerFault, IsDialogueFault, of_line}
 use Rattle.cmh_console.specs.declared.dialogue.Flow.{Flow}
 use Rattle.cmh_console.specs.declared.dialogue.Flow.TheVariants.{Awaits, Ends}
 
@@ -104,41 +103,30 @@ module _ (S : Type 0) (answers : S → S → Option (List ℕ) → List ℕ → 
         })
 
     -- a fault comes after these lines
-    pub talked_some : (has_failed : Bool) (fault : Fault) → IfSome start (λ bytes. Conversed answers first bytes old out has_failed (Err fault))
+    pub talked_some : (has_failed : Bool) (fault : DialogueFault) → IfSome start (λ bytes. Conversed answers first bytes old out has_failed (Err fault))
     talked_some has_failed fault = if_some start _ (λ bytes e.
         let s = so_far bytes e in
         record { text = s.text; is = (s.rest, last, s.dialogue); wrote = inr s.wrote })
 
-    pub talked_err : (has_failed : Bool) (r : Result Flow Fault) → IsErr r → IfSome start (λ bytes. Conversed answers first bytes old out has_failed r)
+    pub talked_err : (has_failed : Bool) (r : Result Flow DialogueFault) → IsErr r → IfSome start (λ bytes. Conversed answers first bytes old out has_failed r)
     talked_err has_failed (Ok x) err = absurd (true≢false (sym err))
     talked_err has_failed (Err fault) err = talked_some has_failed fault
 
-    talked_failed : (after : Option (List ℕ)) (has_failed : Bool) (fault : Fault) → has_failed ≡ true
+    talked_failed : (after : Option (List ℕ)) (has_failed : Bool) (fault : DialogueFault) → has_failed ≡ true
         → IfSome start (λ bytes. Conversed answers first bytes old after has_failed (Err fault))
     talked_failed after has_failed fault failed = if_some start _ (λ bytes e.
         let s = so_far bytes e in
         record { text = s.text; is = (s.rest, last, s.dialogue); wrote = inl failed })
 
     -- a line is not answered, and this fault is named
-    pub talked_fault : (after : Option (List ℕ)) (has_failed : Bool) (named fault : Fault) → IsAnswerFault out after has_failed fault
+    pub talked_fault : (after : Option (List ℕ)) (has_failed : Bool) (named fault : DialogueFault) → IsAnswerFault out after has_failed fault
         → IfSome start (λ bytes. Conversed answers first bytes old after has_failed (Err named))
     talked_fault after has_failed named Output failed = talked_failed after has_failed named failed
     talked_fault after has_failed named Memory same =
         subst (λ (o : Option (List ℕ)). IfSome start (λ bytes. Conversed answers first bytes old o has_failed (Err named))) (sym same) (talked_some has_failed named)
-    talked_fault after has_failed named TopologyFile none = absurd none
-    talked_fault after has_failed named ScriptFile none = absurd none
-    talked_fault after has_failed named OutFile none = absurd none
-    talked_fault after has_failed named (JournalFile place) none = absurd none
-    talked_fault after has_failed named Json none = absurd none
-    talked_fault after has_failed named (Topology fault) none = absurd none
-    talked_fault after has_failed named (Journal place fault) none = absurd none
-    talked_fault after has_failed named (Set fault) none = absurd none
-    talked_fault after has_failed named Site none = absurd none
-    talked_fault after has_failed named JournalDisk none = absurd none
-    talked_fault after has_failed named Listen none = absurd none
     talked_fault after has_failed named Input none = absurd none
 
-    pub talked_fault_err : (after : Option (List ℕ)) (has_failed : Bool) (r : Result Flow Fault) (lower : Fault) → IsErrAnd r (λ fault. fault ≡ lower)
+    pub talked_fault_err : (after : Option (List ℕ)) (has_failed : Bool) (r : Result Flow DialogueFault) (lower : DialogueFault) → IsErrAnd r (λ fault. fault ≡ lower)
         → IsAnswerFault out after has_failed lower → IfSome start (λ bytes. Conversed answers first bytes old after has_failed r)
     talked_fault_err after has_failed (Ok x) lower is h = absurd is
     talked_fault_err after has_failed (Err fault) lower is h = talked_fault after has_failed fault lower h
@@ -150,6 +138,6 @@ module _ (S : Type 0) (answers : S → S → Option (List ℕ) → List ℕ → 
     pub endless_talk : 2 ^ 64 - 1 ≤ n → IsEndless start
     endless_talk = endless_input start now n has_left
 
-    pub read_err : (read_failed write_failed : Bool) (r : Result Flow Fault) (lower : LineFault) → IsErrAnd r (λ fault. fault ≡ of_line lower) → IsLineFault now read_failed lower
-        → IfErr r (IsPlayFault start read_failed write_failed)
+    pub read_err : (read_failed write_failed : Bool) (r : Result Flow DialogueFault) (lower : LineFault) → IsErrAnd r (λ fault. fault ≡ of_line lower) → IsLineFault now read_failed lower
+        → IfErr r (IsDialogueFault start read_failed write_failed)
     read_err read_failed write_failed r lower is h = unread_err start now n has_left read_failed write_failed r lower is h

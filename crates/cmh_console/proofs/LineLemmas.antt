@@ -5,8 +5,8 @@ use Rattle.std.specs.Io.BufRead.{first_line, drop_through}
 use Rattle.cmh_console.specs.Lines.{IsEndless, IsLineFault}
 use Rattle.cmh_console.specs.declared.lines.LineFault.{LineFault}
 use Rattle.cmh_console.specs.declared.lines.LineFault.TheVariants.{Input as NoInput, Memory as NoSpace}
-use Rattle.cmh_console.specs.Faults.{IsPlayFault, of_line}
-use Rattle.cmh_console.specs.declared.faults.Fault.{Fault}
+use Rattle.cmh_console.specs.Dialogue.{IsDialogueFault, of_line}
+use Rattle.cmh_console.specs.declared.dialogue.DialogueFault.{DialogueFault}
 
 shrinks : (b : ℕ) (xs : List ℕ) → length (drop_through b xs) ≤ length xs
 shrinks b [] = omega arith
@@ -59,12 +59,12 @@ module _ (start now : Option (List ℕ)) (n : ℕ) (so_far : (bytes : List ℕ) 
           omega (arith, many, counted)
 
   -- the next line can't be read
-  pub unread : (read_failed write_failed : Bool) (fault : LineFault) → IsLineFault now read_failed fault → IsPlayFault start read_failed write_failed (of_line fault)
+  pub unread : (read_failed write_failed : Bool) (fault : LineFault) → IsLineFault now read_failed fault → IsDialogueFault start read_failed write_failed (of_line fault)
   unread read_failed write_failed NoInput (inl failed) = inl failed
   unread read_failed write_failed NoInput (inr endless) = inr (endless_before endless)
   unread read_failed write_failed NoSpace h = tt
 
-  pub unread_err : {X : Type 0} → (read_failed write_failed : Bool) (r : Result X Fault) (lower : LineFault) → IsErrAnd r (λ fault. fault ≡ of_line lower) → IsLineFault now read_failed lower
-      → IfErr r (IsPlayFault start read_failed write_failed)
+  pub unread_err : {X : Type 0} → (read_failed write_failed : Bool) (r : Result X DialogueFault) (lower : LineFault) → IsErrAnd r (λ fault. fault ≡ of_line lower) → IsLineFault now read_failed lower
+      → IfErr r (IsDialogueFault start read_failed write_failed)
   unread_err read_failed write_failed (Ok x) lower is h = tt
-  unread_err read_failed write_failed (Err fault) lower is h = subst (IsPlayFault start read_failed write_failed) (sym is) (unread read_failed write_failed lower h)
+  unread_err read_failed write_failed (Err fault) lower is h = subst (IsDialogueFault start read_failed write_failed) (sym is) (unread read_failed write_failed lower h)

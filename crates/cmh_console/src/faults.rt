@@ -1,20 +1,18 @@
-//! Why a command ends before its work is done.
+//! The lines with which commands end before their work is done. Each command has an enum of its own faults, and its line is
+//! the fault of this table that its own comes to.
 
 ghost use Rattle.std.specs.Prelude.{◌≡◌, ◌≢◌, [], ◌∷◌, ◌++◌, Some};
 ghost use Rattle.cmh_console.specs.Device.{Tells};
 ghost use Rattle.cmh_console.specs.Faults as spec;
 ghost use Rattle.cmh_console.specs.Status.{IsStatus};
 
-use crate::device::{Output, WriteFault};
-use crate::lines::LineFault;
-use crate::topology_file::TopologyFileFault;
+use crate::device::Output;
 use cmh_frames::TopologyFault;
 use cmh_journal::{JournalFault, SetFault};
-use std::alloc::{AllocError, AllocFailed};
 use std::fmt;
 use std::io::Write;
 
-/// Why a command ends before its work is done. Printed, it is the fault's line.
+/// Why some command ends before its work is done. Printed, it is the fault's line.
 #[derive(Clone, Copy, Debug, PartialEq, Eq)]
 pub enum Fault {
     /// The topology file can't be read.
@@ -104,91 +102,6 @@ impl fmt::Display for Fault {
             Fault::Input => write!(f, "fault input"),
             Fault::Output => write!(f, "fault output"),
             Fault::Memory => write!(f, "fault memory"),
-        }
-    }
-}
-
-impl From<AllocError> for Fault {
-    ghost use Rattle.cmh_console.specs.declared.faults.Fault.TheVariants.{Memory};
-
-    ghost from_gives = { λ _ fault. fault ≡ Memory };
-
-    fn from(_: AllocError) -> Fault {
-        Fault::Memory
-    }
-}
-
-impl<T: Drop> From<AllocFailed<T>> for Fault {
-    ghost use Rattle.cmh_console.specs.declared.faults.Fault.TheVariants.{Memory};
-
-    ghost from_gives = { λ _ fault. fault ≡ Memory };
-
-    fn from(_: AllocFailed<T>) -> Fault {
-        Fault::Memory
-    }
-}
-
-impl From<TopologyFileFault> for Fault {
-    ghost from_gives = { λ lower fault. fault ≡ spec.of_file lower };
-
-    fn from(fault: TopologyFileFault) -> Fault {
-        match fault {
-            TopologyFileFault::Json => Fault::Json,
-            TopologyFileFault::Memory => Fault::Memory,
-        }
-    }
-}
-
-impl From<TopologyFault> for Fault {
-    ghost from_gives = { λ lower fault. fault ≡ spec.of_topology lower };
-
-    fn from(fault: TopologyFault) -> Fault {
-        match fault {
-            TopologyFault::Memory => Fault::Memory,
-            _ => Fault::Topology(fault),
-        }
-    }
-}
-
-impl From<LineFault> for Fault {
-    ghost from_gives = { λ lower fault. fault ≡ spec.of_line lower };
-
-    fn from(fault: LineFault) -> Fault {
-        match fault {
-            LineFault::Input => Fault::Input,
-            LineFault::Memory => Fault::Memory,
-        }
-    }
-}
-
-impl From<WriteFault> for Fault {
-    ghost use Rattle.cmh_console.specs.declared.faults.Fault.TheVariants.{Output};
-
-    ghost from_gives = { λ _ fault. fault ≡ Output };
-
-    fn from(_: WriteFault) -> Fault {
-        Fault::Output
-    }
-}
-
-impl From<SetFault> for Fault {
-    ghost use Rattle.cmh_console.specs.declared.faults.Fault.TheVariants.{Set};
-
-    ghost from_gives = { λ lower fault. fault ≡ Set lower };
-
-    fn from(fault: SetFault) -> Fault {
-        Fault::Set(fault)
-    }
-}
-
-impl Fault {
-    /// The fault of the journal at this place in the command.
-    pub fn of_journal(place: usize, fault: JournalFault) -> Fault
-        ensures { result ≡ spec.of_journal place fault }
-    {
-        match fault {
-            JournalFault::Memory => Fault::Memory,
-            _ => Fault::Journal(place, fault),
         }
     }
 }

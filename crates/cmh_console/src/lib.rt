@@ -13,9 +13,9 @@ mod topology_file;
 mod words;
 
 pub use crate::device::{Ahead, Input, Output, Piece, WriteFault};
-pub use crate::dialogue::Flow;
+pub use crate::dialogue::{DialogueFault, Flow};
 pub use crate::faults::Fault;
-pub use crate::keeping::{path_in, write_journal};
+pub use crate::keeping::{NoFile, path_in, write_journal};
 pub use crate::lines::{LineFault, MAX_LINE, NextLine, read_line};
 pub use crate::script::{Command, Line, parse, parse_into};
 pub use crate::topology_file::{

@@ -18,8 +18,9 @@ use Rattle.cmh_files.specs.AuditTexts.{cuts_text, verdict_text}
 use Rattle.cmh_console.specs.Faults.{NamesFault}
 use Rattle.cmh_files.specs.Headline.{Headline}
 use Rattle.cmh_console.specs.TopologyFile.{SaysTopology, SaysNoRows, OfTopology, IsOfNoTopology}
-use Rattle.cmh_console.specs.declared.faults.Fault as faults
-use Rattle.cmh_console.specs.declared.faults.Fault.TheVariants.{Json, Topology as NoTopology, Journal as NoJournal, Set as NoSet, Output, Memory}
+use Rattle.cmh_files.specs.AuditFaults.{as_fault}
+use Rattle.cmh_files.specs.declared.audit_fault.AuditFault.{AuditFault}
+use Rattle.cmh_files.specs.declared.audit_fault.AuditFault.TheVariants.{Json, Topology as NoTopology, Journal as NoJournal, Set as NoSet, Output, Memory}
 
 -- ---- the files
 
@@ -78,18 +79,18 @@ pub record IsFirstFaulty (files : List (List ℕ)) (place : ℕ) (fault : Journa
   pub readable : AllByRecursion (λ file. (j : Journal) × (left : List ℕ) × Writes j.edition j.site j.entries left file) before
   pub fault_is : IsFault bytes fault
 
--- the first fault of an audit's files
-abbrev pub IsAuditFault : List ℕ → List (List ℕ) → faults.Fault → Type 0
+-- the first fault of an audit's files, before anything is written
+abbrev pub IsAuditFault : List ℕ → List (List ℕ) → AuditFault → Type 0
 IsAuditFault topology files Json = SaysNoRows topology
 IsAuditFault topology files (NoTopology fault) = IsOfNoTopology topology fault
 IsAuditFault topology files (NoJournal place fault) = OfTopology topology (λ world. IsFirstFaulty files place fault)
 IsAuditFault topology files (NoSet fault) = OfTopology topology (λ world.
     (journals : List Journal) × (cuts : List (ℕ × ℕ)) × AreRead files journals cuts × (set.fault_of world journals ≡ Some fault))
 IsAuditFault topology files Memory = ⊤
-IsAuditFault topology files fault = ⊥
+IsAuditFault topology files Output = ⊥
 
 -- Why an audit ends without a verdict. Nothing was written then, but where the writer failed.
-abbrev pub IsCause : List ℕ → List (List ℕ) → Option (List ℕ) → Option (List ℕ) → Bool → faults.Fault → Type 0
+abbrev pub IsCause : List ℕ → List (List ℕ) → Option (List ℕ) → Option (List ℕ) → Bool → AuditFault → Type 0
 IsCause topology files old new has_failed Output = has_failed ≡ true
 IsCause topology files old new has_failed fault = IsAuditFault topology files fault × (new ≡ old)
 
@@ -97,4 +98,4 @@ IsCause topology files old new has_failed fault = IsAuditFault topology files fa
 abbrev pub AuditEnds : {W E : Type 0} → List ℕ → List (List ℕ) → Writing W → Writing W → Writing E → Writing E → ℕ → Type 0
 AuditEnds topology files old new err_old err_new status =
     (WroteAudit topology files old.written new.written status × (new.is_flushed ≡ true) × (err_new ≡ err_old))
-    ⊎ NamesFault (IsCause topology files old.written new.written new.has_failed) status err_old err_new
+    ⊎ NamesFault as_fault (IsCause topology files old.written new.written new.has_failed) status err_old err_new

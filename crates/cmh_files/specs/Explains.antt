@@ -9,6 +9,7 @@ use Rattle.cmh_console.specs.Device.{Writing}
 use Rattle.cmh_files.specs.AuditTexts.{cuts_text, verdict_text}
 use Rattle.cmh_files.specs.Audits.{Audits, IsCause, status_of}
 use Rattle.cmh_console.specs.Faults.{NamesFault}
+use Rattle.cmh_files.specs.AuditFaults.{as_fault}
 use Rattle.cmh_files.specs.ReasonLines.{AreReasonLines}
 
 -- after a verdict on these journals: a line for each stop, with its reason
@@ -33,4 +34,4 @@ pub record WroteExplained (topology : List ℕ) (files : List (List ℕ)) (old n
 abbrev pub ExplainEnds : {W E : Type 0} → List ℕ → List (List ℕ) → Writing W → Writing W → Writing E → Writing E → ℕ → Type 0
 ExplainEnds topology files old new err_old err_new status =
     (WroteExplained topology files old.written new.written status × (new.is_flushed ≡ true) × (err_new ≡ err_old))
-    ⊎ NamesFault (IsCause topology files old.written new.written new.has_failed) status err_old err_new
+    ⊎ NamesFault as_fault (IsCause topology files old.written new.written new.has_failed) status err_old err_new

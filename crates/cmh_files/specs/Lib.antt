@@ -4,8 +4,10 @@ pub mod RunLines
 pub mod AuditTexts
 pub mod Reasons
 pub mod ReasonLines
+pub mod AuditFaults
 pub mod Audits
 pub mod Headline
+pub mod ShowFaults
 pub mod Shows
 pub mod Explains
 pub mod RunAudits

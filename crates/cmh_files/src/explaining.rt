@@ -8,6 +8,7 @@ ghost use Rattle.cmh_files.specs.Audits.{IsCause};
 ghost use Rattle.cmh_files.specs.Explains.{AreReasons, ExplainEnds, WroteExplained};
 ghost use Rattle.cmh_console.specs.Status.{IsStatus};
 
+use crate::audit_fault::AuditFault;
 use crate::auditing::{Audited, audit_files};
 use crate::reason_lines;
 use cmh_audit::Verdict;
@@ -34,7 +35,7 @@ pub fn run_audit_why<W: Write, E: Write>(
 {
     match explain_into(alloc, topology, journals, out) {
         Ok(status) => status,
-        Err(fault) => fault.name_on(err),
+        Err(fault) => Fault::from(fault).name_on(err),
     }
 }
 
@@ -44,7 +45,7 @@ fn explain_into<W: Write>(
     topology: &[u8],
     journals: &[Vec<u8>],
     out: &mut Output<W>,
-) -> Result<u8, Fault>
+) -> Result<u8, AuditFault>
     ensures wrote { IfOk result (WroteExplained topology.now (map (λ file. file.items) journals.now)
         out.old.written out.new.written) }
     ensures flushed { OnOk result (out.new.is_flushed ≡ true) }

@@ -8,6 +8,7 @@
 //! is read once more.
 #![tactic(auto)]
 
+mod audit_fault;
 mod audit_text;
 mod auditing;
 mod before;
@@ -25,12 +26,14 @@ mod reason;
 mod reason_text;
 mod run_line;
 mod run_lines;
+mod show_fault;
 mod showing;
 mod shown;
 mod stop;
 mod telling;
 mod walk;
 
+pub use crate::audit_fault::AuditFault;
 pub use crate::audit_text::{Cuts, VerdictText};
 pub use crate::auditing::{Audited, audit_files, run_audit};
 pub use crate::common_stop::stop_of;
@@ -40,6 +43,7 @@ pub use crate::headline::headline_law;
 pub use crate::reason::Reason;
 pub use crate::reason_text::reason_lines;
 pub use crate::run_line::RunLine;
+pub use crate::show_fault::ShowFault;
 pub use crate::showing::run_show;
 pub use crate::shown::{Rest, Shown, read_shown};
 pub use crate::stop::reason_of;

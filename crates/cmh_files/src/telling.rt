@@ -9,6 +9,7 @@ ghost use Rattle.cmh_files.specs.Audits.{IsCause};
 ghost use Rattle.cmh_files.specs.RunAudits.{AreStepsToTell, RunEnds, WroteRun};
 ghost use Rattle.cmh_console.specs.Status.{IsStatus};
 
+use crate::audit_fault::AuditFault;
 use crate::auditing::{Audited, audit_files};
 use crate::run_lines::RunLines;
 use cmh_audit::{AuditMemory, Step, Verdict, run_of};
@@ -35,7 +36,7 @@ pub fn run_audit_run<W: Write, E: Write>(
 {
     match tell_into(alloc, topology, journals, out) {
         Ok(status) => status,
-        Err(fault) => fault.name_on(err),
+        Err(fault) => Fault::from(fault).name_on(err),
     }
 }
 
@@ -45,7 +46,7 @@ fn tell_into<W: Write>(
     topology: &[u8],
     journals: &[Vec<u8>],
     out: &mut Output<W>,
-) -> Result<u8, Fault>
+) -> Result<u8, AuditFault>
     ensures wrote { IfOk result (WroteRun topology.now (map (λ file. file.items) journals.now)
         out.old.written out.new.written) }
     ensures flushed { OnOk result (out.new.is_flushed ≡ true) }
@@ -54,7 +55,7 @@ fn tell_into<W: Write>(
 {
     let audited = audit_files(alloc, topology, journals)?;
     let Ok(steps) = steps_of(alloc, &audited) else {
-        return Err(Fault::Memory);
+        return Err(AuditFault::Memory);
     };
     let text = audited.text(alloc)?;
     let status = audited.status();

@@ -1,5 +1,6 @@
 pub mod Ports
 pub mod Setting
+pub mod SiteFaults
 pub mod Shelves
 pub mod SiteScript
 pub mod Opening

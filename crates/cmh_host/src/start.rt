@@ -2,13 +2,12 @@
 
 ghost use Rattle.std.specs.Prelude.{◌≡◌, ◌⊎◌, IfOk, IfErr};
 
-use crate::starting::{
-    Carriers, Opened, RunningSite, Speakers, fault_of, open_station, start_threads,
-};
+use crate::site_fault::SiteFault;
+use crate::starting::{Carriers, Opened, RunningSite, Speakers, open_station, start_threads};
 use crate::system::System;
-use crate::{Disk, NewJournal, NoFile, Ports, can_be_made, make_journal};
+use crate::{Disk, NewJournal, Ports, can_be_made, make_journal};
 use cmh_carriers::{Note, Noting, Origin, Speaker, TcpDial, TcpListen};
-use cmh_console::Fault;
+use cmh_console::NoFile;
 use cmh_frames::{SiteId, Topology};
 use std::alloc::Global;
 use std::fs::File;
@@ -45,18 +44,16 @@ pub fn start_site<R>(
     alloc: Global,
     setup: &SiteSetup<'_>,
     noting: &Noting,
-) -> Result<RunningSite<R>, Fault>
+) -> Result<RunningSite<R>, SiteFault>
 where
     R: System + Files<File = File> + Send + 'static,
     ensures site { IfOk result (λ running. running.handle.site ≡ setup.now.site) }
-    ensures fault { IfErr result (λ fault. (fault ≡ Fault.Listen) ⊎ (fault ≡ Fault.JournalDisk)
-        ⊎ (fault ≡ Fault.Memory)) }
+    ensures fault { IfErr result (λ fault. (fault ≡ SiteFault.Listen) ⊎ (fault ≡ SiteFault.JournalDisk)
+        ⊎ (fault ≡ SiteFault.Memory)) }
 {
     let carriers = make_carriers(rt, alloc, setup, noting)?;
-    match open_own(rt, alloc, setup, carriers.speakers.handle.as_ref()) {
-        Ok(opened) => start_threads(rt, alloc, setup.topology, opened, carriers),
-        Err(refused) => Err(fault_of(refused, Fault::JournalDisk)),
-    }
+    let opened = open_own(rt, alloc, setup, carriers.speakers.handle.as_ref())?;
+    Ok(start_threads(rt, alloc, setup.topology, opened, carriers)?)
 }
 
 /// Takes the site's port.
@@ -65,17 +62,17 @@ fn make_carriers<R>(
     alloc: Global,
     setup: &SiteSetup<'_>,
     noting: &Noting,
-) -> Result<Carriers<R>, Fault>
+) -> Result<Carriers<R>, SiteFault>
 where
     R: System + Files<File = File> + Send + 'static,
     ensures listens { IfOk result (λ carriers. carriers.listen.faults ≡ 0) }
     ensures dials { IfOk result (λ carriers. carriers.dial.faults ≡ 0) }
-    ensures fault { IfErr result (λ fault. (fault ≡ Fault.Listen) ⊎ (fault ≡ Fault.JournalDisk)
-        ⊎ (fault ≡ Fault.Memory)) }
+    ensures fault { IfErr result (λ fault. (fault ≡ SiteFault.Listen) ⊎ (fault ≡ SiteFault.JournalDisk)
+        ⊎ (fault ≡ SiteFault.Memory)) }
 {
     let Some(port) = setup.ports.of(setup.site) else {
         // Never so: each row has its port.
-        return Err(Fault::Listen);
+        return Err(SiteFault::Listen);
     };
     let speakers = Speakers {
         handle: noting.speaker(Origin::Alone)?,
@@ -116,19 +113,19 @@ fn note_kept<R: Wait>(rt: &R, speaker: Option<&Speaker>, kept: Option<u32>) {
 
 /// Listens on a port before the journal is made, so that a site which runs already keeps its journal, and one whose port
 /// is taken leaves nothing behind. Where both the journal can't be made and the port is taken, the journal is named.
-fn listen_at<R>(rt: &R, alloc: Global, port: u16, journal: &str) -> Result<TcpListen<R>, Fault>
+fn listen_at<R>(rt: &R, alloc: Global, port: u16, journal: &str) -> Result<TcpListen<R>, SiteFault>
 where
     R: Net<Listener = TcpListener, Stream = TcpStream> + Files<File = File> + Clock + Copy + Drop,
     ensures listens { IfOk result (λ listen. listen.faults ≡ 0) }
-    ensures fault { IfErr result (λ fault. (fault ≡ Fault.Listen) ⊎ (fault ≡ Fault.JournalDisk)
-        ⊎ (fault ≡ Fault.Memory)) }
+    ensures fault { IfErr result (λ fault. (fault ≡ SiteFault.Listen) ⊎ (fault ≡ SiteFault.JournalDisk)
+        ⊎ (fault ≡ SiteFault.Memory)) }
 {
     if let Ok(listen) = TcpListen::bind(rt, alloc, port) {
         return Ok(listen);
     }
     if can_be_made(&mut Disk::new(rt), alloc, journal)? {
-        Err(Fault::Listen)
+        Err(SiteFault::Listen)
     } else {
-        Err(Fault::JournalDisk)
+        Err(SiteFault::JournalDisk)
     }
 }

@@ -1,16 +1,16 @@
 //! A running site: its station over a file, its threads, and what it is asked.
 
-ghost use Rattle.std.specs.Prelude.{◌≡◌, ◌⊎◌, IfOk, IfErr};
+ghost use Rattle.std.specs.Prelude.{◌≡◌, IfOk};
 ghost use Rattle.cmh_host.specs.Opening.{IsNewStation};
 ghost use Rattle.cmh_frames.specs.Topology.{sites_of};
 ghost use Rattle.cmh_frames.specs.Runs.{IsBeginningOf};
 ghost use Rattle.cmh_host.specs.Steps.{AreLinksOf, IsDeclared, IsLinks, IsListOf, WasStepped};
 
+use crate::JournalSink;
 use crate::site_reply::{LinkEnds, SiteReply};
 use crate::system::System;
-use crate::{JournalSink, NoFile};
 use cmh_carriers::{Dial, Note, Speaker, TcpDial, TcpListen};
-use cmh_console::Fault;
+use cmh_console::NoFile;
 use cmh_frames::{Done, Event, SiteId, Topology};
 use cmh_journal::Sink;
 use cmh_links::{LinkFault, LinkState, SharedLinks, SiteParts, SiteThreads};
@@ -40,18 +40,6 @@ impl<R: Wait + Drop> Opened<R> {
         ensures { result ≡ self.now.site }
     {
         self.site
-    }
-}
-
-/// The fault of a journal that can't be made; the given one where the disk refused it.
-pub fn fault_of(refused: NoFile, disk: Fault) -> Fault
-    ensures disk { refused ≡ NoFile.Disk → result ≡ disk }
-    ensures memory { refused ≡ NoFile.Memory → result ≡ Fault.Memory }
-    ensures either { (result ≡ disk) ⊎ (result ≡ Fault.Memory) }
-{
-    match refused {
-        NoFile::Disk => disk,
-        NoFile::Memory => Fault::Memory,
     }
 }
 
@@ -154,19 +142,22 @@ fn lock_station<R: Wait + Drop>(
 }
 
 /// Starts the threads of a station, which listen.
+///
+/// # Errors
+///
+/// Memory or a thread was refused.
 pub fn start_threads<R>(
     rt: R,
     alloc: Global,
     topology: &Topology,
     opened: Opened<R>,
     carriers: Carriers<R>,
-) -> Result<RunningSite<R>, Fault>
+) -> Result<RunningSite<R>, AllocError>
 where
     R: System + Send + 'static,
     requires listens { carriers.listen.faults ≡ 0 }
     requires dials { carriers.dial.faults ≡ 0 }
     ensures site { IfOk result (λ running. running.handle.site ≡ opened.site) }
-    ensures fault { IfErr result (λ fault. fault ≡ Fault.Memory) }
 {
     let Opened {
         site,
@@ -204,7 +195,7 @@ where
             };
             Ok(RunningSite { handle, threads })
         }
-        Err(_) => Err(Fault::Memory),
+        Err(_) => Err(AllocError),
     }
 }
 

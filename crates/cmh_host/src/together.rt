@@ -1,6 +1,6 @@
 //! Events of lines that are there already go to the station together, so that they share a sync.
 
-ghost use Rattle.std.specs.Prelude.{◌≡◌, ◌≤◌, ◌<◌, length, true, IfOk, IfErr, IfSome, OnOk, flat_map};
+ghost use Rattle.std.specs.Prelude.{◌≡◌, ◌≤◌, ◌<◌, length, true, IfOk, IfErr, IfSome, OnErr, OnOk, flat_map};
 ghost use Rattle.std.specs.Io.KnownBytes.{Appends};
 ghost use Rattle.cmh_station.specs.Journaled.{batch_limit};
 ghost use Rattle.cmh_host.specs.Together.{AreTaken, FirstRefused, WereAnswered, answer_text, reply_of};
@@ -9,7 +9,7 @@ use crate::JournalSink;
 use crate::site_reply::SiteReply;
 use crate::starting::{FileStation, note_seal, step};
 use cmh_carriers::Speaker;
-use cmh_console::{Fault, Output};
+use cmh_console::{Output, WriteFault};
 use cmh_frames::{Done, Event, Outcome};
 use cmh_station::{KeptBoard, Station, StationRefusal};
 use std::io::Write;
@@ -26,10 +26,10 @@ pub fn answer_events<R: Wait + Drop, W: Write>(
     speaker: Option<&Speaker>,
     events: &[Event],
     out: &mut Output<W>,
-) -> Result<(), Fault>
+) -> Result<(), WriteFault>
     requires { length events.now ≤ batch_limit }
     ensures answered { OnOk result (WereAnswered events.now out.old.written out.new.written) }
-    ensures fault { IfErr result (λ fault. (fault ≡ Fault.Output) × (out.new.has_failed ≡ true)) }
+    ensures fault { OnErr result (out.new.has_failed ≡ true) }
 {
     let mut rest = events;
     while !rest.is_empty() {
@@ -105,10 +105,10 @@ fn step_all<R: Wait + Drop>(
     }
 }
 
-fn write_all<W: Write>(answers: &[Answer], out: &mut Output<W>) -> Result<(), Fault>
+fn write_all<W: Write>(answers: &[Answer], out: &mut Output<W>) -> Result<(), WriteFault>
     ensures wrote { OnOk result (Appends out.old.written out.new.written
         (flat_map answer_text answers.now)) }
-    ensures fault { IfErr result (λ fault. (fault ≡ Fault.Output) × (out.new.has_failed ≡ true)) }
+    ensures fault { OnErr result (out.new.has_failed ≡ true) }
 {
     for answer in answers {
         out.write_text(&reply_to(answer))?;

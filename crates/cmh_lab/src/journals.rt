@@ -190,13 +190,13 @@ pub fn count(objects: &Objects, words: &mut Words<'_>, answer: &mut Answer) -> C
 fn put_stored(alloc: Global, journal: &StoredJournal<'_>, answer: &mut Answer) -> Called {
     put_head(journal.site(), journal.edition(), answer)?;
     let mut left = journal.entries();
-    let mut room = Vec::new(alloc);
+    let mut spare = Vec::new(alloc);
     for _ in 0..journal.len() {
         if let Some(entry) = left.first() {
-            let event = entry.event_into(alloc, &mut room)?;
+            let event = entry.event_into(alloc, &mut spare)?;
             answer.word(format_args!("/ {}", EventText { event: &event }))?;
             if let Event::Ask { targets, .. } = event {
-                room = targets.into_processes();
+                spare = targets.into_processes();
             }
         }
         if let Some(entry) = left.next_entry() {

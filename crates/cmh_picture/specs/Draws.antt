@@ -11,6 +11,7 @@ use Rattle.cmh_draw.specs.declared.picture.Picture.{Picture}
 use Rattle.cmh_console.specs.Device.{Writing}
 use Rattle.cmh_files.specs.Audits.{Audits, IsCause}
 use Rattle.cmh_console.specs.Faults.{NamesFault}
+use Rattle.cmh_files.specs.AuditFaults.{as_fault}
 use Rattle.cmh_picture.specs.PictureTexts.{IsDrawn}
 use Rattle.cmh_picture.specs.declared.format.Format.{Format}
 
@@ -44,4 +45,4 @@ abbrev pub DrawEnds : {W E : Type 0} → List ℕ → List (List ℕ) → Kind �
 DrawEnds topology files kind format old new err_old err_new status =
     (WroteDrawing topology files kind format old.written new.written × (status ≡ 0) × (new.is_flushed ≡ true)
     × (err_new ≡ err_old))
-    ⊎ NamesFault (IsCause topology files old.written new.written new.has_failed) status err_old err_new
+    ⊎ NamesFault as_fault (IsCause topology files old.written new.written new.has_failed) status err_old err_new

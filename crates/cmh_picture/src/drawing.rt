@@ -9,7 +9,7 @@ use crate::format::Format;
 use crate::picture_text::picture_text;
 use cmh_console::{Fault, Output};
 use cmh_draw::{Kind, Picture, run_picture, waits_picture};
-use cmh_files::{Audited, audit_files};
+use cmh_files::{AuditFault, Audited, audit_files};
 use cmh_journal::list_journals;
 use std::alloc::{AllocError, Global};
 use std::io::Write;
@@ -45,7 +45,7 @@ pub fn run_draw<W: Write, E: Write>(
 {
     match draw_into(alloc, drawing, out) {
         Ok(()) => 0,
-        Err(fault) => fault.name_on(err),
+        Err(fault) => Fault::from(fault).name_on(err),
     }
 }
 
@@ -54,7 +54,7 @@ fn draw_into<W: Write>(
     alloc: Global,
     drawing: &Drawing<'_>,
     out: &mut Output<W>,
-) -> Result<(), Fault>
+) -> Result<(), AuditFault>
     ensures wrote { OnOk result (WroteDrawing drawing.now.topology.now
         (map (λ file. file.items) drawing.now.journals.now) drawing.now.kind drawing.now.format
         out.old.written out.new.written) }
@@ -71,7 +71,7 @@ fn draw_into<W: Write>(
 }
 
 /// The picture of these files. The first fault is answered, as of an audit.
-fn picture_of_files(alloc: Global, drawing: &Drawing<'_>) -> Result<Picture, Fault>
+fn picture_of_files(alloc: Global, drawing: &Drawing<'_>) -> Result<Picture, AuditFault>
     ensures draws { IfOk result (DrawsFiles drawing.now.topology.now
         (map (λ file. file.items) drawing.now.journals.now) drawing.now.kind) }
     ensures fault { IfErr result (IsAuditFault drawing.now.topology.now

@@ -7,26 +7,18 @@ use Rattle.cmh_console.specs.Device.{Tells}
 use Rattle.cmh_console.specs.Dialogue.{Conversed, begin}
 use Rattle.cmh_console.specs.Faults.{status_of}
 use Rattle.cmh_console.specs.declared.device.WriteFault.{WriteFault}
-use Rattle.cmh_console.specs.declared.faults.Fault.{Fault}
-use Rattle.cmh_console.specs.declared.faults.Fault.TheVariants.{TopologyFile, ScriptFile, OutFile, JournalFile, Json, Topology, Journal, Set, Site, JournalDisk, Listen, Input, Output, Memory}
+use Rattle.cmh_console.specs.declared.dialogue.DialogueFault.TheVariants.{Input}
 use Rattle.cmh_play.specs.Play.{Answered, IsTurnOfScript, new_state}
+use Rattle.cmh_play.specs.PlayFaults.{as_fault}
+use Rattle.cmh_play.specs.declared.play_fault.PlayFault.{PlayFault}
+use Rattle.cmh_play.specs.declared.play_fault.PlayFault.TheVariants as faults
 
 -- a fault has a status above 0
-pub status_above_0 : (fault : Fault) → (n : ℕ) × (status_of fault ≡ suc n)
-status_above_0 Memory = (0, refl)
-status_above_0 TopologyFile = (2, refl)
-status_above_0 ScriptFile = (2, refl)
-status_above_0 OutFile = (2, refl)
-status_above_0 (JournalFile place) = (2, refl)
-status_above_0 Json = (2, refl)
-status_above_0 (Topology fault) = (2, refl)
-status_above_0 (Journal place fault) = (2, refl)
-status_above_0 (Set fault) = (2, refl)
-status_above_0 Site = (2, refl)
-status_above_0 JournalDisk = (2, refl)
-status_above_0 Listen = (2, refl)
-status_above_0 Input = (2, refl)
-status_above_0 Output = (2, refl)
+pub status_above_0 : (fault : PlayFault) → (n : ℕ) × (status_of (as_fault fault) ≡ suc n)
+status_above_0 faults.Input = (2, refl)
+status_above_0 faults.Output = (2, refl)
+status_above_0 faults.OutFile = (2, refl)
+status_above_0 faults.Memory = (0, refl)
 
 -- ---- some lines, up to a fault
 
@@ -36,7 +28,7 @@ none_answered None out has_failed = tt
 none_answered (Some bytes) out has_failed = record { text = []; is = (bytes, new_state, begin); wrote = inr (Appends-nil out) }
 
 -- and this fault's status is answered
-pub answered_none : (start out : Option (List ℕ)) (has_failed : Bool) (fault : Fault) → IfSome start (λ bytes. Answered bytes out out has_failed (status_of fault))
+pub answered_none : (start out : Option (List ℕ)) (has_failed : Bool) (fault : PlayFault) → IfSome start (λ bytes. Answered bytes out out has_failed (status_of (as_fault fault)))
 answered_none start out has_failed fault =
     subst (λ (status : ℕ). IfSome start (λ bytes. Answered bytes out out has_failed status)) (sym (status_above_0 fault).1) (none_answered start out has_failed)
 

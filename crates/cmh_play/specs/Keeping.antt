@@ -1,27 +1,19 @@
 -- A script that is played, and whose journals are kept.
-use Rattle.std.specs.Prelude.{◌≡◌, ℕ, zero, suc, Bool, ◌⊎◌, List, [], Option, Err, MatchOption, ⊤}
+use Rattle.std.specs.Prelude.{◌≡◌, ℕ, zero, suc, Bool, List, [], Option, Err, MatchOption}
 use Rattle.std.specs.Io.KnownBytes.{Appends}
 use Rattle.cmh_journal.specs.Journal.{Journal}
 use Rattle.cmh_play.specs.World.{World}
 use Rattle.cmh_console.specs.Dialogue.{Conversed, Dialogue}
 use Rattle.cmh_console.specs.declared.dialogue.Flow.TheVariants.{Awaits}
-use Rattle.cmh_console.specs.declared.faults.Fault.{Fault}
-use Rattle.cmh_console.specs.declared.faults.Fault.TheVariants.{OutFile, Input, Memory}
+use Rattle.cmh_console.specs.declared.dialogue.DialogueFault.TheVariants.{Input}
 use Rattle.cmh_play.specs.Play.{IsTurnOfScript, Replies, new_state}
 use Rattle.cmh_play.specs.Showing.{IsWorldOf}
-use Rattle.cmh_console.specs.Faults.{IsPlayFault}
 use Rattle.cmh_console.specs.Script.{Says}
 use Rattle.cmh_console.specs.declared.script.Line.{Line}
 use Rattle.cmh_console.specs.declared.script.Line.TheVariants.{Bad}
 use Rattle.cmh_play.specs.PlayStates.{PlayState}
 use Rattle.cmh_play.specs.declared.reply.Reply.{Reply}
 use Rattle.cmh_play.specs.declared.reply.Reply.TheVariants.{Report}
-
--- why the journals of a world are not kept
-abbrev pub IsUnkept : Fault → Type 0
-IsUnkept OutFile = ⊤
-IsUnkept Memory = ⊤
-IsUnkept fault = ⊥
 
 -- the journals of the state's world were kept; of a draft those of its sites, which are empty
 pub record KeepsWorld {K : Type 0} (Keeps : K → List Journal → K → Type 0) (state : PlayState) (old new : K) : Type 0 where
@@ -54,8 +46,3 @@ AnsweredAndKept {K} Keeps bytes old new has_failed zero keeper =
     (state : PlayState) × PlayedToEnd bytes old new state × ((before : K) × KeepsWorld Keeps state before keeper)
 AnsweredAndKept Keeps bytes old new has_failed (suc status) keeper =
     Conversed IsTurnOfScript new_state bytes old new has_failed (Err Input)
-
--- why a script is not played to its end, or its journals are not kept
-abbrev pub IsKeptPlayFault : (Fault → Type 0) → Option (List ℕ) → Bool → Bool → Fault → Type 0
-IsKeptPlayFault Fails bytes read_failed write_failed fault =
-    IsPlayFault bytes read_failed write_failed fault ⊎ Fails fault

@@ -10,3 +10,4 @@ pub mod Play
 pub mod Replies
 pub mod Showing
 pub mod Keeping
+pub mod PlayFaults

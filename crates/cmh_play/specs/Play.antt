@@ -16,8 +16,9 @@ use Rattle.cmh_play.specs.Runs.{IsRunOf}
 use Rattle.cmh_play.specs.declared.site.Refused.TheVariants.{Rule}
 use Rattle.cmh_console.specs.Script.{Says}
 use Rattle.cmh_console.specs.Faults.{status_of}
-use Rattle.cmh_console.specs.declared.faults.Fault.{Fault}
-use Rattle.cmh_console.specs.declared.faults.Fault.TheVariants.{Input}
+use Rattle.cmh_console.specs.declared.dialogue.DialogueFault.TheVariants.{Input}
+use Rattle.cmh_play.specs.PlayFaults.{as_fault}
+use Rattle.cmh_play.specs.declared.play_fault.PlayFault.{PlayFault}
 use Rattle.cmh_play.specs.PlayStates.{PlayState, Named, Played}
 use Rattle.cmh_play.specs.declared.reply.Reply.{Reply}
 use Rattle.cmh_play.specs.declared.reply.Reply.TheVariants.{Silent as NoReply, Ok, BadLine, Late, Topology, Refused, Report}
@@ -85,6 +86,6 @@ Answered bytes old new has_failed zero = Conversed IsTurnOfScript new_state byte
 Answered bytes old new has_failed (suc status) = Conversed IsTurnOfScript new_state bytes old new has_failed (Err Input)
 
 -- the status of a script's end, or of a fault
-abbrev pub status_after : Result (Unit {0}) Fault → ℕ
+abbrev pub status_after : Result (Unit {0}) PlayFault → ℕ
 status_after (Ok_result played) = 0
-status_after (Err fault) = status_of fault
+status_after (Err fault) = status_of (as_fault fault)

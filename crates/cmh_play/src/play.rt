@@ -3,10 +3,11 @@
 ghost use Rattle.std.specs.Prelude.{◌≡◌, ◌≢◌, ◌⊎◌, Bool, true, false, IfOk, IfErr, IfSome, MatchOption, OnOk, OnErr, Some, Err};
 ghost use Rattle.std.specs.Io.KnownBytes.{Keeps};
 ghost use Rattle.cmh_console.specs.Dialogue.{Conversed, line_of};
-ghost use Rattle.cmh_console.specs.Faults.{IsPlayFault, NamesFault};
+ghost use Rattle.cmh_console.specs.Faults.{NamesFault};
 ghost use Rattle.cmh_play.specs.PlayStates as states;
-ghost use Rattle.cmh_play.specs.Keeping.{AnsweredAndKept, AnswersAndKeeps, IsKeptPlayFault, KeepsAt, KeepsWorld, PlayedToEnd};
+ghost use Rattle.cmh_play.specs.Keeping.{AnsweredAndKept, AnswersAndKeeps, KeepsAt, KeepsWorld, PlayedToEnd};
 ghost use Rattle.cmh_play.specs.Play.{Answered, IsTurnOfScript, Replies, new_state, status_after};
+ghost use Rattle.cmh_play.specs.PlayFaults.{IsPlayFault, as_fault};
 ghost use Rattle.cmh_play.specs.World.{CarriesOut};
 ghost use Rattle.cmh_console.specs.Script.{Says};
 ghost use Rattle.cmh_play.specs.Showing.{HasWorld, IsNewHeld, IsShown, LeadsOn, LeadsPlayed, ShowsSome};
@@ -14,10 +15,12 @@ ghost use Rattle.cmh_console.specs.Status.{IsStatus};
 
 use crate::answer::write_reply;
 use crate::keeper::{Keeper, NoKeeper};
+use crate::play_fault::PlayFault;
 use crate::reply::Reply;
 use crate::{Draft, Playground};
 use cmh_console::{
-    Ahead, Command, Fault, Input, Line, NextLine, Output, WriteFault, parse_into, read_line,
+    Ahead, Command, DialogueFault, Fault, Input, Line, NextLine, NoFile, Output, WriteFault,
+    parse_into, read_line,
 };
 use cmh_frames::{Edition, Event, ProcId, SiteRow};
 use std::alloc::{AllocError, Global};
@@ -44,7 +47,7 @@ pub fn run_play<R: BufRead + Ahead, W: Write, E: Write>(
     ensures flushed { result ≡ 0 → out.new.is_flushed ≡ true }
     ensures unfailed { result ≡ 0 → out.new.has_failed ≡ out.old.has_failed }
     ensures left { out.new.has_failed ≡ false → (out.new.is_flushed ≡ true) ⊎ (out.new ≡ out.old) }
-    ensures fault { result ≢ 0 → NamesFault (IsPlayFault input.old.left input.new.has_failed
+    ensures fault { result ≢ 0 → NamesFault as_fault (IsPlayFault (λ _. ⊥) input.old.left input.new.has_failed
         out.new.has_failed) result err.old err.new }
 {
     run_play_keeping(alloc, input, out, err, &mut NoKeeper)
@@ -70,12 +73,12 @@ pub fn run_play_keeping<R: BufRead + Ahead, W: Write, E: Write, K: Keeper>(
     ensures flushed { result ≡ 0 → out.new.is_flushed ≡ true }
     ensures unfailed { result ≡ 0 → out.new.has_failed ≡ out.old.has_failed }
     ensures left { out.new.has_failed ≡ false → (out.new.is_flushed ≡ true) ⊎ (out.new ≡ out.old) }
-    ensures fault { result ≢ 0 → NamesFault (IsKeptPlayFault K.fails input.old.left
-        input.new.has_failed out.new.has_failed) result err.old err.new }
+    ensures fault { result ≢ 0 → NamesFault as_fault (IsPlayFault K.fails input.old.left input.new.has_failed
+        out.new.has_failed) result err.old err.new }
 {
     match play(alloc, input, out, keeper) {
         Ok(()) => 0,
-        Err(fault) => fault.name_on(err),
+        Err(fault) => Fault::from(fault).name_on(err),
     }
 }
 
@@ -84,10 +87,10 @@ fn play<R: BufRead + Ahead, W: Write, K: Keeper>(
     input: &mut Input<R>,
     out: &mut Output<W>,
     keeper: &mut K,
-) -> Result<(), Fault>
+) -> Result<(), PlayFault>
     ensures answers { IfSome input.old.left (λ bytes. AnsweredAndKept K.keeps bytes
         out.old.written out.new.written out.new.has_failed (status_after result) keeper.new) }
-    ensures fault { IfErr result (IsKeptPlayFault K.fails input.old.left input.new.has_failed out.new.has_failed) }
+    ensures fault { IfErr result (IsPlayFault K.fails input.old.left input.new.has_failed out.new.has_failed) }
     ensures flushed { OnOk result (out.new.is_flushed ≡ true) }
     ensures unfailed { OnOk result (out.new.has_failed ≡ out.old.has_failed) }
     ensures left { out.new.has_failed ≡ false → (out.new.is_flushed ≡ true) ⊎ (out.new ≡ out.old) }
@@ -97,7 +100,8 @@ fn play<R: BufRead + Ahead, W: Write, K: Keeper>(
     let flushed = out.flush();
     played?;
     flushed?;
-    state.keep_wanted(alloc, keeper)
+    state.keep_wanted(alloc, keeper)?;
+    Ok(())
 }
 
 /// Reads and answers line after line.
@@ -107,14 +111,14 @@ fn answer_all<R: BufRead + Ahead, W: Write, K: Keeper>(
     input: &mut Input<R>,
     out: &mut Output<W>,
     keeper: &mut K,
-) -> Result<(), Fault>
+) -> Result<(), PlayFault>
     requires { IsNewHeld state.old }
     ensures answers { IfSome input.old.left (λ bytes. Conversed IsTurnOfScript new_state bytes
-        out.old.written out.new.written out.new.has_failed (Err Fault.Input)) }
+        out.old.written out.new.written out.new.has_failed (Err DialogueFault.Input)) }
     ensures all { OnOk result (ShowsSome K.wants state.new (λ shown. IfSome input.old.left
         (λ bytes. PlayedToEnd bytes out.old.written out.new.written shown))) }
     ensures unfailed { OnOk result (out.new.has_failed ≡ out.old.has_failed) }
-    ensures fault { IfErr result (IsKeptPlayFault K.fails input.old.left input.new.has_failed out.new.has_failed) }
+    ensures fault { IfErr result (IsPlayFault K.fails input.old.left input.new.has_failed out.new.has_failed) }
 {
     let mut buffer = Vec::new(alloc);
     let mut spare = Vec::new(alloc);
@@ -127,7 +131,7 @@ fn answer_all<R: BufRead + Ahead, W: Write, K: Keeper>(
         write_reply(out, &reply)?;
         flush_awaited(out, input.has_line())?;
     }
-    Err(Fault::Input)
+    Err(PlayFault::Input)
 }
 
 /// Flushes the answers so far, but where a whole line is at hand: its answer is flushed with them.
@@ -166,10 +170,10 @@ impl PlayState {
     }
 
     /// Keeps the journals of the world, where they are wanted.
-    fn keep_wanted<K: Keeper>(&self, alloc: Global, keeper: &mut K) -> Result<(), Fault>
+    fn keep_wanted<K: Keeper>(&self, alloc: Global, keeper: &mut K) -> Result<(), NoFile>
         ensures kept { OnOk result ((state : states.PlayState) → IsShown K.wants state self.now
             → KeepsWorld K.keeps state keeper.old keeper.new) }
-        ensures fault { IfErr result (λ fault. (fault ≡ Fault.Memory) ⊎ K.fails fault) }
+        ensures fault { IfErr result (λ fault. (fault ≡ NoFile.Memory) ⊎ K.fails fault) }
     {
         if !keeper.wants_journals() {
             self.world_law();
@@ -190,10 +194,10 @@ impl PlayState {
     /// Keeps the journals of the world; of a draft those of its sites, which are empty.
     #[cold]
     #[inline(never)]
-    fn keep<K: Keeper>(&self, alloc: Global, keeper: &mut K) -> Result<(), Fault>
+    fn keep<K: Keeper>(&self, alloc: Global, keeper: &mut K) -> Result<(), NoFile>
         ensures kept { OnOk result ((state : states.PlayState) → IsShown true state self.now
             → KeepsWorld K.keeps state keeper.old keeper.new) }
-        ensures fault { IfErr result (λ fault. (fault ≡ Fault.Memory) ⊎ K.fails fault) }
+        ensures fault { IfErr result (λ fault. (fault ≡ NoFile.Memory) ⊎ K.fails fault) }
     {
         match self {
             PlayState::Played(world) => keeper.keep(alloc, world.journals()),
@@ -205,10 +209,15 @@ impl PlayState {
     }
 
     /// Keeps the journals where the reply is a report.
-    fn keep_for<K: Keeper>(&self, alloc: Global, reply: &Reply, keeper: &mut K) -> Result<(), Fault>
+    fn keep_for<K: Keeper>(
+        &self,
+        alloc: Global,
+        reply: &Reply,
+        keeper: &mut K,
+    ) -> Result<(), NoFile>
         ensures kept { OnOk result ((state : states.PlayState) → IsShown K.wants state self.now
             → KeepsAt K.keeps reply.now state keeper.old keeper.new) }
-        ensures fault { IfErr result (λ fault. (fault ≡ Fault.Memory) ⊎ K.fails fault) }
+        ensures fault { IfErr result (λ fault. (fault ≡ NoFile.Memory) ⊎ K.fails fault) }
     {
         match reply {
             Reply::Report(_, _) => self.keep_wanted(alloc, keeper),
@@ -225,10 +234,10 @@ impl PlayState {
         next: NextLine<'_>,
         spare: &mut Vec<ProcId>,
         keeper: &mut K,
-    ) -> Result<Reply, Fault>
+    ) -> Result<Reply, NoFile>
         ensures answers { IfOk result (λ reply. LeadsOn K.wants (λ old new. AnswersAndKeeps K.keeps old new
             (line_of next.entry) reply keeper.old keeper.new) self.old self.new) }
-        ensures fault { IfErr result (λ fault. (fault ≡ Fault.Memory) ⊎ K.fails fault) }
+        ensures fault { IfErr result (λ fault. (fault ≡ NoFile.Memory) ⊎ K.fails fault) }
     {
         let said = said_by(alloc, next, spare)?;
         let reply = self.answer(alloc, said, spare, keeper.wants_journals())?;

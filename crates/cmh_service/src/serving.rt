@@ -9,9 +9,10 @@ use crate::mailbox::Mailbox;
 use crate::rounds::Rounds;
 use crate::server::{MAIL, PAUSE_MILLISECONDS, Server};
 use cmh_carriers::{Noting, Voice};
-use cmh_console::{Fault, Output};
+use cmh_console::{Fault, Output, WriteFault};
 use cmh_host::{
-    Running, RunningSite, Setting, SiteSetup, SiteStart, System, read_setting, start_site,
+    Running, RunningSite, Setting, SiteFault, SiteSetup, SiteStart, System, read_setting,
+    start_site,
 };
 use cmh_station::BATCH_LIMIT;
 use crossbeam_utils::sync::Parker;
@@ -72,7 +73,7 @@ where
     noting.end(&rt);
     match served {
         Ok(()) => 0,
-        Err(fault) => fault.name_on(err),
+        Err(fault) => Fault::from(fault).name_on(err),
     }
 }
 
@@ -82,14 +83,14 @@ fn serve_into<R, W: Write>(
     start: &ServiceStart<'_>,
     out: &mut Output<W>,
     noting: &Noting,
-) -> Result<(), Fault>
+) -> Result<(), SiteFault>
 where
     R: System + Files<File = File> + Send + 'static,
 {
     let own = &start.site;
     let Setting { world, ports } = read_setting(alloc, own.topology)?;
     if !world.has_site(own.site) {
-        return Err(Fault::Site);
+        return Err(SiteFault::Site);
     }
     let doors = Doors::open(&rt, start.port)?;
     let setup = SiteSetup {
@@ -102,7 +103,7 @@ where
     let RunningSite { handle, threads } = start_site(rt, alloc, &setup, noting)?;
     let links = match threads.view() {
         Ok(links) => links,
-        Err(AllocError) => return ended(threads, Fault::Memory),
+        Err(AllocError) => return ended(threads, SiteFault::Memory),
     };
     let host = Host {
         rt,
@@ -112,19 +113,19 @@ where
         links,
     };
     if let Err(fault) = say_listening(out) {
-        return ended(threads, fault);
+        return ended(threads, SiteFault::from(fault));
     }
     serve_beside(rt, alloc, host, doors, threads)
 }
 
-fn say_listening<W: Write>(out: &mut Output<W>) -> Result<(), Fault> {
+fn say_listening<W: Write>(out: &mut Output<W>) -> Result<(), WriteFault> {
     out.write_line("listening")?;
     out.flush()?;
     Ok(())
 }
 
 /// Ends the threads of a site that can't go on.
-fn ended<R>(threads: Running<R>, fault: Fault) -> Result<(), Fault>
+fn ended<R>(threads: Running<R>, fault: SiteFault) -> Result<(), SiteFault>
 where
     R: System + Send + 'static,
 {
@@ -140,7 +141,7 @@ fn serve_beside<R>(
     host: Host<R>,
     doors: Doors,
     mut threads: Running<R>,
-) -> Result<(), Fault>
+) -> Result<(), SiteFault>
 where
     R: Wait
         + Threads
@@ -156,7 +157,7 @@ where
         Err(fault) => return ended(threads, fault),
     };
     let Ok(accepting) = thread::spawn(&rt, move || doors.accept_all(&rt, alloc, &rounds)) else {
-        return ended(threads, Fault::Memory);
+        return ended(threads, SiteFault::Memory);
     };
     let _ = threads.connect();
     let fault = accepting.join(&rt);
@@ -170,7 +171,7 @@ fn start_servers<R>(
     alloc: Global,
     host: Host<R>,
     doors: &Doors,
-) -> Result<Arc<Rounds<R>>, Fault>
+) -> Result<Arc<Rounds<R>>, SiteFault>
 where
     R: Wait + Threads + Net + Copy + Send + Drop + 'static,
 {
@@ -191,12 +192,12 @@ struct Polled {
     polls: Vec<Poll>,
 }
 
-fn make_polls<R: Net>(rt: &R, alloc: Global) -> Result<Polled, Fault> {
+fn make_polls<R: Net>(rt: &R, alloc: Global) -> Result<Polled, SiteFault> {
     let mut mailboxes = Vec::with_capacity(alloc, SERVERS)?;
     let mut polls = Vec::with_capacity(alloc, SERVERS)?;
     for _ in 0..SERVERS {
         let Ok(poll) = Poll::new(rt) else {
-            return Err(Fault::Listen);
+            return Err(SiteFault::Listen);
         };
         mailboxes.push(mailbox_of(alloc, &poll)?)?;
         polls.push(poll)?;
@@ -205,15 +206,15 @@ fn make_polls<R: Net>(rt: &R, alloc: Global) -> Result<Polled, Fault> {
 }
 
 /// The mailbox of the thread that waits on this.
-fn mailbox_of(alloc: Global, poll: &Poll) -> Result<Mailbox, Fault> {
+fn mailbox_of(alloc: Global, poll: &Poll) -> Result<Mailbox, SiteFault> {
     let Ok(waker) = Waker::new(poll.registry(), MAIL) else {
-        return Err(Fault::Listen);
+        return Err(SiteFault::Listen);
     };
     Ok(Mailbox::new(alloc, waker)?)
 }
 
 /// What is woken at each declaration of the site.
-fn watch<R: Wait + Drop>(alloc: Global, host: &Host<R>) -> Result<Parker, Fault> {
+fn watch<R: Wait + Drop>(alloc: Global, host: &Host<R>) -> Result<Parker, SiteFault> {
     let parker = Parker::new(alloc)?;
     host.handle.station.watch(parker.unparker().clone()?);
     Ok(parker)
@@ -224,9 +225,9 @@ fn make_rounds<R: Wait + Drop>(
     host: Host<R>,
     mailboxes: Vec<Mailbox>,
     doors: &Doors,
-) -> Result<Arc<Rounds<R>>, Fault> {
+) -> Result<Arc<Rounds<R>>, SiteFault> {
     let Ok(waker) = Waker::new(doors.poll.registry(), ENDED) else {
-        return Err(Fault::Listen);
+        return Err(SiteFault::Listen);
     };
     let mailboxes = Arc::new(alloc, mailboxes)?;
     let rounds = Rounds::new(host, Desk::new(alloc)?, mailboxes, waker);
@@ -234,14 +235,14 @@ fn make_rounds<R: Wait + Drop>(
 }
 
 /// Starts the thread that tells the others each declaration.
-fn start_passing<R>(rt: R, parker: Parker, rounds: &Arc<Rounds<R>>) -> Result<(), Fault>
+fn start_passing<R>(rt: R, parker: Parker, rounds: &Arc<Rounds<R>>) -> Result<(), SiteFault>
 where
     R: Wait + Threads + Net + Copy + Send + Drop + 'static,
 {
     let theirs = Arc::try_clone(rounds)?;
     match thread::spawn(&rt, move || pass_on(rt, &parker, &theirs)) {
         Ok(_) => Ok(()),
-        Err(_) => Err(Fault::Memory),
+        Err(_) => Err(SiteFault::Memory),
     }
 }
 
@@ -252,14 +253,14 @@ fn start_server<R>(
     number: usize,
     poll: Poll,
     rounds: &Arc<Rounds<R>>,
-) -> Result<(), Fault>
+) -> Result<(), SiteFault>
 where
     R: Wait + Threads + Net + Copy + Send + Drop + 'static,
 {
     let mut server = Server::new(rt, alloc, number, poll, Arc::try_clone(rounds)?)?;
     match thread::spawn(&rt, move || server.serve_all()) {
         Ok(_) => Ok(()),
-        Err(_) => Err(Fault::Memory),
+        Err(_) => Err(SiteFault::Memory),
     }
 }
 
@@ -281,25 +282,25 @@ struct Doors {
 }
 
 impl Doors {
-    fn open<R: Net>(rt: &R, port: u16) -> Result<Doors, Fault> {
+    fn open<R: Net>(rt: &R, port: u16) -> Result<Doors, SiteFault> {
         let address = SocketAddr::from((Ipv4Addr::LOCALHOST, port));
         let (Ok(poll), Ok(mut listener)) = (Poll::new(rt), Listener::bind(rt, address)) else {
-            return Err(Fault::Listen);
+            return Err(SiteFault::Listen);
         };
         let registered = poll
             .registry()
             .register(&mut listener, LISTENER, Interest::READABLE);
         match registered {
             Ok(()) => Ok(Doors { poll, listener }),
-            Err(_) => Err(Fault::Listen),
+            Err(_) => Err(SiteFault::Listen),
         }
     }
 
     /// Lets clients in until that can't go on.
-    fn accept_all<R: Wait + Drop>(self, rt: &R, alloc: Global, rounds: &Rounds<R>) -> Fault {
+    fn accept_all<R: Wait + Drop>(self, rt: &R, alloc: Global, rounds: &Rounds<R>) -> SiteFault {
         let mut doors = self;
         let Ok(mut events) = Events::with_capacity(alloc, 1) else {
-            return Fault::Memory;
+            return SiteFault::Memory;
         };
         let mut may_accept = true;
         for _ in rt.forever() {
@@ -309,7 +310,7 @@ impl Doors {
                 None
             };
             if doors.poll.poll(&mut events, patience).is_err() || rounds.has_ended() {
-                return Fault::Listen;
+                return SiteFault::Listen;
             }
             may_accept = doors.accept(rt, rounds);
         }

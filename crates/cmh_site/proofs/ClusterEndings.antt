@@ -8,14 +8,18 @@ use Rattle.cmh_console.specs.Device.{Writing}
 use Rattle.cmh_console.specs.TopologyFile.{OfTopology, SaysTopology}
 use Rattle.std.proofs.KnownBytes.{Appends-nil, Appends-trans}
 use Rattle.cmh_files.specs.Audits.{AuditEnds}
-use Rattle.cmh_console.specs.Faults.{IsPlayFault}
-use Rattle.cmh_console.specs.declared.faults.Fault.{Fault}
-use Rattle.cmh_console.specs.declared.faults.Fault.TheVariants.{TopologyFile, ScriptFile, OutFile, JournalFile, Json, Topology as NoTopology, Journal, Set, Site, JournalDisk, Listen, Input, Output, Memory}
-use Rattle.cmh_console.specs.Dialogue.{Conversed, begin}
+use Rattle.cmh_console.specs.Dialogue.{Conversed, IsDialogueFault, begin}
+use Rattle.cmh_console.specs.declared.dialogue.DialogueFault.{DialogueFault}
+use Rattle.cmh_console.specs.declared.dialogue.DialogueFault.TheVariants as dialogue
+use Rattle.cmh_console.specs.declared.keeping.NoFile.{NoFile}
+use Rattle.cmh_console.specs.declared.keeping.NoFile.TheVariants as files
 use Rattle.cmh_console.specs.declared.dialogue.Flow.{Flow}
 use Rattle.cmh_console.specs.declared.dialogue.Flow.TheVariants.{Awaits, Ends}
-use Rattle.cmh_site.specs.ClusterEndings.{Answered, Begun, EndsInAudit, HasPlayed, IsClusterFault, IsRunFault, IsStartFault, NamesClosed, closed_line, of_script}
+use Rattle.cmh_site.specs.ClusterEndings.{Answered, Begun, EndsInAudit, HasPlayed, IsClusterFault, IsRunFault, IsStartFault, NamesClosed, closed_line}
+use Rattle.cmh_site.specs.ClusterFaults.{of_dialogue, of_file}
 use Rattle.cmh_site.specs.ClusterTalk.{IsTurnOfCluster}
+use Rattle.cmh_site.specs.declared.cluster_fault.ClusterFault.{ClusterFault}
+use Rattle.cmh_site.specs.declared.cluster_fault.ClusterFault.TheVariants.{Json, Topology as NoTopology, ScriptFile, OutFile, Listen, Output, Memory}
 use Rattle.cmh_host.specs.Steps.{IsDeclared}
 use Rattle.cmh_host.specs.declared.site_reply.ClosedLink.{ClosedLink}
 use Rattle.cmh_host.specs.declared.site_reply.SiteReply.{SiteReply}
@@ -46,83 +50,65 @@ declared_by got here number at is (Err fault) declared = tt
 
 module _ (t : Topology) (script : List ℕ) (old : Option (List ℕ)) where
   -- all lines were answered, and links named after them
-  pub answered : (said new : Option (List ℕ)) (has_failed : Bool) (r : Result Flow Fault) (flow : Flow) → r ≡ Ok flow → flow ≡ Awaits
+  pub answered : (said new : Option (List ℕ)) (has_failed : Bool) (r : Result Flow DialogueFault) (flow : Flow) → r ≡ Ok flow → flow ≡ Awaits
       → Conversed (IsTurnOfCluster t) tt script old said has_failed r → NamesClosed said new → Answered t script old new
   answered said new has_failed r flow is awaits talked closed =
-      let replied = subst (λ (x : Result Flow Fault). Conversed (IsTurnOfCluster t) tt script old said has_failed x) (is ∙ ap Ok awaits) talked in
+      let replied = subst (λ (x : Result Flow DialogueFault). Conversed (IsTurnOfCluster t) tt script old said has_failed x) (is ∙ ap Ok awaits) talked in
       (said, closed.links, record { text = replied.text; is = replied.is; wrote = replied.wrote }, closed.wrote)
 
   -- lines were answered up to one
-  pub played_to_one : (said : Option (List ℕ)) (has_failed : Bool) (r : Result Flow Fault) (flow : Flow) → r ≡ Ok flow → flow ≡ Ends
+  pub played_to_one : (said : Option (List ℕ)) (has_failed : Bool) (r : Result Flow DialogueFault) (flow : Flow) → r ≡ Ok flow → flow ≡ Ends
       → Conversed (IsTurnOfCluster t) tt script old said has_failed r → HasPlayed t script old said Ends
   played_to_one said has_failed r flow is ends talked =
-      let replied = subst (λ (x : Result Flow Fault). Conversed (IsTurnOfCluster t) tt script old said has_failed x) (is ∙ ap Ok ends) talked in
+      let replied = subst (λ (x : Result Flow DialogueFault). Conversed (IsTurnOfCluster t) tt script old said has_failed x) (is ∙ ap Ok ends) talked in
       record { text = replied.text; is = replied.is; wrote = replied.wrote }
 
   -- no line was answered yet
   not_begun : (has_failed : Bool) → Begun t script old old has_failed
   not_begun has_failed = record { text = []; is = (script, tt, begin); wrote = inr (Appends-nil old) }
 
-  start_fault : (has_failed : Bool) (fault : Fault) → IsStartFault fault → IsRunFault t script old old has_failed fault
+  start_fault : (has_failed : Bool) (fault : ClusterFault) → IsStartFault fault → IsRunFault t script old old has_failed fault
   start_fault has_failed OutFile h = refl
   start_fault has_failed Listen h = refl
   start_fault has_failed Memory h = not_begun has_failed
-  start_fault has_failed TopologyFile h = absurd h
   start_fault has_failed ScriptFile h = absurd h
-  start_fault has_failed (JournalFile place) h = absurd h
   start_fault has_failed Json h = absurd h
   start_fault has_failed (NoTopology fault) h = absurd h
-  start_fault has_failed (Journal place fault) h = absurd h
-  start_fault has_failed (Set fault) h = absurd h
-  start_fault has_failed Site h = absurd h
-  start_fault has_failed JournalDisk h = absurd h
-  start_fault has_failed Input h = absurd h
   start_fault has_failed Output h = absurd h
 
   -- the sites don't start
-  pub start_fault_err : (has_failed : Bool) (r : Result Flow Fault) (lower : Fault) → IsErrAnd r (λ fault. fault ≡ lower) → IsStartFault lower
+  pub start_fault_err : (has_failed : Bool) (r : Result Flow ClusterFault) (lower : ClusterFault) → IsErrAnd r (λ fault. fault ≡ lower) → IsStartFault lower
       → IfErr r (IsRunFault t script old old has_failed)
   start_fault_err has_failed (Ok x) lower is h = tt
   start_fault_err has_failed (Err fault) lower is h = subst (IsRunFault t script old old has_failed) (sym is) (start_fault has_failed lower h)
 
   module _ (new : Option (List ℕ)) (has_failed : Bool) where
-    run_fault : (bytes : Option (List ℕ)) (read_failed : Bool) (fault : Fault) → Begun t script old new has_failed → IsPlayFault bytes read_failed has_failed fault
-        → IsRunFault t script old new has_failed (of_script fault)
-    run_fault bytes read_failed Input begun h = begun
-    run_fault bytes read_failed Memory begun h = begun
-    run_fault bytes read_failed Output begun h = h
-    run_fault bytes read_failed TopologyFile begun h = absurd h
-    run_fault bytes read_failed ScriptFile begun h = absurd h
-    run_fault bytes read_failed OutFile begun h = absurd h
-    run_fault bytes read_failed (JournalFile place) begun h = absurd h
-    run_fault bytes read_failed Json begun h = absurd h
-    run_fault bytes read_failed (NoTopology fault) begun h = absurd h
-    run_fault bytes read_failed (Journal place fault) begun h = absurd h
-    run_fault bytes read_failed (Set fault) begun h = absurd h
-    run_fault bytes read_failed Site begun h = absurd h
-    run_fault bytes read_failed JournalDisk begun h = absurd h
-    run_fault bytes read_failed Listen begun h = absurd h
+    run_fault : (bytes : Option (List ℕ)) (read_failed : Bool) (fault : DialogueFault) → Begun t script old new has_failed → IsDialogueFault bytes read_failed has_failed fault
+        → IsRunFault t script old new has_failed (of_dialogue fault)
+    run_fault bytes read_failed dialogue.Input begun h = begun
+    run_fault bytes read_failed dialogue.Memory begun h = begun
+    run_fault bytes read_failed dialogue.Output begun h = h
 
     -- a line was not read or not answered
-    pub run_fault_at : (bytes : Option (List ℕ)) (read_failed : Bool) (r : Result Flow Fault) (fault named : Fault) → r ≡ Err fault → named ≡ of_script fault
-        → Conversed (IsTurnOfCluster t) tt script old new has_failed r → IfErr r (IsPlayFault bytes read_failed has_failed) → IsRunFault t script old new has_failed named
+    pub run_fault_at : (bytes : Option (List ℕ)) (read_failed : Bool) (r : Result Flow DialogueFault) (fault : DialogueFault) (named : ClusterFault) → r ≡ Err fault → named ≡ of_dialogue fault
+        → Conversed (IsTurnOfCluster t) tt script old new has_failed r → IfErr r (IsDialogueFault bytes read_failed has_failed) → IsRunFault t script old new has_failed named
     run_fault_at bytes read_failed r fault named is name talked h =
-        let replied = subst (λ (x : Result Flow Fault). Conversed (IsTurnOfCluster t) tt script old new has_failed x) is talked in
-        let cause = subst (λ (x : Result Flow Fault). IfErr x (IsPlayFault bytes read_failed has_failed)) is h in
+        let replied = subst (λ (x : Result Flow DialogueFault). Conversed (IsTurnOfCluster t) tt script old new has_failed x) is talked in
+        let cause = subst (λ (x : Result Flow DialogueFault). IfErr x (IsDialogueFault bytes read_failed has_failed)) is h in
         let begun : Begun t script old new has_failed = record { text = replied.text; is = replied.is; wrote = replied.wrote } in
         subst (IsRunFault t script old new has_failed) (sym name) (run_fault bytes read_failed fault begun cause)
 
 -- ---- the whole command
 
 -- all lines were answered, and the journals are not read back
-pub unread_back : {X : Type 0} → (topology script : List ℕ) (world : Topology) (old new : Option (List ℕ)) (has_failed : Bool) (r : Result X Fault) (lower : Fault)
-    → SaysTopology topology world → Answered world script old new → IsErrAnd r (λ fault. fault ≡ lower) → (lower ≡ OutFile) ⊎ (lower ≡ Memory)
+pub unread_back : {X : Type 0} → (topology script : List ℕ) (world : Topology) (old new : Option (List ℕ)) (has_failed : Bool) (r : Result X ClusterFault) (lower : NoFile)
+    → SaysTopology topology world → Answered world script old new → IsErrAnd r (λ fault. fault ≡ of_file lower)
     → IfErr r (IsClusterFault topology script old new has_failed)
-unread_back topology script world old new has_failed (Ok x) lower says all is why = tt
-unread_back topology script world old new has_failed (Err fault) lower says all is (inl out) =
-    subst (IsClusterFault topology script old new has_failed) (sym (is ∙ out)) (world, says, inr all)
-unread_back topology script world old new has_failed (Err fault) lower says all is (inr memory) =
-    subst (IsClusterFault topology script old new has_failed) (sym (is ∙ memory)) (inr (world, says, inr all))
+unread_back topology script world old new has_failed (Ok x) lower says all is = tt
+unread_back topology script world old new has_failed (Err fault) files.Disk says all is =
+    subst (IsClusterFault topology script old new has_failed) (sym is) (world, says, inr all)
+unread_back topology script world old new has_failed (Err fault) files.Memory says all is =
+    subst (IsClusterFault topology script old new has_failed) (sym is) (inr (world, says, inr all))
 
 -- the files that were read back were audited
 pub audited : {W E : Type 0} (topology script : List ℕ) (old before new : Writing W) (err_old err_new : Writing E) (status : ℕ) (files read : List (List ℕ))

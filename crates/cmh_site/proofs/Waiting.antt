@@ -10,12 +10,11 @@ use Rattle.cmh_console.specs.Lines.{IsNextLine, IsEndless, IsLineFault}
 use Rattle.cmh_console.specs.declared.lines.LineFault.{LineFault}
 use Rattle.cmh_console.specs.declared.lines.NextLine.{NextLine}
 use Rattle.cmh_console.specs.declared.lines.NextLine.TheVariants.{End}
-use Rattle.cmh_console.specs.Faults.{IsPlayFault, of_line}
-use Rattle.cmh_console.specs.declared.faults.Fault.{Fault}
+use Rattle.cmh_console.specs.declared.dialogue.DialogueFault.{DialogueFault}
 use Rattle.cmh_console.proofs.LineLemmas.{HasLeft, at_some, endless_input, length-drop_through, unread_err}
 use Rattle.std.proofs.KnownBytes.{Appends-trans}
 use Rattle.cmh_console.proofs.Dialogues.{HasTalked, begun, first_is}
-use Rattle.cmh_console.specs.Dialogue.{Conversed, Dialogue, HasAnswered, line_in, line_of, turn}
+use Rattle.cmh_console.specs.Dialogue.{Conversed, Dialogue, HasAnswered, IsDialogueFault, line_in, line_of, of_line, turn}
 use Rattle.cmh_console.specs.declared.dialogue.Flow.{Flow}
 use Rattle.cmh_console.specs.declared.dialogue.Flow.TheVariants.{Awaits}
 use Rattle.cmh_console.specs.declared.script.Command.TheVariants.{Act}
@@ -111,16 +110,16 @@ module _ (site : ℕ) (first : Bool) (start old now out : Option (List ℕ)) (la
       }
 
   -- a fault comes after the lines that were answered
-  pub waited_some : (has_failed : Bool) (fault : Fault) → IfSome start (λ bytes. Conversed (IsTurnOfSite site) first bytes old out has_failed (Err fault))
+  pub waited_some : (has_failed : Bool) (fault : DialogueFault) → IfSome start (λ bytes. Conversed (IsTurnOfSite site) first bytes old out has_failed (Err fault))
   waited_some has_failed fault = if_some start _ (λ bytes e.
       let s = so_far bytes e in
       record { text = s.text; is = (s.rest, last, s.dialogue); wrote = inr s.wrote })
 
-  pub waited_err : (has_failed : Bool) (r : Result Flow Fault) → IsErr r → IfSome start (λ bytes. Conversed (IsTurnOfSite site) first bytes old out has_failed r)
+  pub waited_err : (has_failed : Bool) (r : Result Flow DialogueFault) → IsErr r → IfSome start (λ bytes. Conversed (IsTurnOfSite site) first bytes old out has_failed r)
   waited_err has_failed (Ok x) err = absurd (true≢false (sym err))
   waited_err has_failed (Err fault) err = waited_some has_failed fault
 
-  pub waited_failed : (after : Option (List ℕ)) (has_failed : Bool) (r : Result Flow Fault) → IsErr r → has_failed ≡ true
+  pub waited_failed : (after : Option (List ℕ)) (has_failed : Bool) (r : Result Flow DialogueFault) → IsErr r → has_failed ≡ true
       → IfSome start (λ bytes. Conversed (IsTurnOfSite site) first bytes old after has_failed r)
   waited_failed after has_failed (Ok x) err failed = absurd (true≢false (sym err))
   waited_failed after has_failed (Err fault) err failed = if_some start _ (λ bytes e.
@@ -133,8 +132,8 @@ module _ (site : ℕ) (first : Bool) (start old now out : Option (List ℕ)) (la
   pub endless_wait : 2 ^ 64 - 1 ≤ n → IsEndless start
   endless_wait = endless_input start now n has_left
 
-  pub unread_waiting : (read_failed write_failed : Bool) (r : Result Flow Fault) (lower : LineFault) → IsErrAnd r (λ fault. fault ≡ of_line lower) → IsLineFault now read_failed lower
-      → IfErr r (IsPlayFault start read_failed write_failed)
+  pub unread_waiting : (read_failed write_failed : Bool) (r : Result Flow DialogueFault) (lower : LineFault) → IsErrAnd r (λ fault. fault ≡ of_line lower) → IsLineFault now read_failed lower
+      → IfErr r (IsDialogueFault start read_failed write_failed)
   unread_waiting = unread_err start now n has_left
 
 -- a line that says this was answered

@@ -6,13 +6,15 @@ use Rattle.cmh_console.specs.Device.{Writing}
 use Rattle.cmh_files.specs.Audits.{AuditEnds}
 use Rattle.cmh_console.specs.Faults.{NamesFault}
 use Rattle.cmh_console.specs.TopologyFile.{IsOfNoTopology, OfTopology, SaysNoPorts}
-use Rattle.cmh_console.specs.declared.faults.Fault.{Fault}
-use Rattle.cmh_console.specs.declared.faults.Fault.TheVariants.{ScriptFile, OutFile, Json, Topology as NoTopology, Listen, Input, Output, Memory}
 use Rattle.cmh_console.specs.Dialogue.{Conversed}
+use Rattle.cmh_console.specs.declared.dialogue.DialogueFault.TheVariants.{Input}
 use Rattle.cmh_console.specs.declared.dialogue.Flow.{Flow}
 use Rattle.cmh_console.specs.declared.dialogue.Flow.TheVariants.{Awaits, Ends}
 use Rattle.cmh_host.specs.SiteReplies.{closed_text}
+use Rattle.cmh_site.specs.ClusterFaults.{as_fault}
 use Rattle.cmh_site.specs.ClusterTalk.{IsTurnOfCluster}
+use Rattle.cmh_site.specs.declared.cluster_fault.ClusterFault.{ClusterFault}
+use Rattle.cmh_site.specs.declared.cluster_fault.ClusterFault.TheVariants.{ScriptFile, OutFile, Json, Topology as NoTopology, Listen, Output, Memory}
 use Rattle.cmh_site.specs.declared.cluster.Played.{Played}
 use Rattle.cmh_site.specs.declared.cluster.Played.TheVariants.{Read, NotSettled}
 use Rattle.cmh_host.specs.declared.site_reply.ClosedLink.{ClosedLink}
@@ -21,7 +23,7 @@ use Rattle.cmh_host.specs.declared.site_reply.ClosedLink.{ClosedLink}
 
 -- some first lines of the script were answered, or none
 abbrev pub Begun : Topology → List ℕ → Option (List ℕ) → Option (List ℕ) → Bool → Type 0
-Begun t script old new has_failed = Conversed (IsTurnOfCluster t) tt script old new has_failed (Err ScriptFile)
+Begun t script old new has_failed = Conversed (IsTurnOfCluster t) tt script old new has_failed (Err Input)
 
 abbrev pub closed_line : ClosedLink → List ℕ
 closed_line link = closed_text link ++ 10 ∷ []
@@ -45,19 +47,14 @@ HasPlayed t script old new Ends = Conversed (IsTurnOfCluster t) tt script old ne
 -- ---- why all sites end early
 
 -- why the sites of a topology are not started
-abbrev pub IsStartFault : Fault → Type 0
+abbrev pub IsStartFault : ClusterFault → Type 0
 IsStartFault OutFile = ⊤
 IsStartFault Listen = ⊤
 IsStartFault Memory = ⊤
 IsStartFault fault = ⊥
 
--- a script that is too long to be counted is said to be a file that can't be read
-abbrev pub of_script : Fault → Fault
-of_script Input = ScriptFile
-of_script fault = fault
-
 -- why they are not started, or end before their script's end, and what was written then
-abbrev pub IsRunFault : Topology → List ℕ → Option (List ℕ) → Option (List ℕ) → Bool → Fault → Type 0
+abbrev pub IsRunFault : Topology → List ℕ → Option (List ℕ) → Option (List ℕ) → Bool → ClusterFault → Type 0
 IsRunFault t script old new write_failed OutFile = new ≡ old
 IsRunFault t script old new write_failed Listen = new ≡ old
 IsRunFault t script old new write_failed ScriptFile = Begun t script old new write_failed
@@ -67,7 +64,7 @@ IsRunFault t script old new write_failed fault = ⊥
 
 -- Why a cluster ends without an audit, and what was written then. What a disk or a port refuses comes only where the file
 -- is that of a topology: a journal's file is refused before all lines, or after them, when it is read back.
-abbrev pub IsClusterFault : List ℕ → List ℕ → Option (List ℕ) → Option (List ℕ) → Bool → Fault → Type 0
+abbrev pub IsClusterFault : List ℕ → List ℕ → Option (List ℕ) → Option (List ℕ) → Bool → ClusterFault → Type 0
 IsClusterFault topology script old new write_failed Json = SaysNoPorts topology × (new ≡ old)
 IsClusterFault topology script old new write_failed (NoTopology fault) = IsOfNoTopology topology fault × (new ≡ old)
 IsClusterFault topology script old new write_failed Listen = OfTopology topology (λ world. new ≡ old)
@@ -76,7 +73,6 @@ IsClusterFault topology script old new write_failed ScriptFile = OfTopology topo
 IsClusterFault topology script old new write_failed Memory =
     (new ≡ old) ⊎ OfTopology topology (λ world. Begun world script old new write_failed ⊎ Answered world script old new)
 IsClusterFault topology script old new write_failed Output = write_failed ≡ true
-IsClusterFault topology script old new write_failed fault = ⊥
 
 -- ---- how a cluster ends
 
@@ -107,4 +103,4 @@ abbrev pub ClusterEnds : {W E : Type 0} → List ℕ → List ℕ → Writing W 
 ClusterEnds topology script old new err_old err_new status =
     EndsInAudit topology script old new err_old err_new status
     ⊎ (SaysNotSettled topology script old.written new.written × (new.is_flushed ≡ true) × (err_new ≡ err_old) × (status ≡ 1))
-    ⊎ NamesFault (IsClusterFault topology script old.written new.written new.has_failed) status err_old err_new
+    ⊎ NamesFault as_fault (IsClusterFault topology script old.written new.written new.has_failed) status err_old err_new

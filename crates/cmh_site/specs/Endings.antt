@@ -4,11 +4,12 @@ use Rattle.std.specs.Io.KnownBytes.{Appends}
 use Rattle.cmh_frames.specs.Topology.{is_site}
 use Rattle.cmh_console.specs.Device.{Tells}
 use Rattle.cmh_console.specs.TopologyFile.{IsOfNoTopology, OfTopology, SaysNoPorts}
-use Rattle.cmh_console.specs.declared.faults.Fault.{Fault}
-use Rattle.cmh_console.specs.declared.faults.Fault.TheVariants.{Json, Topology as NoTopology, Site, JournalDisk, Listen, Input, Output, Memory}
-use Rattle.cmh_console.specs.Dialogue.{IsTextOf}
-use Rattle.cmh_console.specs.Faults.{IsPlayFault}
+use Rattle.cmh_console.specs.Dialogue.{IsDialogueFault, IsTextOf}
+use Rattle.cmh_console.specs.declared.dialogue.DialogueFault.{DialogueFault}
+use Rattle.cmh_console.specs.declared.dialogue.DialogueFault.TheVariants as dialogue
 use Rattle.cmh_console.specs.declared.dialogue.Flow.{Flow}
+use Rattle.cmh_host.specs.declared.site_fault.SiteFault.{SiteFault}
+use Rattle.cmh_host.specs.declared.site_fault.SiteFault.TheVariants.{Json, Topology as NoTopology, Site, JournalDisk, Listen, Input, Output, Memory}
 use Rattle.cmh_site.specs.SiteTalk.{IsTurnOfSite}
 
 -- ---- the start
@@ -20,20 +21,19 @@ Knows topology site is_known = OfTopology topology (λ t. is_site t site ≡ is_
 -- ---- one site
 
 -- Why a site ends before it is told to. What a disk or a port refuses comes only where the topology has the site.
-abbrev pub IsSiteFault : List ℕ → ℕ → Option (List ℕ) → Bool → Bool → Fault → Type 0
+abbrev pub IsSiteFault : List ℕ → ℕ → Option (List ℕ) → Bool → Bool → SiteFault → Type 0
 IsSiteFault topology site bytes read_failed write_failed Json = SaysNoPorts topology
 IsSiteFault topology site bytes read_failed write_failed (NoTopology fault) = IsOfNoTopology topology fault
 IsSiteFault topology site bytes read_failed write_failed Site = Knows topology site false
 IsSiteFault topology site bytes read_failed write_failed JournalDisk = Knows topology site true
 IsSiteFault topology site bytes read_failed write_failed Listen = Knows topology site true
-IsSiteFault topology site bytes read_failed write_failed Input = IsPlayFault bytes read_failed write_failed Input
+IsSiteFault topology site bytes read_failed write_failed Input = IsDialogueFault bytes read_failed write_failed dialogue.Input
 IsSiteFault topology site bytes read_failed write_failed Output = write_failed ≡ true
 IsSiteFault topology site bytes read_failed write_failed Memory = ⊤
-IsSiteFault topology site bytes read_failed write_failed fault = ⊥
 
 -- a site said that it listens, and then answered its lines, up to a fault if there is one
 pub record Welcomed (site : ℕ) (was : Bool) (bytes : List ℕ) (old new : Option (List ℕ)) (has_failed : Bool)
-    (result : Result Flow Fault) : Type 0 where
+    (result : Result Flow DialogueFault) : Type 0 where
   pub text : List ℕ
   pub is : IsTextOf Bool (IsTurnOfSite site) was bytes text result
   pub wrote : MatchResult result (λ flow. Appends old new (codes "listening\n" ++ text))

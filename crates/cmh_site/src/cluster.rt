@@ -1,30 +1,32 @@
 //! The command `cluster`: all sites of a topology as threads of one program, driven by a script.
 
-ghost use Rattle.std.specs.Prelude.{◌≡◌, ◌<◌, ◌⊎◌, None, true, MatchOption, IfOk, IfErr, IfSome, OnOk, codes, length, vec_capacity, vec_len};
+ghost use Rattle.std.specs.Prelude.{◌≡◌, ◌<◌, ◌⊎◌, None, true, MatchOption, IfOk, IfErr, IfSome, OnErr, OnOk, codes, length, vec_capacity, vec_len};
 ghost use Rattle.std.specs.Io.KnownBytes.{Appends};
 ghost use Rattle.cmh_controller.specs.declared.refusal.Refusal.TheVariants.{NotHere, UnknownProcess};
 ghost use Rattle.cmh_console.specs.Status.{IsStatus};
 ghost use Rattle.cmh_frames.specs.Topology.{home, sites_of};
-ghost use Rattle.cmh_console.specs.Dialogue.{Conversed, HasAnswered, line_of};
-ghost use Rattle.cmh_site.specs.ClusterEndings as spec;
+ghost use Rattle.cmh_console.specs.Dialogue.{Conversed, HasAnswered, IsAnswerFault, IsDialogueFault, line_of};
 ghost use Rattle.cmh_site.specs.ClusterEndings.{ClusterEnds, ComesTo, EndsInAudit, HasPlayed, IsClusterFault, IsRunFault, IsStartFault, NamesClosed};
-ghost use Rattle.cmh_console.specs.Faults.{IsAnswerFault, IsPlayFault};
 ghost use Rattle.cmh_host.specs.declared.site_reply.SiteReply.TheVariants.{Refused};
 ghost use Rattle.cmh_station.specs.declared.refusal.StationRefusal.TheVariants.{Rule};
 ghost use Rattle.cmh_host.specs.Steps.{IsDeclared, WasStepped};
 ghost use Rattle.cmh_host.specs.SiteScript.{SaysToCluster};
 ghost use Rattle.cmh_site.specs.ClusterTalk.{AnswersCluster, IsTurnOfCluster};
 
+use crate::cluster_fault::ClusterFault;
 use crate::settling::{ReceiptLook, SendingLook, Silence, Tally};
 use cmh_carriers::{Dial, Listen, NoVoice, Noting, Origin, TcpDial, TcpListen, Voice};
-use cmh_console::{Command, Fault, Flow, Input, Line, NextLine, Output, path_in, read_line};
+use cmh_console::{
+    Command, DialogueFault, Fault, Flow, Input, Line, NextLine, NoFile, Output, WriteFault,
+    path_in, read_line,
+};
 use cmh_controller::Refusal;
 use cmh_files::run_audit;
 use cmh_frames::{Event, ProcId, SiteId, Topology};
 use cmh_host::{
     Carriers, ClosedLink, ClusterLine, Disk, JournalFolder, JournalSink, Opened, Ports,
     RunningSite, Setting, SiteReply, Speakers, System, can_be_made, closed_in, closed_out,
-    fault_of, open_station, parse_for_cluster, read_setting, start_threads,
+    open_station, parse_for_cluster, read_setting, start_threads,
 };
 use cmh_journal::Sink;
 use cmh_links::LinkFault;
@@ -110,7 +112,7 @@ where
     match played {
         Ok(Played::Read(journals)) => run_audit(rt.alloc(), start.topology, &journals, out, err),
         Ok(Played::NotSettled) => 1,
-        Err(fault) => fault.name_on(err),
+        Err(fault) => Fault::from(fault).name_on(err),
     }
 }
 
@@ -129,7 +131,7 @@ fn cluster_into<R, W: Write>(
     start: &ClusterStart<'_>,
     out: &mut Output<W>,
     noting: &Noting,
-) -> Result<Played, Fault>
+) -> Result<Played, ClusterFault>
 where
     R: System + Files<File = File> + AllocGlobal + Send + 'static,
     ensures played { IfOk result (ComesTo start.now.topology.now start.now.script.now out.old.written out.new.written
@@ -147,11 +149,11 @@ where
     }
 }
 
-fn say_not_settled<W: Write>(out: &mut Output<W>) -> Result<(), Fault>
+fn say_not_settled<W: Write>(out: &mut Output<W>) -> Result<(), WriteFault>
     ensures said { OnOk result (Appends out.old.written out.new.written
         (codes "not settled\n")) }
     ensures flushed { OnOk result (out.new.is_flushed ≡ true) }
-    ensures fault { IfErr result (λ fault. (fault ≡ Fault.Output) × (out.new.has_failed ≡ true)) }
+    ensures fault { OnErr result (out.new.has_failed ≡ true) }
 {
     out.write_line("not settled")?;
     out.flush()?;
@@ -166,7 +168,7 @@ fn run_sites<R, W: Write>(
     start: &ClusterStart<'_>,
     out: &mut Output<W>,
     noting: &Noting,
-) -> Result<Flow, Fault>
+) -> Result<Flow, ClusterFault>
 where
     R: System + Files<File = File> + AllocGlobal + Send + 'static,
     ensures played { IfOk result
@@ -185,9 +187,8 @@ fn read_back<R: Files<File = File> + AllocGlobal>(
     rt: &R,
     world: &Topology,
     dir: &str,
-) -> Result<Vec<Vec<u8>>, Fault>
+) -> Result<Vec<Vec<u8>>, NoFile>
     ensures one_each { IfOk result (λ journals. length journals.items ≡ length (sites_of world.now)) }
-    ensures fault { IfErr result (λ fault. (fault ≡ Fault.OutFile) ⊎ (fault ≡ Fault.Memory)) }
 {
     let alloc = rt.alloc();
     let mut journals = Vec::with_capacity(alloc, world.sites().len())?;
@@ -195,8 +196,8 @@ fn read_back<R: Files<File = File> + AllocGlobal>(
         let path = path_in(alloc, dir, *site)?;
         match fs::read(rt, path.as_str()) {
             Ok(bytes) => journals.push(bytes)?,
-            Err(error) if error.kind() == ErrorKind::OutOfMemory => return Err(Fault::Memory),
-            Err(_) => return Err(Fault::OutFile),
+            Err(error) if error.kind() == ErrorKind::OutOfMemory => return Err(NoFile::Memory),
+            Err(_) => return Err(NoFile::Disk),
         }
     }
     Ok(journals)
@@ -272,7 +273,7 @@ where
         dir: &str,
         script: &[u8],
         out: &mut Output<W>,
-    ) -> Result<Flow, Fault>
+    ) -> Result<Flow, ClusterFault>
         ensures played { IfOk result (HasPlayed self.old.topology.now script.now out.old.written out.new.written) }
         ensures fault { IfErr result (IsRunFault self.old.topology.now script.now out.old.written
             out.new.written out.new.has_failed) }
@@ -288,7 +289,7 @@ where
                 Ok(Flow::Awaits)
             }
             Ok(Flow::Ends) => Ok(Flow::Ends),
-            Err(fault) => Err(of_script(fault)),
+            Err(fault) => Err(ClusterFault::from(fault)),
         }
     }
 
@@ -307,7 +308,7 @@ where
 
     /// Every port is taken first, so that sites which run already keep their journals; then every journal is made, and
     /// only then does any site start.
-    fn start_all(&mut self, ports: &Ports, dir: &str) -> Result<(), Fault>
+    fn start_all(&mut self, ports: &Ports, dir: &str) -> Result<(), ClusterFault>
         ensures topology { self.new.topology ≡ self.old.topology }
         ensures fault { IfErr result IsStartFault }
     {
@@ -325,7 +326,7 @@ where
         ports: &Ports,
         opened: Opened<R>,
         listen: TcpListen<R>,
-    ) -> Result<(), Fault>
+    ) -> Result<(), ClusterFault>
         ensures topology { self.new.topology ≡ self.old.topology }
         ensures fault { IfErr result IsStartFault }
     {
@@ -341,7 +342,7 @@ where
         ports: &Ports,
         site: SiteId,
         listen: TcpListen<R>,
-    ) -> Result<Carriers<R>, Fault>
+    ) -> Result<Carriers<R>, ClusterFault>
         ensures topology { self.new.topology ≡ self.old.topology }
         ensures place { OnOk result (vec_len self.new.members < vec_capacity self.new.members) }
         ensures listens { IfOk result (λ carriers. carriers.listen.faults ≡ 0) }
@@ -350,7 +351,7 @@ where
     {
         if listen.faults() != 0 {
             // Never so: nothing was asked of it yet.
-            return Err(Fault::Listen);
+            return Err(ClusterFault::Listen);
         }
         self.members.reserve(1)?;
         let origin = Origin::Site(site);
@@ -367,7 +368,7 @@ where
     }
 
     /// Listens for all sites. Where a port is taken and a journal can't be made, the journal is named.
-    fn listen_all(&self, ports: &Ports, dir: &str) -> Result<Vec<TcpListen<R>>, Fault>
+    fn listen_all(&self, ports: &Ports, dir: &str) -> Result<Vec<TcpListen<R>>, ClusterFault>
         ensures { IfErr result IsStartFault }
     {
         let mut listens = Vec::with_capacity(self.alloc, self.topology.sites().len())?;
@@ -375,7 +376,7 @@ where
         for site in self.topology.sites() {
             let Some(port) = ports.of(*site) else {
                 // Never so: each row has its port.
-                return Err(Fault::Listen);
+                return Err(ClusterFault::Listen);
             };
             match TcpListen::bind(&self.rt, self.alloc, port) {
                 Ok(listen) => listens.push(listen)?,
@@ -388,31 +389,22 @@ where
         for site in self.topology.sites() {
             let path = path_in(self.alloc, dir, *site)?;
             if !can_be_made(&mut Disk::new(&self.rt), self.alloc, path.as_str())? {
-                return Err(Fault::OutFile);
+                return Err(ClusterFault::OutFile);
             }
         }
-        Err(Fault::Listen)
+        Err(ClusterFault::Listen)
     }
 
     /// Makes all journals anew; none where one of them can't be made, so that a cluster which runs keeps its journals.
-    fn open_all(&self, dir: &str) -> Result<Vec<Opened<R>>, Fault>
-        ensures { IfErr result IsStartFault }
-    {
+    fn open_all(&self, dir: &str) -> Result<Vec<Opened<R>>, NoFile> {
         let sites = self.topology.sites();
-        let folder = match JournalFolder::of_sites(&self.rt, self.alloc, dir, sites) {
-            Ok(folder) => folder,
-            Err(refused) => return Err(fault_of(refused, Fault::OutFile)),
-        };
+        let folder = JournalFolder::of_sites(&self.rt, self.alloc, dir, sites)?;
         let opened = self.open_in(&folder, dir)?;
-        match folder.sync() {
-            Ok(()) => Ok(opened),
-            Err(refused) => Err(fault_of(refused, Fault::OutFile)),
-        }
+        folder.sync()?;
+        Ok(opened)
     }
 
-    fn open_in(&self, folder: &JournalFolder<'_, R>, dir: &str) -> Result<Vec<Opened<R>>, Fault>
-        ensures { IfErr result IsStartFault }
-    {
+    fn open_in(&self, folder: &JournalFolder<'_, R>, dir: &str) -> Result<Vec<Opened<R>>, NoFile> {
         let mut opened = Vec::with_capacity(self.alloc, self.topology.sites().len())?;
         for site in self.topology.sites() {
             opened.push(self.open_one(folder, dir, *site)?)?;
@@ -425,17 +417,9 @@ where
         folder: &JournalFolder<'_, R>,
         dir: &str,
         site: SiteId,
-    ) -> Result<Opened<R>, Fault>
-        ensures { IfErr result IsStartFault }
-    {
-        let sink = match folder.replace(self.alloc, dir, site) {
-            Ok(sink) => sink,
-            Err(refused) => return Err(fault_of(refused, Fault::OutFile)),
-        };
-        match open_station(self.rt, self.alloc, self.topology, site, sink) {
-            Ok(opened) => Ok(opened),
-            Err(refused) => Err(fault_of(refused, Fault::OutFile)),
-        }
+    ) -> Result<Opened<R>, NoFile> {
+        let sink = folder.replace(self.alloc, dir, site)?;
+        open_station(self.rt, self.alloc, self.topology, site, sink)
     }
 
     /// Gives line after line to `answer`, until one ends it or none is left, and then another would be awaited.
@@ -443,10 +427,10 @@ where
         &mut self,
         input: &mut Input<I>,
         out: &mut Output<W>,
-    ) -> Result<Flow, Fault>
+    ) -> Result<Flow, DialogueFault>
         ensures answers { IfSome input.old.left (λ bytes. Conversed (IsTurnOfCluster self.old.topology.now) tt bytes
             out.old.written out.new.written out.new.has_failed result) }
-        ensures fault { IfErr result (IsPlayFault input.old.left input.new.has_failed out.new.has_failed) }
+        ensures fault { IfErr result (IsDialogueFault input.old.left input.new.has_failed out.new.has_failed) }
     {
         let mut buffer = Vec::new(self.alloc);
         for turn in 0..u64::MAX {
@@ -460,11 +444,15 @@ where
                 Flow::Ends => return Ok(Flow::Ends),
             }
         }
-        Err(Fault::Input)
+        Err(DialogueFault::Input)
     }
 
     /// Answers a line and waits until all frames have come; where they don't, no other line is read.
-    fn answer<W: Write>(&mut self, next: NextLine<'_>, out: &mut Output<W>) -> Result<Flow, Fault>
+    fn answer<W: Write>(
+        &mut self,
+        next: NextLine<'_>,
+        out: &mut Output<W>,
+    ) -> Result<Flow, DialogueFault>
         ensures answers { IfOk result (λ flow. HasAnswered (λ said text. IsTurnOfCluster self.old.topology.now tt tt said text flow) (line_of next.entry)
             out.old.written out.new.written) }
         ensures topology { self.new.topology ≡ self.old.topology }
@@ -598,9 +586,9 @@ where
 
     /// A line for each link that is closed, ascending.
     #[tactic(auto, using(crate::proofs::ClusterEndings::none_closed))]
-    fn write_closed<W: Write>(&self, out: &mut Output<W>) -> Result<(), Fault>
+    fn write_closed<W: Write>(&self, out: &mut Output<W>) -> Result<(), WriteFault>
         ensures closed { OnOk result (NamesClosed out.old.written out.new.written) }
-        ensures fault { IfErr result (λ fault. (fault ≡ Fault.Output) × (out.new.has_failed ≡ true)) }
+        ensures fault { OnErr result (out.new.has_failed ≡ true) }
     {
         for (i, from) in self.topology.sites().iter().enumerate() {
             for (k, to) in self.topology.sites().iter().enumerate() {
@@ -649,16 +637,6 @@ where
         tally.count_sendings(&mut look, guard.journal());
     }
     look
-}
-
-/// The fault of a script that is in memory: it can be read, but for one that is too long to be counted.
-fn of_script(fault: Fault) -> Fault
-    ensures { result ≡ spec.of_script fault }
-{
-    match fault {
-        Fault::Input => Fault::ScriptFile,
-        _ => fault,
-    }
 }
 
 /// What a line says; one that is too long is a bad one.

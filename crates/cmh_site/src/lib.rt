@@ -3,16 +3,18 @@
 #![tactic(auto)]
 
 mod cluster;
+mod cluster_fault;
 mod settling;
 mod site;
 
 pub use crate::cluster::{ClusterStart, run_cluster, run_cluster_noting};
+pub use crate::cluster_fault::ClusterFault;
 pub use crate::site::{run_site, run_site_noting};
 pub use cmh_carriers::{NoVoice, Note, Noted, Voice};
 pub use cmh_console::{
-    Ahead, Fault, Input, Output, TopologyFile, TopologyFileFault, read_topology_file,
+    Ahead, Fault, Input, NoFile, Output, TopologyFile, TopologyFileFault, read_topology_file,
     read_topology_file_with_ports,
 };
 pub use cmh_files::{run_audit, run_show};
-pub use cmh_host::{LinkEnds, SiteReply, SiteStart, System};
-pub use cmh_play::{Folder, Keeper, NoKeeper, run_play, run_play_keeping};
+pub use cmh_host::{LinkEnds, SiteFault, SiteReply, SiteStart, System};
+pub use cmh_play::{Folder, Keeper, NoKeeper, PlayFault, run_play, run_play_keeping};

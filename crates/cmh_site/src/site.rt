@@ -1,22 +1,27 @@
 //! The command `site`: one site, driven by the lines of an input.
 
-ghost use Rattle.std.specs.Prelude.{◌≡◌, ◌≢◌, ◌≤◌, ◌⊎◌, [], length, true, false, IfOk, IfErr, IfSome, MatchBool, OnOk};
-ghost use Rattle.cmh_console.specs.Faults.{IsAnswerFault, IsPlayFault, NamesFault};
+ghost use Rattle.std.specs.Prelude.{◌≡◌, ◌≢◌, ◌≤◌, ◌⊎◌, [], length, true, false, IfOk, IfErr, IfSome, MatchBool, OnErr, OnOk};
+ghost use Rattle.cmh_console.specs.Faults.{NamesFault};
 ghost use Rattle.cmh_console.specs.Status.{IsStatus};
-ghost use Rattle.cmh_console.specs.Dialogue.{Conversed, line_of};
+ghost use Rattle.cmh_console.specs.Dialogue.{Conversed, IsAnswerFault, IsDialogueFault, line_of};
 ghost use Rattle.cmh_links.specs.Threads.{connected_in, failed_in};
 ghost use Rattle.cmh_site.specs.Endings.{IsSiteFault, Served, Welcomed};
 ghost use Rattle.cmh_site.specs.SiteTalk.{AnswersSite, CountsLinks, IsConnected, IsTurnOfSite, WasSaidToSite};
+ghost use Rattle.cmh_host.specs.SiteFaults.{as_fault};
 ghost use Rattle.cmh_host.specs.Together.{WereAnswered};
 ghost use Rattle.cmh_site.specs.Together.{SaidTurn, SaysEvent};
 ghost use Rattle.cmh_station.specs.Journaled.{batch_limit};
 
 use cmh_carriers::{Dial, NoVoice, Noting, TcpDial, Voice};
-use cmh_console::{Ahead, Command, Fault, Flow, Input, Line, NextLine, Output, read_line};
+use cmh_console::{
+    Ahead, Command, DialogueFault, Fault, Flow, Input, Line, NextLine, Output, WriteFault,
+    read_line,
+};
 use cmh_frames::{Event, SiteId, Topology};
 use cmh_host::{
-    JournalSink, Order, Running, RunningSite, Setting, SiteHandle, SiteLine, SiteReply, SiteSetup,
-    SiteStart, System, answer_events, link_ends, parse_for_site, read_setting, start_site,
+    JournalSink, Order, Running, RunningSite, Setting, SiteFault, SiteHandle, SiteLine, SiteReply,
+    SiteSetup, SiteStart, System, answer_events, link_ends, parse_for_site, read_setting,
+    start_site,
 };
 use cmh_journal::Sink;
 use cmh_station::{BATCH_LIMIT, KeptBoard, Listing};
@@ -50,14 +55,14 @@ where
     ensures silent { result ≡ 0 → err.new ≡ err.old }
 
     // Else a fault is named that has a cause.
-    ensures fault { result ≢ 0 → NamesFault
+    ensures fault { result ≢ 0 → NamesFault as_fault
         (IsSiteFault start.now.topology.now start.now.site input.old.left input.new.has_failed out.new.has_failed)
         result err.old err.new }
 {
     let nobody: Option<NoVoice> = None;
     match run_site_noting(rt, start, input, out, nobody) {
         Ok(()) => 0,
-        Err(fault) => fault.name_on(err),
+        Err(fault) => Fault::from(fault).name_on(err),
     }
 }
 
@@ -69,7 +74,7 @@ pub fn run_site_noting<R, I: BufRead + Ahead, W: Write, V>(
     input: &mut Input<I>,
     out: &mut Output<W>,
     voice: Option<V>,
-) -> Result<(), Fault>
+) -> Result<(), SiteFault>
 where
     R: System + Files<File = File> + AllocGlobal + Send + 'static,
     V: Voice + Send + Drop + 'static,
@@ -94,7 +99,7 @@ fn site_into<R, I: BufRead + Ahead, W: Write>(
     input: &mut Input<I>,
     out: &mut Output<W>,
     noting: &Noting,
-) -> Result<(), Fault>
+) -> Result<(), SiteFault>
 where
     R: System + Files<File = File> + AllocGlobal + Send + 'static,
     ensures served { OnOk result (IfSome input.old.left
@@ -105,7 +110,7 @@ where
 {
     let Setting { world, ports } = read_setting(rt.alloc(), start.topology)?;
     if !world.has_site(start.site) {
-        return Err(Fault::Site);
+        return Err(SiteFault::Site);
     }
     let setup = SiteSetup {
         topology: &world,
@@ -144,11 +149,16 @@ where
     R: System + Files<File = File> + Send + 'static,
 {
     /// Takes the site's port, makes its journal, and starts its threads.
-    fn start(rt: R, alloc: Global, setup: &SiteSetup<'a>, noting: &Noting) -> Result<Self, Fault>
+    fn start(
+        rt: R,
+        alloc: Global,
+        setup: &SiteSetup<'a>,
+        noting: &Noting,
+    ) -> Result<Self, SiteFault>
         ensures site { IfOk result (λ host. host.handle.site ≡ setup.now.site) }
         ensures unconnected { IfOk result (λ host. host.has_connected ≡ false) }
-        ensures fault { IfErr result (λ fault. (fault ≡ Fault.Listen) ⊎ (fault ≡ Fault.JournalDisk)
-            ⊎ (fault ≡ Fault.Memory)) }
+        ensures fault { IfErr result (λ fault. (fault ≡ SiteFault.Listen) ⊎ (fault ≡ SiteFault.JournalDisk)
+            ⊎ (fault ≡ SiteFault.Memory)) }
     {
         let RunningSite { handle, threads } = start_site(rt, alloc, setup, noting)?;
         Ok(SiteHost {
@@ -179,11 +189,11 @@ where
         &mut self,
         input: &mut Input<I>,
         out: &mut Output<W>,
-    ) -> Result<Flow, Fault>
+    ) -> Result<Flow, DialogueFault>
         ensures served { IfSome input.old.left (λ bytes.
             Welcomed self.old.handle.site self.old.has_connected bytes
             out.old.written out.new.written out.new.has_failed result) }
-        ensures fault { IfErr result (IsPlayFault input.old.left input.new.has_failed out.new.has_failed) }
+        ensures fault { IfErr result (IsDialogueFault input.old.left input.new.has_failed out.new.has_failed) }
     {
         out.write_line("listening")?;
         out.flush()?;
@@ -196,11 +206,11 @@ where
         &mut self,
         input: &mut Input<I>,
         out: &mut Output<W>,
-    ) -> Result<Flow, Fault>
+    ) -> Result<Flow, DialogueFault>
         ensures answers { IfSome input.old.left (λ bytes.
             Conversed (IsTurnOfSite self.old.handle.site) self.old.has_connected bytes
             out.old.written out.new.written out.new.has_failed result) }
-        ensures fault { IfErr result (IsPlayFault input.old.left input.new.has_failed out.new.has_failed) }
+        ensures fault { IfErr result (IsDialogueFault input.old.left input.new.has_failed out.new.has_failed) }
     {
         let mut buffer = Vec::new(self.alloc);
         let mut events = Vec::new(self.alloc);
@@ -227,7 +237,7 @@ where
                 }
             }
         }
-        Err(Fault::Input)
+        Err(DialogueFault::Input)
     }
 
     /// Answers the events that wait, of which none is left then.
@@ -235,11 +245,11 @@ where
         &self,
         events: &mut Vec<Event>,
         out: &mut Output<W>,
-    ) -> Result<(), Fault>
+    ) -> Result<(), WriteFault>
         requires { length events.old.items ≤ batch_limit }
         ensures answered { OnOk result (WereAnswered events.old.items out.old.written out.new.written) }
         ensures none { OnOk result (events.new.items ≡ []) }
-        ensures fault { IfErr result (λ fault. (fault ≡ Fault.Output) × (out.new.has_failed ≡ true)) }
+        ensures fault { OnErr result (out.new.has_failed ≡ true) }
     {
         if events.is_empty() {
             return Ok(());
@@ -252,7 +262,11 @@ where
     }
 
     /// Answers a line, and flushes the answer.
-    fn answer<W: Write>(&mut self, said: SiteLine, out: &mut Output<W>) -> Result<Flow, Fault>
+    fn answer<W: Write>(
+        &mut self,
+        said: SiteLine,
+        out: &mut Output<W>,
+    ) -> Result<Flow, DialogueFault>
         ensures answers { IfOk result (λ flow. SaidTurn self.old.handle.site self.old.has_connected self.new.has_connected
             said flow out.old.written out.new.written) }
         ensures site { self.new.handle.site ≡ self.old.handle.site }

@@ -3,8 +3,8 @@ use Rattle.std.specs.Prelude.{◌≡◌, ℕ, List, Option, Some, None, ⊤}
 use Rattle.cmh_frames.specs.declared.frame.Frame.{Frame}
 use Rattle.cmh_journal.specs.declared.tail.Tail as tails
 use Rattle.cmh_journal.specs.declared.tail.Tail.TheVariants.{Whole, Cut as Cut_tail}
-use Rattle.cmh_console.specs.declared.faults.Fault as faults
-use Rattle.cmh_console.specs.declared.faults.Fault.TheVariants.{Journal as NoJournal, Memory}
+use Rattle.cmh_files.specs.declared.audit_fault.AuditFault.{AuditFault}
+use Rattle.cmh_files.specs.declared.audit_fault.AuditFault.TheVariants.{Journal as NoJournal, Memory}
 use Rattle.cmh_files.specs.declared.reason.Reason.{Reason}
 use Rattle.cmh_files.specs.declared.reason.Reason.TheVariants.{NotNext, NothingUnderWay}
 use Rattle.cmh_files.specs.declared.shown.Rest.{Rest}
@@ -12,7 +12,7 @@ use Rattle.cmh_files.specs.declared.shown.Rest.TheVariants.{Nothing, Cut}
 use Rattle.cmh_files.specs.Audits.{IsFirstFaulty}
 
 -- the first fault of the journals' files
-abbrev pub IsFaultOfFiles : List (List ℕ) → faults.Fault → Type 0
+abbrev pub IsFaultOfFiles : List (List ℕ) → AuditFault → Type 0
 IsFaultOfFiles files (NoJournal place fault) = IsFirstFaulty files place fault
 IsFaultOfFiles files Memory = ⊤
 IsFaultOfFiles files fault = ⊥

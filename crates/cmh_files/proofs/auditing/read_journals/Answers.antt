@@ -2,7 +2,7 @@ use Rattle.std.proofs.Common.{◌≡◌, ◌++◌, ◌∷◌, [], ℕ, List, Vec
 use Rattle.std.specs.Global.{Global}
 use Rattle.cmh_journal.specs.File.{IsFileOf, IsFault}
 use Rattle.cmh_files.specs.Inner.Parts.{IsFaultOfFiles}
-use Rattle.cmh_console.specs.declared.faults.Fault.{Fault}
+use Rattle.cmh_files.specs.declared.audit_fault.AuditFault.{AuditFault}
 use Rattle.cmh_files.proofs.FileLemmas.{cut_at, fault-found, read-more, read-same}
 use Rattle.cmh_files.proofs.auditing.read_journals.Goals as goal
 use Rattle.cmh_files.proofs.auditing.read_journals.Goals.{in-Cut+in_ok-push-in-Ok, in_default}
@@ -30,7 +30,7 @@ loop-i-preserved c =
 
 pub returns-in-Err-clause-fault : goal.returns-in-Err-clause-fault
 returns-in-Err-clause-fault c =
-    subst (λ (fault : Fault). IsFaultOfFiles (map (λ (file : Vec ℕ Global). file.items) c.args.files.now) fault) (sym c.of_journal.ensures)
+    subst (λ (fault : AuditFault). IsFaultOfFiles (map (λ (file : Vec ℕ Global). file.items) c.args.files.now) fault) (sym c.of_journal.ensures)
     (fault-found (λ (file : Vec ℕ Global). file.items) c.args.files.now c.loop-i.i c.index-files-i.result c.loop-i.journals.items c.loop-i.cuts.items c.in-Err.fault
     c.loop-i-test.true c.index-files-i.is c.loop-i.invariant
     (subst (λ (bytes : List ℕ). IsFault bytes c.in-Err.fault) c.deref.ensures.value c.in-Err.ensures.fault))

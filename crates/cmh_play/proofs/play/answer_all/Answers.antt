@@ -1,10 +1,10 @@
 use Rattle.std.proofs.Common.{inl, inr, refl, ◌∙◌}
 use Rattle.std.proofs.KnownBytes.{Appends-kept}
 use Rattle.cmh_console.proofs.Dialogues.{endless_talk, has_left, talked_fault, talked_some}
-use Rattle.cmh_console.proofs.LineLemmas.{unread_err}
-use Rattle.cmh_play.proofs.KeptPlays.{kept_fault, played_to_end}
+use Rattle.cmh_console.proofs.LineLemmas.{unread}
+use Rattle.cmh_play.proofs.KeptPlays.{played_to_end, unkept_fault, unread_fault}
 use Rattle.cmh_play.proofs.LinesLed.{led_begun, led_more}
-use Rattle.cmh_console.specs.declared.faults.Fault.TheVariants.{Input, Output}
+use Rattle.cmh_console.specs.declared.dialogue.DialogueFault.TheVariants.{Input, Output}
 use Rattle.cmh_play.proofs.play.answer_all.Goals as goal
 
 pub loop-turn-init : goal.loop-turn-init
@@ -38,12 +38,16 @@ returns-in_err-next-clause-answers g c =
 pub returns-in_err-next-clause-fault : goal.returns-in_err-next-clause-fault
 returns-in_err-next-clause-fault g c =
     let so_far = c.loop-turn.invariant.led in
-    kept_fault _ _ _ _ _ (unread_err _ _ c.loop-turn.turn (has_left _ _ _ _ _ _ _ so_far.state c.loop-turn.turn so_far.played) _ _ c.from_residual.result c.in_err-next.field-0.0
-    c.from_residual.ensures.1 c.in_err-next.ensures.fault)
+    unread_fault g.K.Keeper.fails _ _ _ c.from_residual.result c.in_err-next.field-0.0 c.from_residual.ensures.1
+    (unread _ _ c.loop-turn.turn (has_left _ _ _ _ _ _ _ so_far.state c.loop-turn.turn so_far.played) _ _ c.in_err-next.field-0.0 c.in_err-next.ensures.fault)
 
 pub returns-in_err-reply-clause-answers : goal.returns-in_err-reply-clause-answers
 returns-in_err-reply-clause-answers g c =
     talked_some _ _ _ _ _ _ _ c.loop-turn.invariant.led.state c.loop-turn.turn c.loop-turn.invariant.led.played _ Input
+
+pub returns-in_err-reply-clause-fault : goal.returns-in_err-reply-clause-fault
+returns-in_err-reply-clause-fault g c =
+    unkept_fault g.K.Keeper.fails _ _ _ c.from_residual-in_err-reply.result c.in_err-reply.field-0.0 c.from_residual-in_err-reply.ensures.1 c.in_err-reply.ensures.fault
 
 pub returns-in_err-write_reply-clause-answers : goal.returns-in_err-write_reply-clause-answers
 returns-in_err-write_reply-clause-answers g c =
@@ -59,4 +63,4 @@ returns-clause-answers g c =
 
 pub returns-clause-fault : goal.returns-clause-fault
 returns-clause-fault g c =
-    inl (inr (endless_talk _ _ _ _ _ _ _ c.loop-turn.invariant.led.state c.loop-turn.turn c.loop-turn.invariant.led.played c.loop-turn-test.false))
+    inr (endless_talk _ _ _ _ _ _ _ c.loop-turn.invariant.led.state c.loop-turn.turn c.loop-turn.invariant.led.played c.loop-turn-test.false)

@@ -1,5 +1,5 @@
-use Rattle.std.proofs.lemmas.Result.{on_ok_weaker}
-use Rattle.cmh_play.proofs.KeptPlays.{kept_at_end, kept_none}
+use Rattle.std.specs.Prelude.{false, Ok}
+use Rattle.cmh_play.proofs.KeptPlays.{kept_at_end, kept_none, unkept_at_end, unkept_fault}
 use Rattle.cmh_play.proofs.Plays.{none_answered, some_flushed}
 use Rattle.cmh_play.proofs.play.play.Goals as goal
 
@@ -21,8 +21,18 @@ returns-in_err-flushed-clause-answers g c =
     c.flush-flushed.ensures.ok c.flush-flushed.ensures.err)
     c.from_residual-in_err-flushed.ensures.0
 
+pub returns-in_err-keep_wanted-clause-answers : goal.returns-in_err-keep_wanted-clause-answers
+returns-in_err-keep_wanted-clause-answers g c =
+    let played = c.in_ok-played.ensures.all in
+    unkept_at_end _ _ _ _ _ _ played.state c.keep_wanted.new.keeper c.from_residual-in_err-keep_wanted.result played.holds c.flush-flushed.ensures.bytes
+    c.from_residual-in_err-keep_wanted.ensures.0
+
+pub returns-in_err-keep_wanted-clause-fault : goal.returns-in_err-keep_wanted-clause-fault
+returns-in_err-keep_wanted-clause-fault g c =
+    unkept_fault g.K.Keeper.fails _ _ _ c.from_residual-in_err-keep_wanted.result c.in_err-keep_wanted.field-0.0 c.from_residual-in_err-keep_wanted.ensures.1
+    c.in_err-keep_wanted.ensures.fault
+
 pub returns-clause-answers : goal.returns-clause-answers
 returns-clause-answers g c =
     let played = c.in_ok-played.ensures.all in
-    kept_at_end _ _ _ _ _ _ played.state _ _ c.keep_wanted.result played.holds c.flush-flushed.ensures.bytes
-    (on_ok_weaker c.keep_wanted.result (λ kept. kept played.state played.shows) c.keep_wanted.ensures.kept)
+    kept_at_end _ _ _ _ _ false played.state _ _ (Ok tt) played.holds c.flush-flushed.ensures.bytes (c.in_ok-keep_wanted.ensures.kept played.state played.shows)

@@ -1,8 +1,5 @@
-use Rattle.cmh_play.proofs.KeptPlays.{answered_alone, named_alone}
+use Rattle.cmh_play.proofs.KeptPlays.{answered_alone}
 use Rattle.cmh_play.proofs.play.run_play.Goals as goal
 
 pub returns-clause-answers : goal.returns-clause-answers
 returns-clause-answers g c = answered_alone _ _ _ _ _ _ _ c.run_play_keeping.ensures.answers
-
-pub returns-clause-fault : goal.returns-clause-fault
-returns-clause-fault g c = λ fails. named_alone _ _ _ _ _ _ (c.run_play_keeping.ensures.fault fails)

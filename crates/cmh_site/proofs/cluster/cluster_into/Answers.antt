@@ -9,7 +9,7 @@ returns-in_err-read_back-in-Awaits-clause-fault g c =
     let world = c.in_ok-setting.setting.world in
     unread_back _ _ world _ _ _ c.from_residual-in_err-read_back-in-Awaits.result c.in_err-read_back-in-Awaits.field-0.0 c.in_ok-setting.ensures.world
     (subst (λ (flow : Flow). HasPlayed world c.args.start.now.script.now c.args.out.now.written c.run_sites.new.out.written flow) c.in-Awaits.is c.in_ok-run_sites.ensures.played)
-    c.from_residual-in_err-read_back-in-Awaits.ensures.1 c.in_err-read_back-in-Awaits.ensures.fault
+    c.from_residual-in_err-read_back-in-Awaits.ensures.1
 
 pub returns-clause-played : goal.returns-clause-played
 returns-clause-played g c =

@@ -1,5 +1,5 @@
 use Rattle.std.proofs.Common.{inl, inr, refl}
-use Rattle.cmh_console.specs.declared.faults.Fault.TheVariants.{Memory}
+use Rattle.cmh_site.specs.declared.cluster_fault.ClusterFault.TheVariants.{Memory}
 use Rattle.cmh_site.proofs.ClusterEndings.{audited}
 use Rattle.cmh_site.proofs.cluster.run_cluster_noting.Goals as goal
 

@@ -1,4 +1,4 @@
-use Rattle.cmh_console.specs.declared.faults.Fault.TheVariants.{Memory}
+use Rattle.cmh_site.specs.declared.cluster_fault.ClusterFault.TheVariants.{Memory}
 use Rattle.cmh_site.proofs.ClusterEndings.{start_fault_err}
 use Rattle.cmh_site.proofs.cluster.run_sites.Goals as goal
 

@@ -1,5 +1,5 @@
 use Rattle.std.proofs.Common.{inr, refl, subst, ◌∙◌}
-use Rattle.cmh_console.specs.declared.faults.Fault.TheVariants.{Input}
+use Rattle.cmh_console.specs.declared.dialogue.DialogueFault.TheVariants.{Input}
 use Rattle.cmh_console.proofs.Dialogues.{begun, endless_talk, read_err, talked_all, talked_err, talked_fault_err, talked_more, talked_some, talked_to_end}
 use Rattle.cmh_console.specs.Dialogue.{HasAnswered, line_of}
 use Rattle.cmh_site.proofs.cluster.Cluster.answer_all.Goals as goal

@@ -31,7 +31,7 @@ returns-in-Err g c =
     let failed = c.answer_all.new.out.has_failed in
     record {
       played = tt;
-      fault = subst (λ t. IsRunFault t.now c.args.script.now old new failed c.of_script.result) c.start_all.ensures.topology
-          (run_fault_at c.start_all.new.self.topology.now c.args.script.now old new failed (Some c.args.script.now) c.answer_all.new.input.has_failed c.answer_all.result c.in-Err.fault c.of_script.result c.in-Err.is c.of_script.ensures
+      fault = subst (λ t. IsRunFault t.now c.args.script.now old new failed c.from.result) c.start_all.ensures.topology
+          (run_fault_at c.start_all.new.self.topology.now c.args.script.now old new failed (Some c.args.script.now) c.answer_all.new.input.has_failed c.answer_all.result c.in-Err.fault c.from.result c.in-Err.is c.from.ensures
           (rw c.new-input.ensures.left at c.answer_all.ensures.answers) (rw c.new-input.ensures.left at c.answer_all.ensures.fault));
     }

@@ -1,5 +1,5 @@
 use Rattle.std.proofs.Common.{inr, refl, rules, sym, ◌∙◌}
-use Rattle.cmh_console.specs.declared.faults.Fault.TheVariants.{Input}
+use Rattle.cmh_console.specs.declared.dialogue.DialogueFault.TheVariants.{Input}
 use Rattle.cmh_console.proofs.Dialogues.{talked_all, talked_fault_err, talked_more, talked_to_end}
 use Rattle.cmh_site.proofs.Waiting.{all_told, answered_line, endless_wait, turn_anew, unread_waiting, waited_err, waited_failed, waited_some, waits_begin, waits_on}
 use Rattle.cmh_site.proofs.site.SiteHost.answer_all.Goals as goal
@@ -17,7 +17,7 @@ returns-in_err-next-clause-fault g c =
 
 pub returns-in_err-answer_waiting-clause-answers : goal.returns-in_err-answer_waiting-clause-answers
 returns-in_err-answer_waiting-clause-answers g c =
-    waited_failed _ _ _ _ _ _ c.loop-turn.self.has_connected c.loop-turn.events.items c.loop-turn.turn c.loop-turn.invariant.2 _ _ _ c.from_residual-in_err-answer_waiting.ensures.0 c.in_err-answer_waiting.ensures.fault.1
+    waited_failed _ _ _ _ _ _ c.loop-turn.self.has_connected c.loop-turn.events.items c.loop-turn.turn c.loop-turn.invariant.2 _ _ _ c.from_residual-in_err-answer_waiting.ensures.0 c.in_err-answer_waiting.ensures.fault
 
 pub returns-then-is_end-clause-answers : goal.returns-then-is_end-clause-answers
 returns-then-is_end-clause-answers g c =
@@ -33,12 +33,12 @@ returns-in_err-push-in-Ok-clause-answers g c = waited_err _ _ _ _ _ _ c.loop-tur
 pub returns-in_err-answer_waiting-in-Ok-clause-answers : goal.returns-in_err-answer_waiting-in-Ok-clause-answers
 returns-in_err-answer_waiting-in-Ok-clause-answers g c =
     waited_failed _ _ _ _ _ _ c.loop-turn.self.has_connected c.loop-turn.events.items c.loop-turn.turn c.loop-turn.invariant.2 _ _ _ c.from_residual-in_err-answer_waiting-in-Ok.ensures.0
-    c.in_err-answer_waiting-in-Ok.ensures.fault.1
+    c.in_err-answer_waiting-in-Ok.ensures.fault
 
 pub returns-in_err-answer_waiting-in-Err-clause-answers : goal.returns-in_err-answer_waiting-in-Err-clause-answers
 returns-in_err-answer_waiting-in-Err-clause-answers g c =
     waited_failed _ _ _ _ _ _ c.loop-turn.self.has_connected c.loop-turn.events.items c.loop-turn.turn c.loop-turn.invariant.2 _ _ _ c.from_residual-in_err-answer_waiting-in-Err.ensures.0
-    c.in_err-answer_waiting-in-Err.ensures.fault.1
+    c.in_err-answer_waiting-in-Err.ensures.fault
 
 pub returns-in_err-answer-in-Err-clause-answers : goal.returns-in_err-answer-in-Err-clause-answers
 returns-in_err-answer-in-Err-clause-answers g c =
