@@ -2,7 +2,7 @@
 """A workload over PostgreSQL servers, with the watcher, with timeouts or with nobody to end its deadlocks; and the judge.
 
 Prints what it came to, and ends with status 1 where something happened that must not: a phantom was cancelled, a cycle
-lasted more than five seconds, a client hangs, a declaration has no cycle, a journal is not accepted.
+lasted more than fifteen seconds, a client hangs, a declaration is of waits that were not there, a journal is not accepted.
 """
 from __future__ import annotations
 
@@ -132,8 +132,9 @@ def describe(verdict: judge.Verdict, options: argparse.Namespace, load_average: 
              'a lock took median {median:.1f}, p95 {p95:.0f}, at most {max:.0f} ms'.format(**lock)]
     lines += [f'aborted {count}: {fault}' for fault, count in verdict.aborts.most_common()]
     if verdict.audits:
-        lines += [f'{verdict.declarations} declarations, {verdict.dropped} times a look dropped a cycle, {verdict.cancels} '
-                  f'cancels; {verdict.audits} worlds audited with {verdict.events} events']
+        lines += [f'{verdict.declarations} declarations, {verdict.mixtures} of waits that were not there at one moment; '
+                  f'{verdict.dropped} times a look dropped a cycle, {verdict.cancels} cancels; '
+                  f'{verdict.audits} worlds audited with {verdict.events} events']
     if latency:
         lines += ['from the last wait of a cycle to the cancel: median {median:.0f}, p95 {p95:.0f}, at most {max:.0f} ms'
                   .format(**latency),

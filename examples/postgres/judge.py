@@ -13,11 +13,11 @@ from pathlib import Path
 from statistics import median, quantiles
 from typing import Any
 
+import graph
 from workload import Log, Note, Row
 from world import World
 
-LONGEST = 5.0    # seconds that a cycle may last
-SLACK = 1.0      # seconds after its end in which a cycle may still be declared: the cancel was under way
+LONGEST = 15.0   # seconds that a cycle may last, also where the machine has much else to do
 NOTICED = 0.05   # seconds that may pass from the end of a wait to the client's note of it
 
 
@@ -80,6 +80,35 @@ class History:
 
 
 @dataclass
+class Use:
+    """A row in a client's transaction. The client waited for it at most from `wanted` to `waited`, and had a lock or a place
+    in its queue at most from `wanted` to `released`: the server granted and released it between two notes."""
+    row: Row
+    wanted: float
+    waited: float = float('inf')
+    released: float = float('inf')
+
+
+def _uses(notes: list[Note]) -> dict[int, list[Use]]:
+    """The uses of each client, in their order."""
+    uses: dict[int, list[Use]] = defaultdict(list)
+    current: dict[int, list[Use]] = defaultdict(list)   # of the transaction that the client is in
+    for note in notes:
+        if note.what == 'want' and note.row:
+            current[note.client].append(Use(note.row, note.at))
+            uses[note.client].append(current[note.client][-1])
+            continue
+        for use in current[note.client]:
+            if note.what in ('got', 'end'):
+                use.waited = min(use.waited, note.at)
+            elif note.what in ('committed', 'aborted'):
+                use.released = note.at
+        if note.what in ('committed', 'aborted'):
+            current.pop(note.client, None)
+    return uses
+
+
+@dataclass
 class Verdict:
     """What the judge found. `faults` says what must not be; nothing else does."""
     commits_per_second: float
@@ -93,6 +122,7 @@ class Verdict:
     cancelled_bystanders: int = 0
     dropped: int = 0
     declarations: int = 0
+    mixtures: int = 0             # of these, those whose waits were there one after the other, and not at one moment
     latency_ms: dict[str, float] = field(default_factory=dict)
     declare_ms: dict[str, float] = field(default_factory=dict)
     audits: int = 0
@@ -115,7 +145,7 @@ def judge(log: Log, records: list[dict[str, Any]] | None = None, cycles_must_end
             verdict.faults.append(f'a cycle lasted {verdict.longest_cycle:.1f} s')
     if records is not None:
         _judge_cancels(verdict, notes, records)
-        _judge_declarations(verdict, history.cycles, records)
+        _judge_declarations(verdict, notes, history.cycles, records)
         _judge_audits(verdict, records)
     return verdict
 
@@ -211,16 +241,34 @@ def _judge_cancels(verdict: Verdict, notes: list[Note], records: list[dict[str, 
         verdict.faults.append(f'{verdict.cancelled_bystanders} victims lay on no cycle, though another agent of theirs did')
 
 
-def _judge_declarations(verdict: Verdict, cycles: list[Cycle], records: list[dict[str, Any]]) -> None:
-    """Each declaration: a transaction of its cycle lay on a cycle by the clients, then or until just before."""
-    of_client = _by_client(cycles)
+def _judge_declarations(verdict: Verdict, notes: list[Note], cycles: list[Cycle], records: list[dict[str, Any]]) -> None:
+    """Each declaration, by the look at the servers that it rests on, however much later the sites declared it: the clients
+    were in each wait of its cycle during that look. The look takes one server after the other, so these waits need not have
+    been there at one moment. That is no fault: the two looks before a cancel drop such a mixture."""
+    uses, of_client = _uses(notes), _by_client(cycles)
     for record in records:
-        if record['what'] == 'declared':
-            verdict.declarations += 1
-            clients = [client for agent in record['cycle'] if (client := _client(agent)) is not None]
-            if not any(cycle.began <= record['at'] <= cycle.ended + SLACK
-                       for client in clients for cycle in of_client[client]):
-                verdict.faults.append(f'a declaration without a cycle: {record}')
+        if record['what'] != 'declared':
+            continue
+        verdict.declarations += 1
+        began, ended = record['look']
+        if not all(_was_there(uses, agent, holder, began, ended) for agent, holder in graph.edges(record['cycle'])):
+            verdict.faults.append(f'a declaration of waits that were not there: {record}')
+        clients = [client for agent in record['cycle'] if (client := _client(agent)) is not None]
+        if not any(cycle.began <= ended and began <= cycle.ended for client in clients for cycle in of_client[client]):
+            verdict.mixtures += 1
+
+
+def _was_there(uses: dict[int, list[Use]], agent: list[Any], holder: list[Any], began: float, ended: float) -> bool:
+    """Whether an agent may have waited for another between two moments, by the clients: for a row that the other had or
+    wanted too; or for its own transaction, which waited at the other's server."""
+    waiter, other = _client(agent), _client(holder)
+    if waiter is None or other is None:
+        return False
+    wanted = {use.row for use in uses[waiter] if use.row.server == holder[0] and use.wanted <= ended and began <= use.waited}
+    if waiter == other:
+        return bool(wanted)
+    return agent[0] == holder[0] and any(
+        use.row in wanted and use.wanted <= ended and began <= use.released for use in uses[other])
 
 
 def _judge_audits(verdict: Verdict, records: list[dict[str, Any]]) -> None:

@@ -53,6 +53,7 @@ class Watcher:
         self._servers = {number: WatchedServer(number, dsn) for number, dsn in enumerate(options.dsn, 1)}
         self._report, self._after = report, options.after / 1000
         self._view = View()
+        self._looked = (0.0, 0.0)                         # when the look at this view began, and ended
         self._gone: dict[int, float] = {}                 # servers that did not answer: when to try again
         self._cancelled: dict[Hashable, float] = {}
         self._immune: set[Hashable] = set()               # waits that this role may not cancel
@@ -88,8 +89,10 @@ class Watcher:
 
     def look(self) -> None:
         """Sees all servers, and tells the sites."""
+        began = time.time()
         snapshots = {number: snapshot for number, server in self._servers.items()
                      if (snapshot := self._snapshot(server)) is not None}
+        self._looked = (began, time.time())
         self._view = view_of(snapshots)
         self.counts.update(+self._view.left_out)
         self.model.follow(self._view.waits)
@@ -141,7 +144,7 @@ class Watcher:
         processes = [self.model.process_of(member) for member in cycle]
         way = ' -> '.join(member.short for member in [*cycle, agent])
         self._report.say(f'declared: {way} (processes {", ".join(map(str, processes))})', 'declared', agent=agent,
-                         cycle=cycle, processes=processes)
+                         cycle=cycle, processes=processes, look=self._looked)
 
     def _was_cancelled(self, agent: Agent) -> bool:
         """Whether its wait was cancelled just now, so that the next view will tell what came of it."""
