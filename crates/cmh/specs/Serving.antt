@@ -2,12 +2,12 @@
 use Rattle.std.specs.Prelude.{◌≡◌, ◌≢◌, ℕ, ◌⊎◌, true, List, IfSome}
 use Rattle.cmh_console.specs.Device.{Reading, Writing}
 use Rattle.cmh_console.specs.Faults.{NamesFault}
-use Rattle.cmh_host.specs.SiteFaults as site
+use Rattle.cmh_host.specs.SiteFaults.{as_fault as of_site}
 use Rattle.cmh_host.specs.declared.site_fault.SiteFault.{SiteFault}
 use Rattle.cmh_host.specs.declared.site_fault.SiteFault.TheVariants.{Site}
 use Rattle.cmh_site.specs.ClusterEndings.{ClusterEnds}
 use Rattle.cmh_site.specs.Endings.{IsSiteFault, Served}
-use Rattle.cmh_commands.specs.FileFaults.{IsUnread, as_fault}
+use Rattle.cmh_commands.specs.FileFaults.{IsUnread, as_fault as of_file}
 
 -- A site of a topology file ended, that read these bytes where they are told: at status 0 it was served to its end, which
 -- was flushed; else a fault is named that has a cause.
@@ -16,14 +16,14 @@ pub record SiteEnds {R W E : Type 0} (topology : List ℕ) (site : ℕ) (was rea
   pub served : status ≡ 0 → IfSome was.left (λ lines. Served site lines old.written new.written)
   pub flushed : status ≡ 0 → new.is_flushed ≡ true
   pub silent : status ≡ 0 → err_new ≡ err_old
-  pub fault : status ≢ 0 → NamesFault site.as_fault (IsSiteFault topology site was.left read.has_failed new.has_failed) status err_old
+  pub fault : status ≢ 0 → NamesFault of_site (IsSiteFault topology site was.left read.has_failed new.has_failed) status err_old
       err_new
 
 -- this site of some topology file ended, or nothing is written and it is named that the file could not be read
 abbrev pub ServesSite : {R W E : Type 0} → ℕ → Reading R → Reading R → Writing W → Writing W → Writing E → Writing E → ℕ → Type 0
 ServesSite site was read old new err_old err_new status =
     ((topology : List ℕ) × SiteEnds topology site was read old new err_old err_new status)
-    ⊎ ((new ≡ old) × NamesFault as_fault IsUnread status err_old err_new)
+    ⊎ ((new ≡ old) × NamesFault of_file IsUnread status err_old err_new)
 
 -- the number is no site's
 abbrev pub IsNoSite : SiteFault → Type 0
@@ -33,11 +33,11 @@ IsNoSite fault = fault ≡ Site
 abbrev pub ServesSome : {R W E : Type 0} → Reading R → Reading R → Writing W → Writing W → Writing E → Writing E → ℕ → Type 0
 ServesSome was read old new err_old err_new status =
     ((site : ℕ) × ServesSite site was read old new err_old err_new status)
-    ⊎ ((new ≡ old) × NamesFault site.as_fault IsNoSite status err_old err_new)
+    ⊎ ((new ≡ old) × NamesFault of_site IsNoSite status err_old err_new)
 
 -- a cluster of some topology file and some script ended, or nothing is written and the fault of one that could not be read
 -- is named
 abbrev pub ServesCluster : {W E : Type 0} → Writing W → Writing W → Writing E → Writing E → ℕ → Type 0
 ServesCluster old new err_old err_new status =
     ((topology : List ℕ) × (script : List ℕ) × ClusterEnds topology script old new err_old err_new status)
-    ⊎ ((new ≡ old) × NamesFault as_fault IsUnread status err_old err_new)
+    ⊎ ((new ≡ old) × NamesFault of_file IsUnread status err_old err_new)

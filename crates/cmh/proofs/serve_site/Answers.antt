@@ -19,8 +19,8 @@ returns-clause-serves_some g c =
           fault = λ failed. record {
             fault = c.in-Err-run_site_noting.fault;
             cause = c.in-Err-run_site_noting.ensures.fault;
-            status_is = named.status;
-            named = named.named;
+            status_is = rw c.from-in-Err-run_site_noting.ensures at named.status;
+            named = rw c.from-in-Err-run_site_noting.ensures at named.named;
           };
         },
       ),
@@ -40,8 +40,8 @@ returns-clause-serves g c = λ site is told.
         fault = λ failed. record {
           fault = c.in-Err-run_site_noting.fault;
           cause = c.in-Err-run_site_noting.ensures.fault;
-          status_is = named.status;
-          named = named.named;
+          status_is = rw c.from-in-Err-run_site_noting.ensures at named.status;
+          named = rw c.from-in-Err-run_site_noting.ensures at named.named;
         };
       },
     ))
