@@ -356,6 +356,7 @@ def second_in_a_folder(program):
         first = start_cluster(world, lines, folder)
         wait_until(lambda: os.path.exists(journals[1]) and os.path.getsize(journals[1]) > 7, 'a step')
         first.send_signal(signal.SIGSTOP)
+        os.waitpid(first.pid, os.WUNTRACED)   # until all its threads have stopped
         stood = [read(path) for path in journals]
         done = ended(start_cluster(other, ['ask 2 1', 'start 2'], folder))
         yield 'the second is told', (done.returncode, done.stdout, done.stderr) == (3, b'', b'fault file out\n')
