@@ -1,11 +1,15 @@
 """The proved core of cmh as a library, for Python 3.10 and later: `Site`, `Reader` and `audit` over include/cmh.h.
 
-`scripts/library/build` makes the shared library; it is found at out/library/libcmh.so, or where LIBCMH names it.
-Nothing here reads a file, opens a socket or starts a thread. An object is used by one thread at a time.
+`scripts/library/build` makes the shared library. It is found where LIBCMH names it, else at out/library/libcmh.so, else
+where the system looks for libraries. Nothing here reads a file, opens a socket or starts a thread. An object is used by
+one thread at a time.
+
+A number that fits into no number of a site, process or edition is refused as any other wrong one, by the library's code.
 """
 from __future__ import annotations
 
 import ctypes
+import operator
 import os
 from collections.abc import Iterable, Mapping, Sequence
 from ctypes import POINTER, byref, c_bool, c_char_p, c_size_t, c_uint8, c_uint16, c_uint32, c_void_p
@@ -19,7 +23,8 @@ CODES = {1: 'unknown process', 2: 'not here', 3: 'bad targets', 4: 'blocked', 5:
          33: 'a process is named twice', 34: 'not the number of a site or a process', 41: 'bad hello', 42: 'bad frame',
          43: 'hello of another site'}
 VERSION, HEADER_LEN, HELLO_LEN, FRAME_LEFT, ENTRY_MAX, PROCESSES_MAX = 0x00010000, 7, 6, 6, 20881, 64
-SHORT, NO_SENDING = 21, 29
+SONAME = f'libcmh.so.{VERSION >> 24}.{VERSION >> 16 & 0xFF}'
+BAD_TARGETS, SHORT, NO_SENDING = 3, 21, 29
 
 
 class Refused(Exception):
@@ -28,6 +33,27 @@ class Refused(Exception):
     def __init__(self, code: int):
         super().__init__(f'code {code}: {CODES.get(code, "unknown")}')
         self.code = code
+
+
+def _fitting(number: int, most: int = 0xFFFF) -> int:
+    """The number, or else 0, which the library refuses everywhere: ctypes would drop the upper bits of a larger one."""
+    return number if 0 <= operator.index(number) <= most else 0
+
+
+class _Byte(c_uint8):
+    """An argument of one byte: an edition."""
+
+    @classmethod
+    def from_param(cls, number: int) -> c_uint8:
+        return c_uint8(_fitting(number, 0xFF))
+
+
+class _Word(c_uint16):
+    """An argument of two bytes: a site or a process."""
+
+    @classmethod
+    def from_param(cls, number: int) -> c_uint16:
+        return c_uint16(_fitting(number))
 
 
 class _Handle(ctypes.Structure):
@@ -41,28 +67,28 @@ class _Sending(ctypes.Structure):
 _BYTES, _WORDS, _COUNT, _HANDLE = POINTER(c_uint8), POINTER(c_uint16), POINTER(c_size_t), POINTER(_Handle)
 _IN, _OUT = [c_char_p, c_size_t], [_BYTES, c_size_t]
 _CALLS = {
-    'cmh_site_new': [_HANDLE, c_uint8, _WORDS, c_size_t, c_uint16],
-    'cmh_site_new_json': [_HANDLE, *_IN, c_uint16],
+    'cmh_site_new': [_HANDLE, _Byte, _WORDS, c_size_t, _Word],
+    'cmh_site_new_json': [_HANDLE, *_IN, _Word],
     'cmh_site_header': [_HANDLE, *_OUT],
     'cmh_site_step': [_HANDLE, *_IN, *_OUT, _COUNT],
     'cmh_site_prepare': [_HANDLE, *_IN, *_OUT, _COUNT],
     'cmh_site_keep': [_HANDLE],
     'cmh_site_drop': [_HANDLE],
     'cmh_site_declared': [_HANDLE, _WORDS, c_size_t, _COUNT],
-    'cmh_site_waits': [_HANDLE, c_uint16, _WORDS, c_size_t, _COUNT],
-    'cmh_site_owed': [_HANDLE, c_uint16, _WORDS, c_size_t, _COUNT],
-    'cmh_entry_sending': [c_uint8, *_IN, c_size_t, POINTER(_Sending)],
-    'cmh_entry_declared': [c_uint8, *_IN, _WORDS],
-    'cmh_reader_new': [_HANDLE, c_uint8, _WORDS, c_size_t],
+    'cmh_site_waits': [_HANDLE, _Word, _WORDS, c_size_t, _COUNT],
+    'cmh_site_owed': [_HANDLE, _Word, _WORDS, c_size_t, _COUNT],
+    'cmh_entry_sending': [_Byte, *_IN, c_size_t, POINTER(_Sending)],
+    'cmh_entry_declared': [_Byte, *_IN, _WORDS],
+    'cmh_reader_new': [_HANDLE, _Byte, _WORDS, c_size_t],
     'cmh_reader_feed': [_HANDLE, *_IN, *_OUT, _COUNT],
-    'cmh_hello': [c_uint8, c_uint16, *_OUT],
+    'cmh_hello': [_Byte, _Word, *_OUT],
     'cmh_audit': [*_IN, *_IN, _COUNT, c_size_t, *_OUT, _COUNT, _BYTES],
 }
 
 
 def _load() -> ctypes.CDLL:
     beside = os.path.join(os.path.dirname(os.path.abspath(__file__)), '..', '..', 'out', 'library', 'libcmh.so')
-    library = ctypes.CDLL(os.environ.get('LIBCMH') or beside)
+    library = ctypes.CDLL(os.environ.get('LIBCMH') or (beside if os.path.exists(beside) else SONAME))
     for name, arguments in _CALLS.items():
         call = getattr(library, name)
         call.argtypes, call.restype = arguments, c_uint32
@@ -85,12 +111,18 @@ def _call(name: str, *arguments: object) -> None:
 
 
 def _number(of: int) -> bytes:
-    return of.to_bytes(2, 'big')
+    return _fitting(of).to_bytes(2, 'big')
 
 
 def _words(words: Iterable[int]) -> tuple[ctypes.Array, int]:
-    listed = list(words)
+    listed = [_fitting(word) for word in words]
     return (c_uint16 * max(len(listed), 1))(*listed), len(listed)
+
+
+def _row(site: int, processes: Iterable[int]) -> list[int]:
+    """A row of a topology, as words. No edition has a site of 65,535 processes, so a longer row is refused like this one."""
+    named = list(processes)[:0xFFFF]
+    return [site, len(named), *named]
 
 
 @dataclass(frozen=True)
@@ -117,7 +149,7 @@ class Site:
 
     def __init__(self, edition: int, rows: Mapping[int, Sequence[int]], number: int):
         """Opens site `number` of the world in which each site of `rows` has these processes."""
-        listed = [word for site, processes in rows.items() for word in (site, len(processes), *processes)]
+        listed = [word for site, processes in rows.items() for word in _row(site, processes)]
         self._begin()
         _call('cmh_site_new', byref(self._handle), edition, *_words(listed), number)
         self._edition = edition
@@ -143,9 +175,12 @@ class Site:
         """Takes an event, in the bytes of docs/formats.md."""
         return self._entry('cmh_site_step', event)
 
-    def ask(self, asker: int, holders: Sequence[int]) -> Entry:
-        """A process of this site asks for what these hold, ascending, and waits for all of them."""
-        return self.step(b'\x01' + _number(asker) + bytes([len(holders)]) + b''.join(map(_number, holders)))
+    def ask(self, asker: int, holders: Iterable[int]) -> Entry:
+        """A process of this site asks for what these hold, in any order, and waits for all of them."""
+        ascending = sorted(set(holders))
+        if not 0 < len(ascending) < 256 or asker in ascending:
+            raise Refused(BAD_TARGETS)
+        return self.step(b'\x01' + _number(asker) + bytes([len(ascending)]) + b''.join(map(_number, ascending)))
 
     def reply(self, holder: int, asker: int) -> Entry:
         """A process of this site grants what the asker asked for."""

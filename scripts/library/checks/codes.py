@@ -86,6 +86,25 @@ def steps():
     expect('declared at the ask', (found.declared, two.declared(), code(two.start, 2)), (2, [2], 7))
 
 
+def numbers():
+    """A number that is too large or too small for the header's types is refused, and taken for no other."""
+    site = Site(2, {1: [1, 2, 3], 2: [4]}, 1)
+    site.ask(1, [2])
+    expect('waits of no number', [code(site.waits, of) for of in (65537, -65535, 2 ** 64 + 1, -1)], [1] * 4)
+    expect('owed by no number', [code(site.owed, of) for of in (65538, -65534)], [1, 1])
+    expect('rows', [code(Site, 1, rows, 1) for rows in ({1: [65537, 2]}, {1: [70000]}, {1: [1], 65538: [2]}, {1: [-1]})], [34] * 4)
+    expect('a long row', [code(Site, 1, {1: [1] * 65536}, 1), code(Site, 1, {1: range(1, 65538)}, 1)], [31, 31])
+    expect('no site', [code(Site, 1, WORLD, 65537), code(Site.from_json, ROWS, 65537), code(hello, 1, 65537), code(Reader, 1, [65537])],
+           [2, 2, 28, 28])
+    expect('no edition', [code(Site, 257, WORLD, 1), code(hello, 258, 1), code(Reader, 257, [2]), code(Entry.of, 257, b'')], [24] * 4)
+    events = [lambda: site.ask(65538, [3]), lambda: site.ask(2, [65537]), lambda: site.reply(65538, 1), lambda: site.reply(2, 65537),
+              lambda: site.start(65537), lambda: site.got(65538, b'\x01\x00\x04\x00\x01')]
+    expect('events', [code(event) for event in events], [20] * 6)
+    expect('bad targets', [code(site.ask, 3, of) for of in ([], [3], [1, 3], range(4, 400), [9])], [3] * 5)
+    site.ask(3, [2, 1, 2])
+    expect('holders in any order', (site.waits(3), site.owed(2), site.waits(1)), ([1, 2], [1, 3], [2]))
+
+
 def links():
     expect('hello', (hello(2, 258), code(hello, 3, 1), code(hello, 1, 0)), (b'CMH\x02\x01\x02', 24, 28))
     out = (c_uint8 * 5)()
@@ -129,5 +148,6 @@ def audits():
 
 openings()
 steps()
+numbers()
 links()
 audits()
