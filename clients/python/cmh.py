@@ -19,8 +19,14 @@ class Ended(Exception):
     """The site, or the connection to it, has ended; the text is the fault that it named, if any."""
 
 
+class Timeout(Ended):
+    """No answer came within `patience` seconds. The site is given up, since a late answer would be taken for the next
+    one: a child is killed, and a connection closed."""
+
+
 class BadLine(Exception):
-    """The site does not know this line: `connect` is for a child, `waits`, `owed` and `watch` for a service."""
+    """The site takes no such line, or not any more; the text is its answer, and the line. `connect` is for a child;
+    `waits`, `owed`, `status` and `watch` are for a service."""
 
 
 class Refused(Exception):
@@ -35,7 +41,7 @@ class Site:
 
     def __init__(self, owner: Popen | socket.socket, readable: int, writable: int, patience: float | None = None):
         self.owner, self._readable, self._writable = owner, readable, writable
-        self.patience, self.fault = patience, ''    # seconds after which a silent site counts as ended; none: for ever
+        self.patience, self.fault = patience, ''    # how many seconds an answer may take; none: for ever
         self._rest = b''                     # what has come after the last whole line
 
     @classmethod
@@ -62,12 +68,18 @@ class Site:
 
     def receive(self) -> str:
         """The next line of the site, once it is whole."""
+        return self._next_line(self.patience)
+
+    def _next_line(self, patience: float | None) -> str:
+        end = None if patience is None else time.monotonic() + patience
         while b'\n' not in self._rest:
             piece = b''
             with suppress(OSError, ValueError), PollSelector() as ready:   # where it was reset, or has ended before
                 ready.register(self._readable, EVENT_READ)
-                if ready.select(self.patience):
-                    piece = os.read(self._readable, 65536)
+                if not ready.select(end and max(0.0, end - time.monotonic())):
+                    self._give_back()
+                    raise Timeout(f'no answer within {patience:g} seconds')
+                piece = os.read(self._readable, 65536)
             if not piece:
                 raise Ended(self._give_back())
             self._rest += piece
@@ -79,36 +91,61 @@ class Site:
         self.send(' '.join(map(str, words)))
         return self.receive()
 
+    def _words(self, *words: object) -> list[str]:
+        """The words of the answer to a line; raises where it refuses the line."""
+        line = ' '.join(map(str, words))
+        return words_of(self.call(line), line)
+
     def connect(self) -> int:
         """How many links to other sites failed. A service connects by itself."""
-        return int(words_of(self.call('connect'))[3])
+        return int(self._words('connect')[3])
 
     def ask(self, asker: int, holders: Iterable[int]) -> int | None:
-        """The asker waits for all holders from now on; the answer is the process that this declared, if it did."""
-        return declared_by(self.call('ask', asker, *sorted(holders)))
+        """The asker waits for all holders from now on, who may come in any order; the answer is the process that this
+        declared, if it did."""
+        return declared_by(self._words('ask', asker, *targets(asker, holders)))
 
     def reply(self, holder: int, asker: int) -> int | None:
-        return declared_by(self.call('reply', holder, asker))
+        """The holder grants what the asker asked for. Until the request has come to its site this is `Refused` 6."""
+        return declared_by(self._words('reply', holder, asker))
+
+    def start(self, process: int) -> int | None:
+        """A computation starts for the process. In edition 2 each ask starts one by itself."""
+        return declared_by(self._words('start', process))
 
     def waits(self, process: int) -> list[int]:
-        """For whom the process waits."""
-        return [int(word) for word in words_of(self.call('waits', process))[2:]]
+        """For whom the process waits. A service tells nobody when a wait ends: ask again."""
+        return [int(word) for word in self._words('waits', process)[2:]]
 
     def owed(self, process: int) -> list[int]:
         """Whose requests the process has not answered."""
-        return [int(word) for word in words_of(self.call('owed', process))[2:]]
+        return [int(word) for word in self._words('owed', process)[2:]]
 
     def declared(self) -> list[int]:
         """Whom the site declared so far, in their order in time."""
-        return [int(word) for word in words_of(self.call('declared'))[3:]]
+        return [int(word) for word in self._words('declared')[3:]]
+
+    def links(self) -> dict[tuple[str, int], str]:
+        """The state of each link: that of `('out', S)` to site S and of `('in', S)` from it, as `open` or `closed 5`."""
+        self.send('links', 'declared')       # the answer to the second ends the lines of the first
+        lines = []
+        while not (line := self.receive()).startswith('site '):
+            lines.append(line)
+        return {(way, int(site)): ' '.join(state) for way, site, *state in map(words_of, lines)}
+
+    def status(self) -> dict[str, int | bool]:
+        """The figures of a service by their names: `entries`, `room`, `declared`, `clients`, `out`, `in`, `sealed`."""
+        words = self._words('status')
+        return {name: value == 'yes' if value in ('yes', 'no') else int(value) for name, value in zip(words[::2], words[1::2])}
 
     def declarations(self, pause: float = 0.01) -> Iterator[int]:
         """Each declaration once, those of before first. A service tells them as they come, and this connection is for
-        nothing else from then on; a child is asked every `pause` seconds, and takes other calls between."""
+        nothing else from then on; a child is asked every `pause` seconds, and takes other calls between. The next one
+        may be long in coming: for it `patience` is not the limit."""
         if isinstance(self.owner, socket.socket):
-            words_of(self.call('watch'))
+            self._words('watch')
             while True:
-                yield int(self.receive().split()[2])             # `! declared i`
+                yield int(self._next_line(None).split()[2])      # `! declared i`
         told = 0
         while True:
             for told, process in enumerate(self.declared()[told:], told + 1):
@@ -133,18 +170,25 @@ class Site:
         return self.fault or f'ended with status {self.owner.returncode}'
 
 
-def words_of(answer: str) -> list[str]:
+def targets(asker: int, holders: Iterable[int]) -> list[int]:
+    """Whom an ask names: ascending, each once. Nobody may ask nobody, or itself."""
+    ascending = sorted(set(holders))
+    if not ascending or asker in ascending:
+        raise Refused(3)
+    return ascending
+
+
+def words_of(answer: str, line: str = '') -> list[str]:
     """The words of an answer; raises where it refuses the line."""
     match answer.split():
-        case ['bad', 'line']:
-            raise BadLine
+        case ['bad', 'line'] | ['late']:
+            raise BadLine(f'{answer}: {line}')
         case ['refused', number]:
             raise Refused(int(number))
         case words:
             return words
 
 
-def declared_by(answer: str) -> int | None:
+def declared_by(words: list[str]) -> int | None:
     """`ok sent N`, and maybe ` declared I`."""
-    words = words_of(answer)
     return int(words[4]) if len(words) > 4 else None
