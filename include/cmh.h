@@ -16,7 +16,10 @@
  *            may be moved, if the old place is no longer used.
  * SLICES     A pointer and a length, in elements. They are lent for the call alone, and what is written overlaps nothing
  *            else that the call is given. A pointer is never null, not even for a length of 0, and it is aligned for its
- *            type; a handle is aligned to 8. A count that is written is how much of `out` was; the rest is as it was.
+ *            type; a handle is aligned to 8.
+ * COUNTS     After 0 *count is how much of `out` was written, and the rest of `out` is as it was. There is one exception:
+ *            cmh_site_declared, _waits and _owed count how many processes there are, which may be more than `out` has
+ *            room for.
  * CODES      0 is success. After any other code nothing has changed: neither the handle nor what was lent. There are two
  *            exceptions: a reader keeps the fault of its link, and cmh_audit tells after CMH_SHORT how much room it needs.
  *            Where several codes fit, the answer is the first that holds, in the order in which the call names them;
@@ -139,9 +142,10 @@ cmh_code cmh_site_keep(cmh_site *site);
  * Codes: CLOSED, NOT_PREPARED. */
 cmh_code cmh_site_drop(cmh_site *site);
 
-/* Each of these writes processes, ascending, and how many there are. Where there is room for fewer, the others are left
- * out. Those that were declared deadlocked here; those that a process of this site waits for; those whose requests a
- * process of this site has not answered.
+/* Each of these writes processes, ascending. *count is how many there are, also where `out` has room for fewer: then the
+ * last are left out, and `out` holds out_len of them. They are those that were declared deadlocked here, at most
+ * CMH_SITE_PROCESSES_MAX; those that a process of this site waits for; those whose requests a process of this site has
+ * not answered. A process waits for at most 32 others, and owes at most 1,023.
  * Codes: CLOSED, PREPARED, and of the last two UNKNOWN_PROCESS, NOT_HERE. */
 cmh_code cmh_site_declared(cmh_site *site, uint16_t *out, size_t out_len, size_t *count);
 cmh_code cmh_site_waits(cmh_site *site, uint16_t process, uint16_t *out, size_t out_len, size_t *count);
