@@ -1,4 +1,5 @@
-/* Two sites that wait for each other, each a process of its own, over a socket: the run of README.md.
+/* Two sites that wait for each other, each a process of its own, over a socket: the run of
+ * examples/cycle-over-two-sites.script.
  *
  *   two_sites FOLDER      leaves the journals of the run in FOLDER/one.cmhj and FOLDER/two.cmhj
  *
