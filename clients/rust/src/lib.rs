@@ -159,7 +159,7 @@ pub struct Site {
     edition: Edition,
 }
 
-// SAFETY: the library proves `Send` of what its handle holds, and each call takes `&mut self`, so that a handle is in one
+// SAFETY: the library declares what its handle holds as `Send`, and each call takes `&mut self`, so that a handle is in one
 // call at a time.
 unsafe impl Send for Site {}
 
