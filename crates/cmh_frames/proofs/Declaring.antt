@@ -16,7 +16,7 @@ use Rattle.cmh_frames.specs.Edition.{member_limit, starts_at_ask}
 use Rattle.cmh_frames.specs.Topology.{Topology, At, IsWellFormed, is_at, members_of}
 use Rattle.cmh_frames.specs.declared.event.Event.{Event}
 use Rattle.cmh_frames.specs.declared.event.Event.TheVariants.{Ask, Reply, Start, Got}
-use Rattle.cmh_frames.specs.declared.journal.Entry.{Entry}
+use Rattle.cmh_frames.specs.Entries.{Entry}
 use Rattle.cmh_frames.specs.Relation.{Numbers}
 use Rattle.cmh_frames.specs.State.{State, empty_state}
 use Rattle.cmh_frames.specs.Rules.{Sends, DeclaresOrProbes, after, declared_after, probe_acts}

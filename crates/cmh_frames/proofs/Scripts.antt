@@ -17,7 +17,7 @@ use Rattle.cmh_frames.specs.Paths.{IsPath, WaitsLocally, ReachesLocally, Depends
 use Rattle.cmh_frames.specs.Rules.{Accepts, AreTargets, IsEdgeFrom, AreProbes, Sends, after, probe_acts}
 use Rattle.cmh_frames.proofs.Words.{newly}
 use Rattle.cmh_frames.specs.Journals.{value, IsLawful, sendings_of, receipts_of}
-use Rattle.cmh_frames.specs.declared.journal.Entry.{Entry}
+use Rattle.cmh_frames.specs.Entries.{Entry}
 use Rattle.cmh_frames.specs.Stops.{IsConsistent}
 use Rattle.cmh_frames.specs.Runs.{IsRun, IsDrained, entries_of, state_of}
 use Rattle.cmh_frames.specs.Laws.{is_request}

@@ -4,6 +4,7 @@ use Rattle.std.specs.List.{list_any, AllByRecursion}
 use Rattle.std.specs.FinSet as set
 use Rattle.std.proofs.lemmas.Bool.{eq-eqb, ne_eqb, cases_eq, cases_Bool, MatchBool-at_true, MatchBool-at_false}
 use Rattle.std.proofs.lemmas.Option.{none-some}
+use Rattle.cmh_runs.proofs.Sent as runs
 use Rattle.cmh_frames.specs.declared.frame.Frame.{Frame}
 use Rattle.cmh_frames.specs.declared.frame.Frame.TheVariants.{Request, Reply as Reply_frame, Probe}
 use Rattle.cmh_frames.specs.declared.event.Event.{Event}
@@ -122,19 +123,15 @@ declares t s v (Got a (Probe (o, f, to))) sent d i h e = elim (cases_Bool (probe
 
 -- a frame that goes to b
 pub to_yes : (b c : ℕ) (f : Frame) (xs : List (ℕ × Frame)) → c ≡ b → frames_to b ((c, f) ∷ xs) ≡ f ∷ frames_to b xs
-to_yes b c f xs e = ap (λ z. if z then f ∷ frames_to b xs else frames_to b xs) (eq-eqb c b e)
+to_yes = runs.to_yes
 
 -- a frame that goes elsewhere
 pub to_no : (b c : ℕ) (f : Frame) (xs : List (ℕ × Frame)) → c ≢ b → frames_to b ((c, f) ∷ xs) ≡ frames_to b xs
-to_no b c f xs n = ap (λ z. if z then f ∷ frames_to b xs else frames_to b xs) (ne_eqb c b n)
+to_no = runs.to_no
 
 -- the frames of two lists, one after the other
 pub to-append : (b : ℕ) (xs ys : List (ℕ × Frame)) → frames_to b (xs ++ ys) ≡ frames_to b xs ++ frames_to b ys
-to-append b [] ys = refl
-to-append b (x ∷ xs) ys = elim (cases_eq x.0 b) [
-  | inl e ↦ to_yes b x.0 x.1 (xs ++ ys) e ∙ ap (λ z. x.1 ∷ z) (to-append b xs ys) ∙ ap (λ z. z ++ frames_to b ys) (sym (to_yes b x.0 x.1 xs e))
-  | inr n ↦ to_no b x.0 x.1 (xs ++ ys) n ∙ to-append b xs ys ∙ ap (λ z. z ++ frames_to b ys) (sym (to_no b x.0 x.1 xs n))
-]
+to-append = runs.to-append
 
 -- a frame that does not count
 pub count_to_no : (p : Frame → Bool) (b c : ℕ) (f : Frame) (xs : List (ℕ × Frame)) → p f ≡ false → count_of p (frames_to b ((c, f) ∷ xs)) ≡ count_of p (frames_to b xs)

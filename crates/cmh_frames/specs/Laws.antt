@@ -5,7 +5,7 @@ use Rattle.cmh_frames.specs.declared.frame.Frame.{Frame}
 use Rattle.cmh_frames.specs.declared.frame.Frame.TheVariants.{Request, Reply as Reply_frame, Probe}
 use Rattle.cmh_frames.specs.Edition.{target_limit}
 use Rattle.cmh_frames.specs.Topology.{Topology, At}
-use Rattle.cmh_frames.specs.declared.journal.WorldEvent.{WorldEvent}
+use Rattle.cmh_frames.specs.Entries.{WorldEvent}
 use Rattle.cmh_frames.specs.Relation.{has, RelatesToFew}
 use Rattle.cmh_frames.specs.State.{State, is_blocked}
 use Rattle.cmh_frames.specs.Runs.{state_of, under_way, IsBeginningOf}

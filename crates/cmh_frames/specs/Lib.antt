@@ -9,6 +9,7 @@ pub mod Relation
 pub mod State
 pub mod Paths
 pub mod Rules
+pub mod Entries
 pub mod Journals
 pub mod Runs
 pub mod Waits

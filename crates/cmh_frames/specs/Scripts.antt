@@ -9,8 +9,7 @@ use Rattle.cmh_frames.specs.declared.frame.Frame.TheVariants.{Request, Reply as 
 use Rattle.cmh_frames.specs.Topology.{Topology}
 use Rattle.cmh_frames.specs.declared.event.Event.{Event}
 use Rattle.cmh_frames.specs.declared.event.Event.TheVariants.{Ask, Reply, Start, Got}
-use Rattle.cmh_frames.specs.declared.journal.Entry.{Entry}
-use Rattle.cmh_frames.specs.declared.journal.WorldEvent.{WorldEvent}
+use Rattle.cmh_frames.specs.Entries.{Entry, WorldEvent}
 use Rattle.cmh_frames.specs.State.{State}
 use Rattle.cmh_frames.specs.Runs.{under_way}
 

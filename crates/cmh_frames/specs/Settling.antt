@@ -8,7 +8,7 @@ use Rattle.cmh_frames.specs.Topology.{Topology, sites_of, members_of, site_of}
 use Rattle.cmh_frames.specs.Rows.{all_members}
 use Rattle.cmh_frames.specs.declared.event.Event.{Event}
 use Rattle.cmh_frames.specs.declared.event.Event.TheVariants.{Got}
-use Rattle.cmh_frames.specs.declared.journal.WorldEvent.{WorldEvent}
+use Rattle.cmh_frames.specs.Entries.{WorldEvent}
 use Rattle.cmh_frames.specs.Runs.{under_way, IsRun, IsDrained}
 use Rattle.cmh_frames.specs.Laws.{count_of}
 

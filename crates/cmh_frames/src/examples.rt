@@ -8,7 +8,7 @@ ghost use Rattle.cmh_frames.specs.declared.edition.Edition.TheVariants.{One, Two
 ghost use Rattle.cmh_frames.specs.declared.frame.Frame.TheVariants.{Request, Reply as Reply_frame, Probe};
 ghost use Rattle.cmh_frames.specs.Topology.{home};
 ghost use Rattle.cmh_frames.specs.declared.event.Event.TheVariants.{Ask, Reply, Start, Got};
-ghost use Rattle.cmh_frames.specs.declared.journal.Entry.{Entry};
+ghost use Rattle.cmh_frames.specs.Entries.{Entry};
 ghost use Rattle.cmh_frames.specs.Relation.{has};
 ghost use Rattle.cmh_frames.specs.State.{empty_state, is_blocked};
 ghost use Rattle.cmh_frames.specs.Rules.{Accepts, AreTargets, Sends, after, probe_acts};

@@ -5,8 +5,8 @@ ghost use Rattle.cmh_frames.specs.Number.{IsNumber};
 ghost use Rattle.cmh_frames.specs.Wire.{hello};
 
 use crate::edition::Edition;
-use crate::number::SiteId;
 use byteorder::{BigEndian, ByteOrder};
+use cmh_runs::SiteId;
 
 /// How many bytes a hello has.
 pub const HELLO_LEN: usize = 6;

@@ -3,7 +3,7 @@
 ghost use Rattle.std.specs.Prelude.{Some};
 ghost use Rattle.cmh_frames.specs.Texts.{declared_text, processes_text};
 
-use crate::number::ProcId;
+use cmh_runs::ProcId;
 use std::fmt;
 
 /// Processes, each after a space.

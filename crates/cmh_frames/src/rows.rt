@@ -11,7 +11,7 @@ ghost use Rattle.cmh_frames.specs.Inner.Kept.{is_bad as is_no_number, members_in
 
 use crate::edition::Edition;
 use crate::marks::{WORDS, is_marked, mark};
-use crate::number::is_number;
+use cmh_runs::is_number;
 use std::marker::Model;
 use thiserror::Error;
 

@@ -9,7 +9,7 @@ use Rattle.cmh_frames.specs.declared.frame.Frame.TheVariants.{Request, Reply as 
 use Rattle.cmh_frames.specs.Topology.{Topology, is_at}
 use Rattle.cmh_frames.specs.declared.event.Event.{Event}
 use Rattle.cmh_frames.specs.declared.event.Event.TheVariants.{Ask, Reply, Start, Got}
-use Rattle.cmh_frames.specs.declared.journal.Entry.{Entry}
+use Rattle.cmh_frames.specs.Entries.{Entry}
 use Rattle.cmh_frames.specs.Relation.{Numbers}
 use Rattle.cmh_frames.specs.State.{State, empty_state}
 use Rattle.cmh_frames.specs.Rules.{Sends, after, declared_after, probe_acts}

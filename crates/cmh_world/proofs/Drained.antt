@@ -5,7 +5,7 @@ use Rattle.std.proofs.lemmas.Bool.{cases_eq, cases_Bool, false_from_ne_true, Mat
 use Rattle.cmh_frames.specs.declared.frame.Frame.{Frame}
 use Rattle.cmh_frames.specs.declared.frame.Frame.TheVariants.{Probe}
 use Rattle.cmh_frames.specs.declared.event.Event.TheVariants.{Got}
-use Rattle.cmh_frames.specs.declared.journal.WorldEvent.{WorldEvent}
+use Rattle.cmh_frames.specs.Entries.{WorldEvent}
 use Rattle.cmh_frames.specs.Edition.{starts_at_ask}
 use Rattle.cmh_frames.specs.Topology.{Topology, At, site_of}
 use Rattle.cmh_frames.specs.Relation.{has}

@@ -6,7 +6,7 @@ use Rattle.cmh_frames.specs.declared.frame.Frame.{Frame}
 use Rattle.cmh_frames.specs.declared.frame.Frame.TheVariants.{Request, Reply as Reply_frame, Probe}
 use Rattle.cmh_frames.specs.declared.event.Event.{Event}
 use Rattle.cmh_frames.specs.declared.event.Event.TheVariants.{Ask, Reply, Start, Got}
-use Rattle.cmh_frames.specs.declared.journal.WorldEvent.{WorldEvent}
+use Rattle.cmh_frames.specs.Entries.{WorldEvent}
 use Rattle.cmh_frames.specs.Topology.{Topology, At, is_at}
 use Rattle.cmh_frames.specs.Relation.{has, has_some}
 use Rattle.cmh_frames.specs.Rules.{Accepts, after, probe_acts}

@@ -8,7 +8,7 @@ use Rattle.cmh_frames.specs.Topology.{Topology, IsWellFormed, sites_of, members_
 use Rattle.cmh_frames.specs.Rows.{all_members}
 use Rattle.cmh_frames.specs.declared.event.Event.{Event}
 use Rattle.cmh_frames.specs.declared.event.Event.TheVariants.{Ask, Reply, Start, Got}
-use Rattle.cmh_frames.specs.declared.journal.WorldEvent.{WorldEvent}
+use Rattle.cmh_frames.specs.Entries.{WorldEvent}
 use Rattle.cmh_frames.specs.Relation.{IsNarrow, has}
 use Rattle.cmh_frames.specs.Rules.{Accepts, Sends, IsAscending, after, probe_acts}
 use Rattle.cmh_frames.specs.Journals.{frames_to, frame_from}

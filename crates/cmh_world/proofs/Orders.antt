@@ -1,6 +1,6 @@
 -- What the journals alone determine.
 use Rattle.std.proofs.Common.{◌≡◌, ◌↔◌, ℕ, false, List, sym, ap, length, drop, arith}
-use Rattle.cmh_frames.specs.declared.journal.WorldEvent.{WorldEvent}
+use Rattle.cmh_frames.specs.Entries.{WorldEvent}
 use Rattle.cmh_frames.specs.Topology.{Topology}
 use Rattle.cmh_frames.specs.Relation.{has}
 use Rattle.cmh_frames.specs.Runs.{IsRun, entries_of, under_way, state_of}

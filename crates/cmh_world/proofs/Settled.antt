@@ -9,7 +9,7 @@ use Rattle.cmh_frames.specs.Edition.{starts_at_ask}
 use Rattle.cmh_frames.specs.Topology.{Topology, IsWellFormed, sites_of}
 use Rattle.cmh_frames.specs.declared.event.Event.{Event}
 use Rattle.cmh_frames.specs.declared.event.Event.TheVariants.{Ask, Reply, Start, Got}
-use Rattle.cmh_frames.specs.declared.journal.WorldEvent.{WorldEvent}
+use Rattle.cmh_frames.specs.Entries.{WorldEvent}
 use Rattle.cmh_frames.specs.Rules.{Accepts}
 use Rattle.cmh_frames.specs.Journals.{frame_from}
 use Rattle.cmh_frames.specs.Runs.{IsRun, IsDrained, entries_of, receipts, sendings, under_way, state_of}

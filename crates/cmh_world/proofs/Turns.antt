@@ -1,6 +1,6 @@
 -- Asks and replies of two processes take turns.
 use Rattle.std.proofs.Common.{◌≡◌, ℕ, ◌+◌, false, List, [], ◌∷◌, ◌++◌, sym, ap, subst, arith, append_assoc, append-nil}
-use Rattle.cmh_frames.specs.declared.journal.WorldEvent.{WorldEvent}
+use Rattle.cmh_frames.specs.Entries.{WorldEvent}
 use Rattle.cmh_frames.specs.Topology.{Topology}
 use Rattle.cmh_frames.specs.Runs.{IsRun}
 use Rattle.cmh_frames.specs.Waits.{asks_for, grants, wait_after}

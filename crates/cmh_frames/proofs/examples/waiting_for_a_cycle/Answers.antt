@@ -2,7 +2,7 @@ use Rattle.std.proofs.Common.{◌≡◌, ℕ, true, false, ◌⊎◌, ◌&&◌, 
 use Rattle.std.specs.List.{list_any, AllByRecursion}
 use Rattle.std.proofs.lemmas.Bool.{and_parts, or_cases, eqb-true}
 use Rattle.cmh_frames.specs.declared.event.Event.TheVariants.{Ask}
-use Rattle.cmh_frames.specs.declared.journal.WorldEvent.{WorldEvent}
+use Rattle.cmh_frames.specs.Entries.{WorldEvent}
 use Rattle.cmh_frames.specs.Paths.{IsPath}
 use Rattle.cmh_frames.specs.Waits.{Waits, IsCycle}
 use Rattle.cmh_frames.specs.LastAsker.{is_ask_of}

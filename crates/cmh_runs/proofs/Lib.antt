@@ -1,0 +1,5 @@
+pub mod Beginnings
+pub mod Sent
+pub mod Journals
+pub mod Stops
+pub mod Growing
