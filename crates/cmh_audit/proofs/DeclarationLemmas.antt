@@ -11,8 +11,7 @@ use Rattle.std.proofs.lemmas.Map.Lookups.{exact_unsigned}
 use Rattle.std.proofs.lemmas.Map.Views.{btree_set_contains_iff}
 use Rattle.cmh_frames.specs.Topology.{is_some_of}
 use Rattle.cmh_frames.specs.declared.event.Event.TheVariants.{Start}
-use Rattle.cmh_frames.specs.declared.journal.Entry.{Entry}
-use Rattle.cmh_frames.specs.declared.journal.WorldEvent.{WorldEvent}
+use Rattle.cmh_frames.specs.Entries.{Entry, WorldEvent}
 use Rattle.cmh_frames.specs.Laws.{bit}
 use Rattle.cmh_frames.specs.Runs.{ComesFrom}
 use Rattle.cmh_frames.specs.Waits.{IsDeclared}

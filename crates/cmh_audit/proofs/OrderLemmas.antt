@@ -5,8 +5,7 @@ use Rattle.std.proofs.lemmas.Bool.{cases_eq, eq-eqb, ne_eqb}
 use Rattle.std.proofs.lemmas.List.{get_or-set_same, get_or-set_other, map-append}
 use Rattle.std.proofs.lemmas.Option.{slice_get_read}
 use Rattle.cmh_frames.specs.Topology.{Topology}
-use Rattle.cmh_frames.specs.declared.journal.Entry.{Entry}
-use Rattle.cmh_frames.specs.declared.journal.WorldEvent.{WorldEvent}
+use Rattle.cmh_frames.specs.Entries.{Entry, WorldEvent}
 use Rattle.cmh_frames.specs.Laws.{bit, count_of}
 use Rattle.cmh_frames.specs.Runs.{IsBeginningOf}
 use Rattle.cmh_frames.proofs.Beginnings.{beginning_push, push_eq}

@@ -8,7 +8,7 @@ use Rattle.std.proofs.lemmas.List.{take_more}
 use Rattle.std.proofs.lemmas.List.Kept.{AllPairs-from_increasing}
 use Rattle.std.proofs.Math.Seq.{drop-append_seam}
 use Rattle.cmh_frames.specs.Topology.{Topology, sites_of}
-use Rattle.cmh_frames.specs.declared.journal.WorldEvent.{WorldEvent}
+use Rattle.cmh_frames.specs.Entries.{WorldEvent}
 use Rattle.cmh_frames.specs.Journals.{sendings_of, receipts_of}
 use Rattle.cmh_frames.specs.Runs.{IsRun, ComesFrom, under_way, receipts}
 use Rattle.cmh_frames.specs.Waits.{Waits, IsCycle, IsDeclared}

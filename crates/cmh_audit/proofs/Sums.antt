@@ -2,8 +2,7 @@
 use Rattle.std.proofs.Common.{◌≡◌, ◌≢◌, ℕ, ◌+◌, ◌<◌, ◌==◌, Bool, true, false, List, [], ◌∷◌, ◌++◌, length, take, get_or, ⊎_elim, sym, ap, subst, refl, ◌∙◌, if◌then◌else◌, arith}
 use Rattle.std.proofs.lemmas.Bool.{cases_eq, eq-eqb, ne_eqb}
 use Rattle.std.proofs.lemmas.List.{take_more}
-use Rattle.cmh_frames.specs.declared.journal.Entry.{Entry}
-use Rattle.cmh_frames.specs.declared.journal.WorldEvent.{WorldEvent}
+use Rattle.cmh_frames.specs.Entries.{Entry, WorldEvent}
 use Rattle.cmh_frames.specs.Runs.{entries_of, ComesFrom}
 use Rattle.cmh_frames.proofs.Journals.{entries_here, entries_elsewhere}
 use Rattle.cmh_journal.specs.Journal.{Journal}

@@ -5,8 +5,7 @@ use Rattle.std.proofs.Math.Seq.{take-append_seam, take-length}
 use Rattle.std.proofs.lemmas.Bool.{cases_lt}
 use Rattle.std.proofs.lemmas.List.{take-append-drop, take-append-le, take_all, take_more}
 use Rattle.cmh_frames.specs.Topology.{Topology}
-use Rattle.cmh_frames.specs.declared.journal.Entry.{Entry}
-use Rattle.cmh_frames.specs.declared.journal.Outcome.{Outcome}
+use Rattle.cmh_frames.specs.Entries.{Entry, Outcome}
 use Rattle.cmh_frames.specs.Journals.{IsLawful, value}
 use Rattle.cmh_frames.specs.Runs.{ComeFromRun}
 use Rattle.cmh_frames.specs.Rules.{Accepts, Sends, after}

@@ -12,8 +12,7 @@ use Rattle.cmh_frames.specs.declared.frame.Frame.TheVariants.{Request, Reply as 
 use Rattle.cmh_frames.specs.Topology.{Topology, sites_of}
 use Rattle.cmh_frames.specs.declared.event.Event.{Event}
 use Rattle.cmh_frames.specs.declared.event.Event.TheVariants.{Ask, Reply, Start, Got}
-use Rattle.cmh_frames.specs.declared.journal.Entry.{Entry}
-use Rattle.cmh_frames.specs.declared.journal.WorldEvent.{WorldEvent}
+use Rattle.cmh_frames.specs.Entries.{Entry, WorldEvent}
 use Rattle.cmh_frames.specs.Laws.{AsksAndReplies, DarkPath}
 use Rattle.cmh_frames.specs.State.{State, empty_state}
 use Rattle.cmh_frames.specs.Rules.{Accepts, after}

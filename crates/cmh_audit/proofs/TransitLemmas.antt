@@ -9,8 +9,7 @@ use Rattle.cmh_frames.specs.declared.frame.Frame.TheVariants.{Request, Reply as 
 use Rattle.cmh_frames.specs.Topology.{Topology, home, At, is_at, site_of, sites_of, is_site}
 use Rattle.cmh_frames.specs.declared.event.Event.{Event}
 use Rattle.cmh_frames.specs.declared.event.Event.TheVariants.{Ask, Reply, Start, Got}
-use Rattle.cmh_frames.specs.declared.journal.Entry.{Entry}
-use Rattle.cmh_frames.specs.declared.journal.WorldEvent.{WorldEvent}
+use Rattle.cmh_frames.specs.Entries.{Entry, WorldEvent}
 use Rattle.cmh_frames.specs.State.{State, empty_state}
 use Rattle.cmh_frames.specs.Rules.{Accepts, Sends, after, requests, replies}
 use Rattle.cmh_frames.specs.Journals.{LawfulFrom, frames_to, sendings_of}

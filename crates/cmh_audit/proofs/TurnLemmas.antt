@@ -7,8 +7,7 @@ use Rattle.cmh_frames.proofs.Sent.{count_ascending}
 use Rattle.cmh_frames.specs.Topology.{Topology}
 use Rattle.cmh_frames.specs.declared.event.Event.{Event}
 use Rattle.cmh_frames.specs.declared.event.Event.TheVariants.{Ask, Reply, Start, Got}
-use Rattle.cmh_frames.specs.declared.journal.Entry.{Entry}
-use Rattle.cmh_frames.specs.declared.journal.WorldEvent.{WorldEvent}
+use Rattle.cmh_frames.specs.Entries.{Entry, WorldEvent}
 use Rattle.cmh_frames.specs.State.{State, empty_state}
 use Rattle.cmh_frames.specs.Rules.{Accepts, after}
 use Rattle.cmh_frames.specs.Journals.{LawfulFrom}

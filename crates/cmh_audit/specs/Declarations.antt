@@ -1,7 +1,7 @@
 -- The processes that entries declare.
 use Rattle.std.specs.Prelude.{ℕ, ◌<◌, ◌↔◌, ◌⊎◌, List, Contains}
 use Rattle.cmh_frames.specs.Topology.{is_some_of}
-use Rattle.cmh_frames.specs.declared.journal.Entry.{Entry}
+use Rattle.cmh_frames.specs.Entries.{Entry}
 use Rattle.cmh_frames.specs.Laws.{bit}
 
 -- whether an entry declares i, as a number

@@ -1,7 +1,7 @@
 -- The journals that an auditor is given, read by site number.
 use Rattle.std.specs.Prelude.{◌≢◌, ℕ, ◌+◌, List, [], ◌∷◌, length, All, ◌==◌, if◌then◌else◌}
 use Rattle.cmh_frames.specs.Topology.{Topology}
-use Rattle.cmh_frames.specs.declared.journal.Entry.{Entry}
+use Rattle.cmh_frames.specs.Entries.{Entry}
 use Rattle.cmh_frames.specs.Journals.{IsLawful}
 use Rattle.cmh_journal.specs.Journal.{Journal}
 

@@ -3,7 +3,7 @@ use Rattle.std.specs.Prelude.{◌≡◌, ℕ, ◌↔◌, true, List, ◌==◌, C
 use Rattle.std.specs.List.{find, zip}
 use Rattle.std.specs.List.Sorted.{IsStrictlyIncreasing, IsStrictlySortedBy}
 use Rattle.cmh_frames.specs.Topology.{Topology}
-use Rattle.cmh_frames.specs.declared.journal.WorldEvent.{WorldEvent}
+use Rattle.cmh_frames.specs.Entries.{WorldEvent}
 use Rattle.cmh_frames.specs.Relation.{pair_cmp}
 use Rattle.cmh_frames.specs.Runs.{IsDrained}
 use Rattle.cmh_frames.specs.Settling.{under_way_in_all}

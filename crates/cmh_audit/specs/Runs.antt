@@ -1,8 +1,7 @@
 -- A run as the places of its entries in the journals: what a reader can check without the auditor.
 use Rattle.std.specs.Prelude.{◌≡◌, ℕ, ◌==◌, List, [], ◌∷◌, ◌++◌, map, slice_get, option_map, option_and_then, Option, Some}
 use Rattle.cmh_frames.specs.Topology.{Topology}
-use Rattle.cmh_frames.specs.declared.journal.Entry.{Entry}
-use Rattle.cmh_frames.specs.declared.journal.WorldEvent.{WorldEvent}
+use Rattle.cmh_frames.specs.Entries.{Entry, WorldEvent}
 use Rattle.cmh_frames.specs.Laws.{count_of}
 use Rattle.cmh_frames.specs.Runs.{ComesFrom, IsBeginningOf, IsRun}
 use Rattle.cmh_journal.specs.Journal.{Journal}

@@ -1,6 +1,6 @@
 -- Sums over entries.
 use Rattle.std.specs.Prelude.{ℕ, ◌+◌, List, [], ◌∷◌}
-use Rattle.cmh_frames.specs.declared.journal.Entry.{Entry}
+use Rattle.cmh_frames.specs.Entries.{Entry}
 use Rattle.cmh_journal.specs.Journal.{Journal}
 
 -- the sum of what each entry counts

@@ -2,7 +2,7 @@
 use Rattle.std.specs.Prelude.{◌≡◌, ℕ, zero, suc, Bool, not, ◌&&◌, ◌==◌, if◌then◌else◌, List, [], slice_index_or}
 use Rattle.cmh_frames.specs.declared.event.Event.{Event}
 use Rattle.cmh_frames.specs.declared.event.Event.TheVariants.{Ask, Reply, Start, Got}
-use Rattle.cmh_frames.specs.declared.journal.Entry.{Entry}
+use Rattle.cmh_frames.specs.Entries.{Entry}
 use Rattle.cmh_frames.specs.Laws.{bit, count_of}
 use Rattle.cmh_waits.specs.Rows.{is_in}
 

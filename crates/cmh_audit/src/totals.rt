@@ -1,7 +1,7 @@
 //! What entries come to, kept while they are taken.
 
 ghost use Rattle.std.specs.Prelude.{◌≡◌, List, [], IfOk, OnOk};
-ghost use Rattle.cmh_frames.specs.declared.journal.WorldEvent.{WorldEvent};
+ghost use Rattle.cmh_frames.specs.Entries.{WorldEvent};
 ghost use Rattle.cmh_frames.specs.Runs.{ComesFrom, IsRun};
 ghost use Rattle.cmh_journal.specs.Journal as journal;
 ghost use Rattle.cmh_audit.specs.Journals.{journal_of, entry_count};

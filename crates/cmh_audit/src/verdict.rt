@@ -1,7 +1,7 @@
 //! The auditor's verdict.
 
 ghost use Rattle.std.specs.Prelude.{◌≡◌, ◌↔◌, ◌+◌, ◌*◌, ◌≤◌, List, length, IfErr, IfOk};
-ghost use Rattle.cmh_frames.specs.declared.journal.WorldEvent.{WorldEvent};
+ghost use Rattle.cmh_frames.specs.Entries.{WorldEvent};
 ghost use Rattle.cmh_frames.specs.Runs.{ComeFromRun, ComesFrom, IsRun};
 ghost use Rattle.cmh_audit.specs.Inner.Merging.{AreLawfulLengths};
 ghost use Rattle.cmh_audit.specs.Inner.Walks.{cut_all_to};

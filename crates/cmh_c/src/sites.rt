@@ -3,7 +3,7 @@
 ghost use Rattle.std.specs.Prelude.{◌≡◌, ◌<◌, ◌++◌, ◌⊎◌, true, false, None, Some, IsSome, MatchOption, length, drop};
 ghost use Rattle.std.specs.FinSet as set;
 ghost use Rattle.cmh_frames.specs.Relation.{has};
-ghost use Rattle.cmh_frames.specs.declared.journal.Entry.{Entry};
+ghost use Rattle.cmh_frames.specs.Entries.{Entry};
 ghost use Rattle.cmh_journal.specs.File.{header};
 ghost use Rattle.cmh_seat.specs.Seat.{IsNotToldOf, Keeps, NotTook, Wrote};
 ghost use Rattle.cmh_console.specs.TopologyFile.{Says};

@@ -8,8 +8,7 @@ use Rattle.std.proofs.lemmas.Map.Made.{Contains-tail}
 use Rattle.cmh_frames.specs.Edition.{starts_at_ask}
 use Rattle.cmh_frames.specs.declared.edition.Edition.{Edition}
 use Rattle.cmh_frames.specs.Topology.{Topology, is_site, sites_of, lookup}
-use Rattle.cmh_frames.specs.declared.journal.Entry.{Entry}
-use Rattle.cmh_frames.specs.declared.journal.WorldEvent.{WorldEvent}
+use Rattle.cmh_frames.specs.Entries.{Entry, WorldEvent}
 use Rattle.cmh_frames.specs.Laws.{bit, count_of, DarkPath}
 use Rattle.cmh_frames.specs.LastAsker.{LastAskerDeclared}
 use Rattle.cmh_frames.specs.Runs.{IsBeginningOf, IsRun, IsDrained, ComesFrom, entries_of, ComeFromRun}

@@ -4,7 +4,7 @@ use Rattle.std.proofs.lemmas.Bool.{cases_lt}
 use Rattle.std.proofs.lemmas.List.{get_or-map, get_or_append_left, get_or_push, take_at}
 use Rattle.std.specs.Global.{Global}
 use Rattle.cmh_frames.specs.Journals.{receipts_of, sendings_of}
-use Rattle.cmh_frames.specs.declared.journal.Entry.{Entry}
+use Rattle.cmh_frames.specs.Entries.{Entry}
 use Rattle.cmh_journal.specs.File.{IsFault, IsFileOf, file_spelling}
 use Rattle.cmh_journal.specs.Journal.{Journal}
 use Rattle.cmh_journal.specs.declared.journal.JournalFault.{JournalFault}

@@ -9,8 +9,7 @@ use Rattle.cmh_frames.specs.declared.frame.Frame.{Frame}
 use Rattle.cmh_frames.specs.Topology.{Topology}
 use Rattle.cmh_frames.specs.declared.event.Event.{Event}
 use Rattle.cmh_frames.specs.declared.event.Event.TheVariants.{Ask, Reply, Start, Got}
-use Rattle.cmh_frames.specs.declared.journal.Entry.{Entry}
-use Rattle.cmh_frames.specs.declared.journal.WorldEvent.{WorldEvent}
+use Rattle.cmh_frames.specs.Entries.{Entry, WorldEvent}
 use Rattle.cmh_frames.specs.Rules.{Accepts, Sends}
 use Rattle.cmh_frames.specs.Journals.{IsLawful, value, frame_from, sendings_of, receipts_of}
 use Rattle.cmh_frames.specs.Runs.{IsBeginningOf, IsRun, entries_of, state_of, under_way}

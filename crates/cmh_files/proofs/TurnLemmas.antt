@@ -5,7 +5,7 @@ use Rattle.std.proofs.Math.Seq.{drop-cons}
 use Rattle.std.proofs.lemmas.List.{take_more}
 use Rattle.std.proofs.lemmas.Option.{slice_get_past, slice_get_read}
 use Rattle.cmh_frames.specs.declared.frame.Frame.{Frame}
-use Rattle.cmh_frames.specs.declared.journal.Entry.{Entry}
+use Rattle.cmh_frames.specs.Entries.{Entry}
 use Rattle.cmh_frames.specs.Journals.{frames_to, frame_from, sendings_of, receipts_of}
 use Rattle.cmh_frames.proofs.Journals.{sendings_of-append, receipts_of-append}
 use Rattle.cmh_frames.proofs.Sent.{to-append}

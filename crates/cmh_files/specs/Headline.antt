@@ -3,8 +3,7 @@ use Rattle.std.specs.Prelude.{◌≡◌, ℕ, ◌≤◌, true, ◌↔◌, List, 
 use Rattle.std.specs.List.{AllZip}
 use Rattle.cmh_frames.specs.Edition.{starts_at_ask}
 use Rattle.cmh_frames.specs.Topology.{Topology, is_site}
-use Rattle.cmh_frames.specs.declared.journal.Entry.{Entry}
-use Rattle.cmh_frames.specs.declared.journal.WorldEvent.{WorldEvent}
+use Rattle.cmh_frames.specs.Entries.{Entry, WorldEvent}
 use Rattle.cmh_frames.specs.Laws.{bit, count_of}
 use Rattle.cmh_frames.specs.Runs.{IsBeginningOf, IsRun, entries_of}
 use Rattle.cmh_frames.specs.Stops.{stopped, IsConsistent}

@@ -4,7 +4,7 @@ use Rattle.std.specs.Fmt.{decimal}
 use Rattle.cmh_frames.specs.declared.frame.Frame.{Frame}
 use Rattle.cmh_frames.specs.Texts.{frame_text}
 use Rattle.cmh_frames.specs.Topology.{Topology}
-use Rattle.cmh_frames.specs.declared.journal.Entry.{Entry}
+use Rattle.cmh_frames.specs.Entries.{Entry}
 use Rattle.cmh_controller.specs.Refusals.{number_of}
 use Rattle.cmh_journal.specs.Journal.{Journal}
 use Rattle.cmh_files.specs.EntryTexts.{entry_text}

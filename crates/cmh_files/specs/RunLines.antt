@@ -1,7 +1,7 @@
 -- An entry of a run as a line.
 use Rattle.std.specs.Prelude.{ℕ, List, ◌++◌, codes}
 use Rattle.std.specs.Fmt.{decimal}
-use Rattle.cmh_frames.specs.declared.journal.Entry.{Entry}
+use Rattle.cmh_frames.specs.Entries.{Entry}
 use Rattle.cmh_files.specs.EntryTexts.{line_text}
 
 -- the line of its site's journal, after its site

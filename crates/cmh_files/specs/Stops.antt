@@ -1,7 +1,7 @@
 -- Stops of journals: a length for each, so that what is kept is as if all sites had stopped at one moment.
 use Rattle.std.specs.Prelude.{◌≡◌, ℕ, ◌<◌, ◌≤◌, List, [], length, take, slice_index_or}
 use Rattle.cmh_frames.specs.declared.edition.Edition.TheVariants.{One}
-use Rattle.cmh_frames.specs.declared.journal.Entry.{Entry}
+use Rattle.cmh_frames.specs.Entries.{Entry}
 use Rattle.cmh_frames.specs.Journals.{receipts_of, sendings_of}
 use Rattle.cmh_journal.specs.Journal.{Journal}
 

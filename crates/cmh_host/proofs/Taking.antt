@@ -6,8 +6,7 @@ use Rattle.std.proofs.lemmas.List.{append-nil}
 use Rattle.std.proofs.lemmas.Grind.{flat_map-append}
 use Rattle.cmh_frames.specs.Topology.{Topology}
 use Rattle.cmh_frames.specs.declared.event.Event.{Event}
-use Rattle.cmh_frames.specs.declared.journal.Entry.{Entry}
-use Rattle.cmh_frames.specs.declared.journal.Outcome.{Outcome}
+use Rattle.cmh_frames.specs.Entries.{Entry, Outcome}
 use Rattle.cmh_frames.specs.Journals.{value}
 use Rattle.cmh_controller.proofs.Replaying.{not_accepted}
 use Rattle.cmh_controller.specs.Refusals.{Refuses}

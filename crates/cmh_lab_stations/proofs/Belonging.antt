@@ -5,8 +5,7 @@ use Rattle.std.specs.Option.{option_map}
 use Rattle.std.proofs.lemmas.Option.{none-some, same_Some}
 use Rattle.cmh_frames.specs.declared.frame.Frame.{Frame}
 use Rattle.cmh_frames.specs.declared.event.Event.{Event}
-use Rattle.cmh_frames.specs.declared.journal.Entry.{Entry}
-use Rattle.cmh_frames.specs.declared.journal.Outcome.{Outcome}
+use Rattle.cmh_frames.specs.Entries.{Entry, Outcome}
 use Rattle.cmh_shared.specs.Fronts.{Front}
 use Rattle.std.specs.List.{AllZip}
 use Rattle.cmh_shared.specs.Links.{IsTapOf, Link, Released, Tap, queued}

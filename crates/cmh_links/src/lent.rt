@@ -2,7 +2,7 @@
 
 ghost use Rattle.std.specs.Prelude.{◌≡◌, ◌≢◌, ◌++◌, ℕ, List, Some};
 ghost use Rattle.cmh_frames.specs.declared.frame.Frame.{Frame};
-ghost use Rattle.cmh_frames.specs.declared.journal.Entry.{Entry};
+ghost use Rattle.cmh_frames.specs.Entries.{Entry};
 ghost use Rattle.cmh_frames.specs.Journals.{receipts_of};
 ghost use Rattle.cmh_journal.specs.Sink.{known_and};
 ghost use Rattle.cmh_links.specs.Reading.{from_site};

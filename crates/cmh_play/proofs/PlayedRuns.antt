@@ -5,7 +5,7 @@ use Rattle.std.proofs.lemmas.Bool.{cases_eq, eq-eqb, ne_eqb, eqb-true}
 use Rattle.cmh_frames.specs.declared.frame.Frame.{Frame}
 use Rattle.cmh_frames.specs.declared.event.Event.{Event}
 use Rattle.cmh_frames.specs.declared.event.Event.TheVariants.{Ask, Reply, Start, Got}
-use Rattle.cmh_frames.specs.declared.journal.WorldEvent.{WorldEvent}
+use Rattle.cmh_frames.specs.Entries.{WorldEvent}
 use Rattle.cmh_frames.specs.Journals.{value, frames_to, frame_from}
 use Rattle.cmh_frames.specs.Rules.{Accepts, Sends}
 use Rattle.cmh_frames.specs.Runs.{IsRun, IsBeginningOf, entries_of, under_way}

@@ -7,7 +7,7 @@ use Rattle.std.proofs.lemmas.Option.{get_or_from_slice_get, slice_get_within}
 use Rattle.cmh_frames.specs.declared.edition.Edition.{Edition}
 use Rattle.cmh_frames.specs.Edition.{target_limit}
 use Rattle.cmh_frames.specs.Topology.{Topology, sites_of}
-use Rattle.cmh_frames.specs.declared.journal.Entry.{Entry}
+use Rattle.cmh_frames.specs.Entries.{Entry}
 use Rattle.cmh_frames.specs.Rules.{Accepts, Sends, after}
 use Rattle.cmh_frames.proofs.Narrow.{narrow_first}
 use Rattle.cmh_controller.specs.Controller.{Controller, new_controller}

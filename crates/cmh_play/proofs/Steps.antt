@@ -6,7 +6,7 @@ use Rattle.std.proofs.lemmas.List.Elements.{All-set}
 use Rattle.std.proofs.lemmas.Option.{slice_get-get_or}
 use Rattle.cmh_frames.specs.Topology.{Topology, sites_of}
 use Rattle.cmh_frames.specs.declared.event.Event.{Event}
-use Rattle.cmh_frames.specs.declared.journal.Entry.{Entry}
+use Rattle.cmh_frames.specs.Entries.{Entry}
 use Rattle.cmh_frames.specs.declared.frame.Frame.{Frame}
 use Rattle.cmh_frames.specs.Journals.{frames_to, value}
 use Rattle.cmh_frames.specs.Rules.{Accepts, Sends}

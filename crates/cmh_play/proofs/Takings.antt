@@ -1,7 +1,7 @@
 -- What a step of a site is to its journal.
 use Rattle.std.proofs.Common.{◌≡◌, ℕ, List, [], ◌∷◌, ◌++◌, sym, ap, subst, ◌∙◌}
 use Rattle.cmh_frames.specs.Topology.{Topology}
-use Rattle.cmh_frames.specs.declared.journal.Entry.{Entry}
+use Rattle.cmh_frames.specs.Entries.{Entry}
 use Rattle.cmh_frames.specs.Journals.{IsLawful, value}
 use Rattle.cmh_frames.specs.Rules.{Accepts, Sends, after}
 use Rattle.cmh_frames.specs.State.{State, empty_state}

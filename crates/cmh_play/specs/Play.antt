@@ -11,7 +11,7 @@ use Rattle.cmh_console.specs.Dialogue.{Conversed}
 use Rattle.cmh_console.specs.declared.dialogue.Flow.{Flow}
 use Rattle.cmh_console.specs.declared.dialogue.Flow.TheVariants.{Awaits}
 use Rattle.cmh_play.specs.World.{World, entries_at, CarriesOut}
-use Rattle.cmh_frames.specs.declared.journal.WorldEvent.{WorldEvent}
+use Rattle.cmh_frames.specs.Entries.{WorldEvent}
 use Rattle.cmh_play.specs.Runs.{IsRunOf}
 use Rattle.cmh_play.specs.declared.site.Refused.TheVariants.{Rule}
 use Rattle.cmh_console.specs.Script.{Says}

@@ -1,6 +1,6 @@
 -- A world that is played is at the end of a run.
 use Rattle.std.specs.Prelude.{◌≡◌, ℕ, List, MatchOption, ⊤}
-use Rattle.cmh_frames.specs.declared.journal.WorldEvent.{WorldEvent}
+use Rattle.cmh_frames.specs.Entries.{WorldEvent}
 use Rattle.cmh_frames.specs.Runs.{IsRun, ComesFrom, under_way}
 use Rattle.cmh_play.specs.World.{World, entries_at}
 

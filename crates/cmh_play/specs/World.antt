@@ -4,7 +4,7 @@ use Rattle.cmh_frames.specs.declared.frame.Frame.{Frame}
 use Rattle.cmh_frames.specs.Topology.{Topology, home, is_site}
 use Rattle.cmh_frames.specs.declared.event.Event.{Event}
 use Rattle.cmh_frames.specs.declared.event.Event.TheVariants.{Got}
-use Rattle.cmh_frames.specs.declared.journal.Entry.{Entry}
+use Rattle.cmh_frames.specs.Entries.{Entry}
 use Rattle.cmh_frames.specs.Journals.{frames_to, value}
 use Rattle.cmh_frames.specs.Rules.{Accepts, Sends}
 use Rattle.cmh_controller.specs.Refusals.{Refuses}

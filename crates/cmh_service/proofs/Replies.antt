@@ -2,7 +2,7 @@
 use Rattle.std.proofs.Common.{◌≡◌, ℕ, zero, suc, ◌+◌, ◌<◌, List, [], ◌∷◌, ◌++◌, length, map, take, slice_index_or, Result, inl, refl, ap, subst, arith}
 use native.Mathlib.Numerals.{unary_clauses}
 use Rattle.cmh_frames.specs.declared.event.Event.{Event}
-use Rattle.cmh_frames.specs.declared.journal.Outcome.{Outcome}
+use Rattle.cmh_frames.specs.Entries.{Outcome}
 use Rattle.cmh_host.specs.Together.{AreTaken, reply_of}
 use Rattle.cmh_host.specs.declared.site_reply.SiteReply.{SiteReply}
 use Rattle.cmh_station.specs.declared.refusal.StationRefusal.{StationRefusal}

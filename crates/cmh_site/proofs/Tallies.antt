@@ -5,7 +5,7 @@ use Rattle.std.specs.Prelude.{if◌then◌else◌}
 use Rattle.cmh_frames.specs.declared.frame.Frame.{Frame}
 use Rattle.cmh_frames.specs.Journals.{frame_from, frames_to, receipts_of, sendings_of}
 use Rattle.cmh_frames.specs.Runs.{IsBeginningOf}
-use Rattle.cmh_frames.specs.declared.journal.Entry.{Entry}
+use Rattle.cmh_frames.specs.Entries.{Entry}
 
 -- one entry more
 pub receipt_more : (from : ℕ) (xs : List Entry) (x : Entry) (count new more : ℕ) → count ≡ min (length (receipts_of from xs)) (2 ^ 64 - 1)

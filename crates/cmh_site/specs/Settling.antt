@@ -2,7 +2,7 @@
 use Rattle.std.specs.Prelude.{◌≡◌, ℕ, ◌-◌, ◌^◌, ◌<◌, List, Option, All, length, map, min, option_and_then, slice_get, slice_index_or, sum_by}
 use Rattle.cmh_frames.specs.Journals.{receipts_of, sendings_of}
 use Rattle.cmh_frames.specs.Runs.{IsBeginningOf}
-use Rattle.cmh_frames.specs.declared.journal.Entry.{Entry}
+use Rattle.cmh_frames.specs.Entries.{Entry}
 use Rattle.cmh_site.specs.declared.settling.Receipts.{Receipts}
 use Rattle.cmh_site.specs.declared.settling.Sendings.{Sendings}
 use Rattle.cmh_site.specs.declared.settling.Tally.{Tally}

@@ -1,6 +1,6 @@
 -- What a contract sees of a station: a controller with its journal, a board of what the journal declares, and the sink.
 use Rattle.std.specs.Prelude.{ℕ, ◌≡◌, ◌≤◌, false, List, length, take}
-use Rattle.cmh_frames.specs.declared.journal.Entry.{Entry}
+use Rattle.cmh_frames.specs.Entries.{Entry}
 use Rattle.cmh_frames.specs.Declarations.{declarations}
 use Rattle.cmh_frames.specs.Runs.{IsBeginningOf}
 use Rattle.cmh_shared.specs.Boards.{Listed}

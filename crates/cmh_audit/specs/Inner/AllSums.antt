@@ -1,7 +1,6 @@
 -- Sums over the events of a run.
 use Rattle.std.specs.Prelude.{ℕ, ◌+◌, List, [], ◌∷◌}
-use Rattle.cmh_frames.specs.declared.journal.Entry.{Entry}
-use Rattle.cmh_frames.specs.declared.journal.WorldEvent.{WorldEvent}
+use Rattle.cmh_frames.specs.Entries.{Entry, WorldEvent}
 
 abbrev pub in_run : (Entry → ℕ) → List WorldEvent → ℕ
 in_run f [] = 0

@@ -2,7 +2,7 @@
 use Rattle.std.specs.Prelude.{◌≡◌, ℕ, ◌==◌, List, [], ◌∷◌, ◌++◌, map, slice_index_or, Some}
 use Rattle.cmh_frames.specs.Laws.{count_of}
 use Rattle.cmh_frames.specs.Topology.{Topology}
-use Rattle.cmh_frames.specs.declared.journal.WorldEvent.{WorldEvent}
+use Rattle.cmh_frames.specs.Entries.{WorldEvent}
 use Rattle.cmh_frames.specs.Runs.{ComesFrom, IsBeginningOf, IsRun}
 use Rattle.cmh_journal.specs.Journal.{Journal}
 use Rattle.cmh_audit.specs.Runs.{event_at}

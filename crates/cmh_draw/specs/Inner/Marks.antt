@@ -2,7 +2,7 @@
 use Rattle.std.specs.Prelude.{ℕ, ◌==◌, List, [], ◌∷◌}
 use Rattle.std.specs.List.{list_any}
 use Rattle.cmh_frames.specs.Topology.{Topology, sites_of}
-use Rattle.cmh_frames.specs.declared.journal.Entry.{Entry}
+use Rattle.cmh_frames.specs.Entries.{Entry}
 use Rattle.cmh_audit.specs.Reports.{Report}
 use Rattle.cmh_draw.specs.Arrows.{spot_of}
 use Rattle.cmh_draw.specs.Each.{each_from, number_from}

@@ -1,6 +1,6 @@
 -- Walks through the entries of journals, which count their frames.
 use Rattle.std.specs.Prelude.{◌≡◌, ℕ, ◌+◌, ◌<◌, ◌≤◌, List, [], ◌∷◌, length, take, drop, slice_index_or}
-use Rattle.cmh_frames.specs.declared.journal.Entry.{Entry}
+use Rattle.cmh_frames.specs.Entries.{Entry}
 use Rattle.cmh_frames.specs.Journals.{frame_from, frames_to, receipts_of, sendings_of}
 use Rattle.cmh_journal.specs.Journal.{Journal, entry_limit}
 use Rattle.cmh_files.specs.Inner.Counts.{count_at}

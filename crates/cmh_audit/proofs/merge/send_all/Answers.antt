@@ -1,7 +1,7 @@
 use Rattle.std.proofs.Common.{ℕ, List, None, length, subst, sym, ap, ◌∙◌, ◌<◌, set, arith}
 use Rattle.std.proofs.lemmas.List.{get_or_default}
 use Rattle.cmh_frames.specs.declared.frame.Frame.{Frame}
-use Rattle.cmh_frames.specs.declared.journal.Outcome.{Outcome}
+use Rattle.cmh_frames.specs.Entries.{Outcome}
 use Rattle.cmh_journal.specs.Journal.{Journal}
 use Rattle.cmh_cycles.proofs.GraphLemmas.{eq_last}
 use Rattle.cmh_audit.proofs.SendLemmas.{Sending, journal_at, other_number, sending_start, sending_past, sending_none, sending_one}

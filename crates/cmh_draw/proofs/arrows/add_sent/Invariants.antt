@@ -2,7 +2,7 @@ use Rattle.std.proofs.Common.{◌≡◌, ◌+◌, ◌++◌, drop}
 use Rattle.cmh_draw.specs.Arrows as spec
 use Rattle.cmh_draw.specs.Each.{each_from}
 use Rattle.cmh_draw.specs.Inner.Ways as inner
-use Rattle.cmh_frames.specs.declared.journal.Entry.{Entry}
+use Rattle.cmh_frames.specs.Entries.{Entry}
 use Rattle.cmh_draw.proofs.arrows.add_sent.Given as goal
 
 abbrev pub invariant-loop-i : goal.invariant-loop-i

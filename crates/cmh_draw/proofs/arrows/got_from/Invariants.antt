@@ -3,7 +3,7 @@ use Rattle.std.specs.Prelude.{map}
 use Rattle.cmh_draw.specs.Arrows as spec
 use Rattle.cmh_draw.specs.Each.{each_from}
 use Rattle.cmh_frames.specs.Journals.{frame_from}
-use Rattle.cmh_frames.specs.declared.journal.Entry.{Entry}
+use Rattle.cmh_frames.specs.Entries.{Entry}
 use Rattle.cmh_draw.proofs.arrows.got_from.Given as goal
 
 abbrev pub invariant-loop-i : goal.invariant-loop-i

@@ -1,6 +1,6 @@
 use Rattle.std.proofs.Common.{ℕ, ◌+◌, List, length, map, take, sym, subst, ap, ◌∙◌}
 use Rattle.cmh_frames.specs.Topology.{sites_of}
-use Rattle.cmh_frames.specs.declared.journal.Entry.{Entry}
+use Rattle.cmh_frames.specs.Entries.{Entry}
 use Rattle.cmh_audit.specs.Journals.{journal_of}
 use Rattle.cmh_draw.specs.Inner.Columns.{AreColumns}
 use Rattle.cmh_draw.proofs.ColumnLemmas.{columns_more}

@@ -1,7 +1,7 @@
 use Rattle.std.proofs.Common.{◌≡◌, ◌+◌, [], ◌∷◌, ◌++◌, drop}
 use Rattle.cmh_draw.specs.Each.{each_from}
 use Rattle.cmh_draw.specs.Inner.Marks as inner
-use Rattle.cmh_frames.specs.declared.journal.Entry.{Entry}
+use Rattle.cmh_frames.specs.Entries.{Entry}
 use Rattle.cmh_draw.proofs.running.add_entries.Given as goal
 
 abbrev pub invariant-loop-i : goal.invariant-loop-i

@@ -1,6 +1,6 @@
 use Rattle.std.proofs.Common.{◌≡◌, ◌≢◌, List, length, Option, Some, sym, ap, subst, ◌∙◌}
 use Rattle.std.specs.Prelude.{slice_get, MatchOption}
-use Rattle.cmh_frames.specs.declared.journal.Entry.{Entry}
+use Rattle.cmh_frames.specs.Entries.{Entry}
 use Rattle.cmh_frames.specs.Journals.{value, receipts_of, sendings_of}
 use Rattle.cmh_files.specs.Reasons.{IsOwnFault, IsReason, Makes, held_before, next_of}
 use Rattle.cmh_files.specs.declared.reason.Reason.{Reason}

@@ -1,5 +1,5 @@
 use Rattle.std.proofs.Common.{subst}
-use Rattle.cmh_frames.specs.declared.journal.Entry.{Entry}
+use Rattle.cmh_frames.specs.Entries.{Entry}
 use Rattle.cmh_journal.specs.WholeEntries.{EachStepWhole, WaitsStayFew}
 use Rattle.cmh_play.proofs.Readiness.{kept_after, pushable, ready_after}
 use Rattle.cmh_play.proofs.site.take.Goals as goal

@@ -1,6 +1,6 @@
 use Rattle.std.proofs.Common.{◌≡◌, ◌+◌, List, length, drop, ap, arith, length-append}
 use Rattle.std.proofs.lemmas.List.{drop_all}
-use Rattle.cmh_frames.specs.declared.journal.Entry.{Entry}
+use Rattle.cmh_frames.specs.Entries.{Entry}
 use Rattle.cmh_shared.proofs.Queuing.{sent_from, sent_of}
 use Rattle.cmh_shared.proofs.links.count_frames.Goals as goal
 

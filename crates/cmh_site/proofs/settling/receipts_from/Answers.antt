@@ -1,7 +1,7 @@
 use Rattle.std.proofs.Common.{◌≡◌, ◌-◌, ◌^◌, ◌++◌, ◌∷◌, [], List, length, min, take, ap, sym, subst, ◌∙◌, arith}
 use Rattle.std.proofs.lemmas.List.{take_more}
 use Rattle.cmh_frames.specs.Journals.{receipts_of}
-use Rattle.cmh_frames.specs.declared.journal.Entry.{Entry}
+use Rattle.cmh_frames.specs.Entries.{Entry}
 use Rattle.cmh_site.proofs.Tallies.{receipt_more}
 use Rattle.cmh_site.proofs.settling.receipts_from.Goals as goal
 use Rattle.cmh_site.proofs.settling.receipts_from.Goals.{then-is_from, else-is_from}

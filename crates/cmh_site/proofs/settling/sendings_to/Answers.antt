@@ -1,7 +1,7 @@
 use Rattle.std.proofs.Common.{◌≡◌, ◌-◌, ◌^◌, ◌++◌, ◌∷◌, [], List, length, min, take, ap, sym, subst, ◌∙◌}
 use Rattle.std.proofs.lemmas.List.{take_more}
 use Rattle.cmh_frames.specs.Journals.{frames_to, sendings_of}
-use Rattle.cmh_frames.specs.declared.journal.Entry.{Entry}
+use Rattle.cmh_frames.specs.Entries.{Entry}
 use Rattle.cmh_site.proofs.Tallies.{sending_more}
 use Rattle.cmh_site.proofs.settling.sendings_to.Goals as goal
 

@@ -1,5 +1,5 @@
 use Rattle.std.proofs.Common.{◌+◌, length, ap, subst, ◌∙◌}
-use Rattle.cmh_frames.specs.declared.journal.Entry.{Entry}
+use Rattle.cmh_frames.specs.Entries.{Entry}
 use Rattle.cmh_audit.specs.Totals.{Totals, AddsEntry, kept}
 use Rattle.cmh_audit.proofs.totals.Totals.add.Goals as goal
 

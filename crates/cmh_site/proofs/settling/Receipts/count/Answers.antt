@@ -1,6 +1,6 @@
 use Rattle.std.proofs.Common.{◌≡◌, ◌-◌, ◌^◌, List, length, min, refl, subst, ◌∙◌}
 use Rattle.cmh_frames.specs.Journals.{receipts_of}
-use Rattle.cmh_frames.specs.declared.journal.Entry.{Entry}
+use Rattle.cmh_frames.specs.Entries.{Entry}
 use Rattle.cmh_site.proofs.Tallies.{receipts_more}
 use Rattle.cmh_site.proofs.settling.Receipts.count.Goals as goal
 
