@@ -8,6 +8,7 @@ pub mod Headlines
 pub mod ShowLemmas
 pub mod RunLemmas
 mod ReadLemmas
+mod TwoReads
 mod CommonStops
 mod WalkLemmas
 mod LengthLemmas

@@ -14,3 +14,4 @@ pub mod RunAudits
 pub mod Inner
 pub mod Stops
 pub mod Readings
+pub mod TwoReads

@@ -31,6 +31,7 @@ mod showing;
 mod shown;
 mod stop;
 mod telling;
+mod two_reads;
 mod walk;
 
 pub use crate::audit_fault::AuditFault;
@@ -48,3 +49,4 @@ pub use crate::showing::run_show;
 pub use crate::shown::{Rest, Shown, read_shown};
 pub use crate::stop::reason_of;
 pub use crate::telling::run_audit_run;
+pub use crate::two_reads::two_reads_law;
