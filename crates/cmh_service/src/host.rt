@@ -136,9 +136,14 @@ impl<R: Wait + Drop> Host<R> {
         }
     }
 
+    /// The figures of one moment but for the clients and the links.
     fn status(&mut self, clients: usize) -> Result<Status, AllocError> {
-        let declared = self.declarations().ok_or(AllocError)?.len();
-        let station = self.handle.station.lock(&self.rt);
+        let handle = &mut self.handle;
+        let mut station = handle.station.lock(&self.rt);
+        if station.tell(&self.rt).is_err() {
+            return Err(AllocError);
+        }
+        let declared = handle.reader.read().ok_or(AllocError)?.len();
         let entries = station.journal().len();
         let is_sealed = station.is_sealed();
         drop(station);
