@@ -28,6 +28,116 @@ def made(folder, source, *options):
     return path
 
 
+# ---- clients that hold up others
+
+def send_endlessly(port, seconds):
+    """Sends a line without an end, and prints how many bytes of it were taken."""
+    line, sent, end = b'x' * (1 << 20), 0, time.monotonic() + seconds
+    with socket.create_connection(('127.0.0.1', port), timeout=seconds) as peer:
+        try:
+            while time.monotonic() < end:
+                sent += peer.send(line)
+        except OSError:
+            pass
+    print(sent)
+
+
+def beside_endless_lines(program):
+    """The slowest turn of a client in seconds, and how many bytes were taken of each line without an end beside it."""
+    with World(program, PAIR) as world:
+        served = serve(world, 1, more=ALONE)
+        good = served.client()
+        good.call('start', 1)
+        words = [sys.executable, '-B', os.path.abspath(__file__), str(served.door.number), '2']
+        senders = [subprocess.Popen(words, stdout=subprocess.PIPE) for _ in range(ENDLESS)]
+        slowest = 0
+        while any(sender.poll() is None for sender in senders):
+            begin = time.monotonic()
+            good.call('start', 1)
+            slowest = max(slowest, time.monotonic() - begin)
+        return slowest, [int(sender.communicate()[0]) for sender in senders]
+
+
+def heard_of(peer, count):
+    """So many lines, or fewer where the connection ends or is reset."""
+    try:
+        return read_lines(peer, count)
+    except ConnectionResetError:
+        return []
+
+
+def endless_lines(program):
+    allow(4 * TRIES)
+    found = [beside_endless_lines(program) for _ in range(TRIES)]
+    slowest = min(slowest for slowest, _ in found)
+    taken = max(max(taken) for _, taken in found)
+    yield 'a client beside them waits %.0f ms at most' % (slowest * 1000), slowest < 0.05
+    yield 'of each %d bytes were taken at most' % taken, taken < BUFFERED
+    with World(program, PAIR) as world:
+        served = serve(world, 1, more=ALONE)
+        for length, heard in ((65536, ['bad line', 'waits 1']), (65537, [])):
+            peer = served.dial()
+            peer.sendall(b'x' * length + b'\nwaits 1\n')
+            yield 'a line of %d bytes' % length, heard_of(peer, 2) == heard
+        peer = served.dial()
+        peer.sendall(b'waits 1\n' + b'x' * 65537)
+        yield 'the answer of before it', heard_of(peer, 1) == ['waits 1'] and heard_of(peer, 1) == []
+
+
+def leaves(served, good, questions):
+    """A client that said `quit` after so many questions and reads no answer, or None where it is gone already."""
+    peer = socket.socket()
+    peer.setsockopt(socket.SOL_SOCKET, socket.SO_RCVBUF, 2048)
+    peer.settimeout(patience())
+    peer.connect(('127.0.0.1', served.door.number))
+    peer.sendall(b'links\n' * questions + b'quit\n')
+    time.sleep(0.5)
+    return peer if status_of(good)['clients'] == '2' else None
+
+
+def after_quit(program):
+    """A client that has said `quit` and reads no answer is heard no more."""
+    with World(program, PAIR) as world:
+        served = serve(world, 1, more=ALONE)
+        good = served.client()
+        stays = (leaves(served, good, questions) for questions in range(40000, 400000, 20000))
+        peer = next(filter(None, stays), None)
+        yield 'it stays while answers wait', peer is not None
+        taken, line, end = 0, b'start 1\n' * 10000, time.monotonic() + 2
+        peer.settimeout(0.5)
+        try:
+            while time.monotonic() < end:
+                taken += peer.send(line)
+        except OSError:
+            pass
+        yield 'then %d bytes of it were taken' % taken, taken < BUFFERED
+        yield 'no event of it', status_of(good)['entries'] == '0'
+        peer.close()
+        wait_until(lambda: status_of(good)['clients'] == '1', 'its end')
+
+
+HTTP = ['GET / HTTP/1.1', 'POST / HTTP/1.1', 'PUT / HTTP/1.1', 'HEAD / HTTP/1.1', 'OPTIONS * HTTP/1.1', 'DELETE / HTTP/1.1',
+        'PATCH / HTTP/1.1', 'CONNECT a:1 HTTP/1.1', 'TRACE / HTTP/1.1', 'Host: 127.0.0.1', 'POST /' + 'x' * 2000]
+
+
+def web_pages(program):
+    """A page can have a browser send lines of its own to any port, after those of HTTP."""
+    with World(program, {1: [1, 2, 3, 4], 2: [5]}) as world:
+        served = serve(world, 1, more=ALONE)
+        for line in HTTP:
+            peer = served.dial()
+            peer.sendall(line.encode() + b'\r\nContent-Type: text/plain\r\n\r\nask 1 2\nask 3 4\n')
+            yield line[:10] + ' ends the connection', heard_of(peer, 1) == []
+        peer = served.dial()
+        peer.sendall(b'waits 1\n')
+        heard = read_lines(peer, 1)
+        peer.sendall(b'POST / HTTP/1.1\r\n')
+        yield 'after another line, too', heard == ['waits 1'] and heard_of(peer, 1) == []
+        good = served.client()
+        yield 'none of their lines is an event', status_of(good)['entries'] == '0'
+        yield 'other bad lines end nothing', [good.call(line) for line in ('GETS 1', 'get 1', 'POST', 'host: a')] == ['bad line'] * 4
+
+
 # ---- one moment
 
 class Asker(threading.Thread):
@@ -82,7 +192,7 @@ def answers_of(client, lines):
     return [client.receive() for _ in lines]
 
 
-CROWDS = [one_moment]
+CROWDS = [endless_lines, after_quit, web_pages, one_moment]
 
 if __name__ == '__main__':
     send_endlessly(int(sys.argv[1]), float(sys.argv[2]))

@@ -163,7 +163,7 @@ def hostile_clients(program):
             turns.append(time.monotonic() - begin)
         go_on()
         long = served.dial()
-        long.sendall(b'ask 1 ' + b'2' * 300000)
+        long.sendall(b'ask 1 ' + b'2' * 60000)
         go_on()
         long.sendall(b'\nwaits 1\n')
         yield 'a line too long is a bad one', read_lines(long, 2) == ['bad line', 'waits 1']

@@ -13,8 +13,23 @@ use std::io::Write;
 /// A client to which more bytes are to be sent than these is closed: it doesn't read.
 pub const MOST_QUEUED: usize = 1 << 20;
 
-/// No more is read from a client of which so many bytes wait.
+/// No more is read from a client of which so many bytes wait, and none ever from one that sends more of them without a line
+/// feed.
 const MOST_HEARD: usize = 1 << 16;
+
+/// How a line of HTTP begins. A web page can have a browser send such lines to any port, and lines of its own after them.
+const HTTP: [&[u8]; 10] = [
+    b"GET ",
+    b"POST ",
+    b"PUT ",
+    b"HEAD ",
+    b"OPTIONS ",
+    b"DELETE ",
+    b"PATCH ",
+    b"CONNECT ",
+    b"TRACE ",
+    b"Host:",
+];
 
 /// A client: the bytes that it sent and that were not taken as lines yet, and those that it is to be sent.
 #[derive(Drop)]
@@ -23,10 +38,12 @@ pub struct Client {
     heard: Vec<u8>,
     /// How many of the heard bytes were taken.
     taken: usize,
+    /// How many bytes it sent after its last line feed, or after it has said its last.
+    unended: usize,
     queue: Vec<u8>,
     /// How many declarations it was told, where it watches.
     told: Option<usize>,
-    /// It said `quit`.
+    /// It has said its last: what it sends now is no line.
     is_leaving: bool,
     ghost heard_more: { taken ≤ vec_len heard },
 }
@@ -40,6 +57,7 @@ impl Client {
             alloc,
             heard: Vec::new(alloc),
             taken: 0,
+            unended: 0,
             queue: Vec::new(alloc),
             told: None,
             is_leaving: false,
@@ -60,7 +78,8 @@ impl Client {
 
     /// Takes bytes that it sent. A line that is too long already is cut, so that it needs no memory and stays too long.
     pub fn hear(&mut self, bytes: &[u8]) -> Result<(), AllocError> {
-        if self.is_leaving {
+        self.count(bytes);
+        if self.is_leaving || self.is_endless() {
             return Ok(());
         }
         self.heard.drain(..self.taken);
@@ -76,6 +95,24 @@ impl Client {
         Ok(())
     }
 
+    /// Whether it sent so much that is no line that nothing more is to be read of it.
+    pub fn is_endless(&self) -> bool {
+        self.unended > MOST_HEARD
+    }
+
+    /// Counts bytes that it sent.
+    fn count(&mut self, bytes: &[u8]) {
+        let first = memchr(b'\n', bytes).unwrap_or(bytes.len());
+        let more = if self.is_leaving { bytes.len() } else { first };
+        self.unended = self.unended.saturating_add(more);
+        if self.is_leaving || self.is_endless() {
+            return;
+        }
+        if let Some(last) = memrchr(b'\n', bytes) {
+            self.unended = bytes.len() - last - 1;
+        }
+    }
+
     /// Whether it said a line that was not taken yet. What stands after the last line feed is none: it may be a part of
     /// one.
     pub fn has_line(&self) -> bool {
@@ -83,7 +120,7 @@ impl Client {
     }
 
     /// What it said by its next line, and how many bytes that has with its line feed. `None` where no line is there, or it
-    /// said `quit` before.
+    /// has said its last.
     pub fn next_line(&self, buffer: &mut Vec<u8>) -> Result<Option<(Said, usize)>, AllocError>
         ensures { IfOk result (λ next. IfSome next (λ line. IsNext (unread self.now) line.0 line.1)) }
     {
@@ -165,6 +202,11 @@ impl Client {
         }
         self.told = Some(declared.len().max(told));
         Ok(())
+    }
+
+    /// Whether its next line begins as one of HTTP does.
+    pub fn speaks_http(&self) -> bool {
+        HTTP.iter().any(|begin| self.heard().starts_with(begin))
     }
 
     /// Takes no more lines of it.

@@ -5,6 +5,9 @@ use mio::event::Event;
 use mio::net::TcpStream;
 use std::io::{ErrorKind, Read, Write};
 
+/// How often a client is read in a turn, at most: the others of its thread wait meanwhile.
+const MOST_READS: usize = 4;
+
 /// A client and the socket that carries its bytes.
 #[derive(Drop)]
 pub(crate) struct Connection {
@@ -17,7 +20,7 @@ pub(crate) struct Connection {
     can_write: bool,
     /// Whether the other end may have said its last, so that a read has to be tried until it says so.
     may_end: bool,
-    /// Nothing more comes.
+    /// Nothing more comes, or is to be read.
     has_ended: bool,
     /// A call failed, or there was no memory for what it says or is to be sent.
     is_broken: bool,
@@ -63,9 +66,9 @@ impl Connection {
         self.waiting
     }
 
-    /// Reads what is there, as far as there is room.
+    /// Reads what is there, as far as there is room, in a few reads at most.
     pub fn read(&mut self, scratch: &mut [u8]) {
-        for turn in 0..u64::MAX {
+        for turn in 0..MOST_READS {
             if !self.can_read || self.has_ended || self.is_broken || !self.client.has_room() {
                 return;
             }
@@ -74,9 +77,8 @@ impl Connection {
                 Ok(count) => {
                     // Where there was room for more nothing is left, and what comes later is told by an event.
                     self.can_read = count == scratch.len() || self.may_end;
-                    if self.client.hear(&scratch[..count]).is_err() {
-                        self.is_broken = true;
-                    }
+                    self.is_broken |= self.client.hear(&scratch[..count]).is_err();
+                    self.has_ended |= self.client.is_endless();
                 }
                 Err(error) => match error.kind() {
                     ErrorKind::WouldBlock => self.can_read = false,

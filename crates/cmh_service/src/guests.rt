@@ -236,7 +236,12 @@ fn answer<R: Wait + Drop>(
     rounds: &Rounds<R>,
     said: &Said,
 ) -> Result<(), AllocError> {
-    if let Said::Quit = said {
+    let ends = match said {
+        Said::Quit => true,
+        Said::Event(_) => client.speaks_http(),
+        _ => false,
+    };
+    if ends {
         client.leave();
         return Ok(());
     }
