@@ -2,8 +2,8 @@
 
    clients PORT CLIENTS SECONDS THREADS    prints how many answers came in a second
 
-   Client K asks with process K for process 100 + K, and then starts computations for it. An answer other than
-   `ok sent ..` ends the program. */
+   First process P asks for process 100 + P, for each client P, up to 64. Then client K starts computations for process K,
+   or 64 less, and so on. An answer other than `ok sent ..` ends the program. */
 #include <arpa/inet.h>
 #include <netinet/tcp.h>
 #include <pthread.h>
@@ -15,7 +15,7 @@
 #include <time.h>
 #include <unistd.h>
 
-enum { MOST_CLIENTS = 256, MOST_THREADS = 16 };
+enum { MOST_CLIENTS = 256, MOST_THREADS = 16, MOST_PROCESSES = 64 };
 
 static int port, clients, threads;
 static double seconds, began;
@@ -46,6 +46,25 @@ static void say(int client, const char *text) {
     if (write(client, text, (size_t)length) != length) stop("a line could not be sent");
 }
 
+/* Has each process wait that computations are started for. */
+static void ask_all(void) {
+    int client = dial();
+    char text[256];
+    for (int p = 1; p <= clients && p <= MOST_PROCESSES; p++) {
+        snprintf(text, sizeof text, "ask %d %d\n", p, 100 + p);
+        say(client, text);
+        ssize_t length = read(client, text, sizeof text - 1);
+        if (length <= 0 || strncmp(text, "ok sent", 7)) stop("an ask was refused");
+    }
+    close(client);
+}
+
+static void start_one(int client, int k) {
+    char text[32];
+    snprintf(text, sizeof text, "start %d\n", (k - 1) % MOST_PROCESSES + 1);
+    say(client, text);
+}
+
 /* The clients of a thread: each `threads`th one. */
 static void *run(void *number) {
     long first = (long)number;
@@ -56,8 +75,7 @@ static void *run(void *number) {
         struct epoll_event event = {.events = EPOLLIN, .data.u32 = (unsigned)k};
         sockets[k] = dial();
         epoll_ctl(poll, EPOLL_CTL_ADD, sockets[k], &event);
-        snprintf(text, sizeof text, "ask %d %d\n", k, 100 + k);
-        say(sockets[k], text);
+        start_one(sockets[k], k);
     }
     while (now() - began < seconds) {
         int count = epoll_wait(poll, ready, MOST_CLIENTS, 1000);
@@ -68,8 +86,7 @@ static void *run(void *number) {
             text[length] = 0;
             if (strncmp(text, "ok sent", 7)) stop(text);
             answers[first]++;
-            snprintf(text, sizeof text, "start %d\n", k);
-            say(sockets[k], text);
+            start_one(sockets[k], k);
         }
     }
     return NULL;
@@ -81,6 +98,7 @@ int main(int count, char **words) {
     long all = 0;
     port = atoi(words[1]), clients = atoi(words[2]), seconds = atof(words[3]), threads = atoi(words[4]);
     if (clients < 1 || clients > MOST_CLIENTS || threads < 1 || threads > MOST_THREADS) stop("too many");
+    ask_all();
     began = now();
     for (long k = 0; k < threads; k++) pthread_create(&made[k], NULL, run, (void *)k);
     for (int k = 0; k < threads; k++) pthread_join(made[k], NULL), all += answers[k];

@@ -28,6 +28,52 @@ def made(folder, source, *options):
     return path
 
 
+# ---- many clients
+
+def processor_seconds(served):
+    with open('/proc/%d/stat' % served.process.pid) as file:
+        words = file.read().rsplit(')', 1)[1].split()
+    return (int(words[11]) + int(words[12])) / os.sysconf('SC_CLK_TCK')
+
+
+def load(program, driver, clients, before=()):
+    """The answers a second of a service whose clients each await theirs, and how many processors it keeps busy."""
+    with World(program, {1: list(range(1, 65)), 2: list(range(101, 165))}, edition=2) as world:
+        served = serve(world, 1, more=ALONE, before=before)
+        used, begin = processor_seconds(served), time.monotonic()
+        words = [driver, str(served.door.number), str(clients), str(SECONDS), '2']
+        driven = subprocess.run(words, capture_output=True, text=True, timeout=patience())
+        if driven.returncode:
+            raise Missed('all answers: ' + driven.stderr)
+        return float(driven.stdout), (processor_seconds(served) - used) / (time.monotonic() - begin)
+
+
+def best_of_loads(program, driver, before=()):
+    """For few clients and for many: the most answers a second, and the fewest processors. Other programs run beside, so there
+    are more tries where the many get too few."""
+    found = {clients: [] for clients in (FEW, MANY)}
+    for count in range(2 * TRIES):
+        for clients, loads in found.items():
+            loads.append(load(program, driver, clients, before))
+        few, many = [(max(answers for answers, _ in loads), min(used for _, used in loads)) for loads in found.values()]
+        if count + 1 >= TRIES and many[0] >= 0.8 * few[0]:
+            break
+    return few, many
+
+
+def many_clients(program):
+    """They get as many answers as few do, and cost no more where the disk is slow."""
+    allow(16 * TRIES * SECONDS)
+    with tempfile.TemporaryDirectory() as folder:
+        driver = made(folder, '../bench/clients.c', '-pthread')
+        slow = made(folder, 'slow.c', '-shared', '-fPIC')
+        few, many = best_of_loads(program, driver)
+        yield '%d clients get %.0f answers a second, %d get %.0f' % (FEW, few[0], MANY, many[0]), many[0] >= 0.8 * few[0]
+        few, many = best_of_loads(program, driver, ('env', 'LD_PRELOAD=' + slow, 'SLOW=1000'))
+        yield 'on a slow disk %.0f and %.0f' % (few[0], many[0]), many[0] >= 0.8 * few[0]
+        yield 'with %.2f and %.2f processors' % (few[1], many[1]), many[1] < 0.5
+
+
 # ---- clients that hold up others
 
 def send_endlessly(port, seconds):
@@ -192,7 +238,7 @@ def answers_of(client, lines):
     return [client.receive() for _ in lines]
 
 
-CROWDS = [endless_lines, after_quit, web_pages, one_moment]
+CROWDS = [many_clients, endless_lines, after_quit, web_pages, one_moment]
 
 if __name__ == '__main__':
     send_endlessly(int(sys.argv[1]), float(sys.argv[2]))

@@ -15,6 +15,8 @@ pub(crate) struct Connection {
     pub client: Client,
     /// How many of its events wait for their answers.
     waiting: usize,
+    /// Its next line is an event, and no room was left for that.
+    pub is_held: bool,
     /// Whether a read may give bytes without waiting, as far as is known.
     can_read: bool,
     can_write: bool,
@@ -32,6 +34,7 @@ impl Connection {
             stream,
             client,
             waiting: 0,
+            is_held: false,
             can_read: true,
             can_write: true,
             may_end: false,
@@ -110,10 +113,11 @@ impl Connection {
         }
     }
 
-    /// Whether there is more to do for it at once. While events of it wait, it has nothing to say.
+    /// Whether there is more to do for it at once. While events of it wait, or it is held, it has nothing to say.
     pub fn is_busy(&self) -> bool {
         let reads = self.can_read && !self.has_ended && self.client.has_room();
-        !self.is_broken && (reads || (self.waiting == 0 && self.client.has_line()))
+        let says = self.waiting == 0 && !self.is_held && self.client.has_line();
+        !self.is_broken && (reads || says)
     }
 
     /// Whether it is to be closed.

@@ -14,6 +14,10 @@ use std::sync::Wait;
 /// How many clients a service has at once; each further one is closed at once.
 pub const MOST_CLIENTS: usize = 256;
 
+/// How many events of a thread's clients are under way, at most: those of the round and those that wait for the next one.
+/// There is room for the answers to so many.
+pub(crate) const MOST_WAITING: usize = 2 * BATCH_LIMIT;
+
 /// Room for the answer to one event.
 const MOST_ANSWER: usize = 64;
 
@@ -44,7 +48,7 @@ impl Guests {
             number,
             waiting: 0,
             first: 0,
-            replies: Vec::with_capacity(alloc, BATCH_LIMIT)?,
+            replies: Vec::with_capacity(alloc, MOST_WAITING)?,
             scratch: Vec::from_elem(alloc, 0, MOST_READ)?,
             line: Vec::new(alloc),
         })
@@ -108,9 +112,10 @@ impl Guests {
         })
     }
 
-    /// Says the answers that came to the clients that wait for them.
-    pub fn take_replies<R: Wait>(&mut self, rt: &R, mailbox: &Mailbox) {
+    /// Says the answers that came to the clients that wait for them. Answers whether some came.
+    pub fn take_replies<R: Wait>(&mut self, rt: &R, mailbox: &Mailbox) -> bool {
         mailbox.take_replies(rt, &mut self.replies);
+        let has_some = !self.replies.is_empty();
         for (place, reply) in self.replies.drain(..) {
             self.waiting = self.waiting.saturating_sub(1);
             if let Some(Some(connection)) = self.places.get_mut(place) {
@@ -118,6 +123,16 @@ impl Guests {
                 if connection.client.say(reply).is_err() {
                     connection.give_up();
                 }
+            }
+        }
+        has_some
+    }
+
+    /// There may be room for events again.
+    pub fn let_on(&mut self) {
+        for guest in self.places.iter_mut() {
+            if let Some(connection) = guest {
+                connection.is_held = false;
             }
         }
     }
@@ -141,17 +156,17 @@ impl Guests {
     }
 
     /// Takes lines of each client that waits for no answer, up to a question that comes after an event: the events wait
-    /// for a round, and the other lines are answered.
+    /// for a round, and the other lines are answered. The first one that finds no room is the first in the next turn.
     pub fn take_lines<R: Wait + Drop>(&mut self, rt: &R, rounds: &Rounds<R>) {
-        let most = rounds.share();
-        let share = (most / self.ready().max(1)).max(1);
+        let share = rounds.share();
         let count = self.places.len().max(1);
+        let mut next = None;
         for step in 0..count {
             let place = self.first.saturating_add(step) % count;
             let Some(Some(connection)) = self.places.get_mut(place) else {
                 continue;
             };
-            if connection.waiting() > 0 {
+            if connection.waiting() > 0 || connection.is_held {
                 continue;
             }
             let turn = Turn {
@@ -159,23 +174,26 @@ impl Guests {
                     .number
                     .saturating_mul(MOST_CLIENTS)
                     .saturating_add(place),
-                most: share.min(most.saturating_sub(self.waiting)),
+                most: share.min(MOST_WAITING.saturating_sub(self.waiting)),
             };
             if turn.take(rt, connection, rounds, &mut self.line).is_err() {
                 connection.give_up();
             }
+            if next.is_none() && connection.is_held {
+                next = Some(place);
+            }
             self.waiting = self.waiting.saturating_add(connection.waiting());
         }
-        self.first = self.first.saturating_add(1) % count;
+        self.first = next.unwrap_or(self.first.saturating_add(1) % count);
     }
 
-    /// How many clients have said a line, and wait for no answer.
-    fn ready(&self) -> usize {
-        let ready = self.places.iter().filter(|guest| match guest {
-            Some(connection) => connection.waiting() == 0 && connection.client.has_line(),
+    /// How many clients have said something that is not answered yet.
+    pub fn served(&self) -> usize {
+        let served = self.places.iter().filter(|guest| match guest {
+            Some(connection) => connection.waiting() > 0 || connection.client.has_line(),
             None => false,
         });
-        ready.count()
+        served.count()
     }
 }
 
@@ -204,14 +222,12 @@ impl Turn {
                 Said::Event(Line::Silent) => {}
                 Said::Event(Line::Command(Command::Act { process: _, event })) => {
                     let waiting = connection.waiting();
-                    if waiting >= self.most {
-                        return Ok(());
-                    }
                     let answers = waiting.saturating_add(1);
                     connection
                         .client
                         .reserve(answers.saturating_mul(MOST_ANSWER))?;
-                    if rounds.take(rt, self.place, event).is_err() {
+                    if waiting >= self.most || rounds.take(rt, self.place, event).is_err() {
+                        connection.is_held = waiting == 0;
                         return Ok(());
                     }
                     connection.wait();

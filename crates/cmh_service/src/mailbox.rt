@@ -3,9 +3,8 @@
 ghost use Rattle.std.specs.Prelude.{None};
 
 use crate::desk::Waiting;
-use crate::guests::MOST_CLIENTS;
+use crate::guests::{MOST_CLIENTS, MOST_WAITING};
 use cmh_host::SiteReply;
-use cmh_station::BATCH_LIMIT;
 use mio::Waker;
 use mio::net::TcpStream;
 use std::alloc::{AllocError, Global};
@@ -26,8 +25,12 @@ pub(crate) struct Mailbox {
     has_news: AtomicBool,
     /// Whether the thread is to be woken at the end of the round that is under way.
     awaits_round: AtomicBool,
+    /// Whether the thread is to be woken once the next round has room for events.
+    awaits_room: AtomicBool,
     /// How many clients the thread has, with the newcomers.
     clients: AtomicUsize,
+    /// How many of them had said something that was not answered yet, when the thread looked last.
+    served: AtomicUsize,
 }
 
 impl Mailbox {
@@ -35,15 +38,34 @@ impl Mailbox {
         Ok(Mailbox {
             waker,
             newcomers: Mutex::new(Vec::with_capacity(alloc, MOST_CLIENTS)?),
-            replies: Mutex::new(Vec::with_capacity(alloc, BATCH_LIMIT)?),
+            replies: Mutex::new(Vec::with_capacity(alloc, MOST_WAITING)?),
             has_news: AtomicBool::new(false),
             awaits_round: AtomicBool::new(false),
+            awaits_room: AtomicBool::new(false),
             clients: AtomicUsize::new(0),
+            served: AtomicUsize::new(0),
         })
     }
 
     pub fn clients(&self) -> usize {
         self.clients.load(Ordering::SeqCst)
+    }
+
+    pub fn served(&self) -> usize {
+        self.served.load(Ordering::SeqCst)
+    }
+
+    pub fn set_served(&self, count: usize) {
+        self.served.store(count, Ordering::SeqCst);
+    }
+
+    /// The thread is to be woken once the next round has room.
+    pub fn await_room(&self) {
+        self.awaits_room.store(true, Ordering::SeqCst);
+    }
+
+    pub fn awaits_room(&self) -> bool {
+        self.awaits_room.load(Ordering::SeqCst)
     }
 
     /// Gives the thread one more client.
@@ -106,6 +128,16 @@ impl<R: Wait + Drop> Post<R> {
     pub fn await_round(&self, awaits: bool) {
         if let Some(mailbox) = self.mailboxes.get(self.own) {
             mailbox.awaits_round.store(awaits, Ordering::SeqCst);
+        }
+    }
+
+    /// Wakes the other threads that await room in the next round.
+    pub fn wake_for_room(&self) {
+        for (number, mailbox) in self.mailboxes.iter().enumerate() {
+            let awaits = mailbox.awaits_room.swap(false, Ordering::SeqCst);
+            if awaits && number != self.own {
+                let _ = mailbox.waker.wake();
+            }
         }
     }
 

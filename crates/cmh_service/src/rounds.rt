@@ -1,6 +1,7 @@
 //! The rounds in which events go to the station: those of all clients that wait at that moment go together.
 
 use crate::desk::Desk;
+use crate::guests::MOST_CLIENTS;
 use crate::host::Host;
 use crate::mailbox::{Mailbox, Post};
 use crate::reply::Reply;
@@ -52,9 +53,18 @@ impl<R: Wait + Drop> Rounds<R> {
         self.has_ended.load(Ordering::SeqCst)
     }
 
-    /// Has an event of the client at a place wait for the next round. An error where as many wait as a round takes.
+    /// Has an event of the client at a place wait for the next round. An error where as many wait as a round takes: its
+    /// thread is woken once there is room again.
     pub fn take(&self, rt: &R, place: usize, event: Event) -> Result<(), AllocError> {
-        self.desk.lock(rt).take(place, event)
+        let mut desk = self.desk.lock(rt);
+        let taken = desk.take(place, event);
+        if taken.is_err() {
+            // Under the lock, since whoever makes room next looks for it after that.
+            if let Some(mailbox) = self.mailboxes.get(place / MOST_CLIENTS) {
+                mailbox.await_room();
+            }
+        }
+        taken
     }
 
     /// Whether events wait for a round, and none is under way.
@@ -67,24 +77,27 @@ impl<R: Wait + Drop> Rounds<R> {
     }
 
     /// Gives the events that wait to the station. Where a round is under way, the thread is woken at its end instead.
-    pub fn step(&self, rt: &R, spare: &mut Desk, post: &mut Post<R>) {
+    /// Answers whether it gave some.
+    pub fn step(&self, rt: &R, spare: &mut Desk, post: &mut Post<R>) -> bool {
         if !self.has_events(rt) {
-            return;
+            return false;
         }
         post.await_round(true);
         if self.is_stepping.swap(true, Ordering::SeqCst) {
-            return;
+            return false;
         }
         post.await_round(false);
         {
             let mut desk = self.desk.lock(rt);
             swap(&mut *desk, spare);
         }
+        post.wake_for_room();
         if !spare.events().is_empty() {
             self.step_all(rt, spare, post);
         }
         self.is_stepping.store(false, Ordering::SeqCst);
         post.wake_all();
+        true
     }
 
     fn step_all(&self, rt: &R, desk: &mut Desk, post: &mut Post<R>) {
@@ -118,12 +131,12 @@ impl<R: Wait + Drop> Rounds<R> {
         count
     }
 
-    /// How many events of a thread's clients may be under way, so that there is room for those of all threads.
+    /// How many events of a client a round takes, so that all that wait have about as many and fill it.
     pub fn share(&self) -> usize {
-        let active = self
-            .mailboxes
-            .iter()
-            .filter(|mailbox| mailbox.clients() > 0);
-        BATCH_LIMIT / active.count().max(1)
+        let mut served = 0usize;
+        for mailbox in self.mailboxes.iter() {
+            served = served.saturating_add(mailbox.served());
+        }
+        BATCH_LIMIT.div_ceil(served.max(1))
     }
 }

@@ -105,13 +105,21 @@ impl<R: Wait + Copy + Drop> Server<R> {
             };
             let_in(self.alloc, &self.poll, &mut self.guests, mailbox, stream);
         }
+        if !mailbox.awaits_room() {
+            self.guests.let_on();
+        }
+        mailbox.set_served(self.guests.served());
         self.guests.take_lines(&rt, rounds);
-        rounds.step(&rt, &mut self.spare, &mut self.post);
-        self.guests.take_replies(&rt, mailbox);
+        let has_stepped = rounds.step(&rt, &mut self.spare, &mut self.post);
+        let has_replies = self.guests.take_replies(&rt, mailbox);
+        if (has_stepped || has_replies) && !mailbox.awaits_room() {
+            self.guests.let_on();
+        }
         if self.has_news {
             self.has_news = !tell_declarations(&rt, rounds, &mut self.guests);
         }
         self.guests.write_all(mailbox);
+        mailbox.set_served(self.guests.served());
     }
 
     /// How long to wait for the next event.
