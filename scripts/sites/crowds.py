@@ -233,12 +233,28 @@ def one_moment(program):
         yield '%d of %d are of two moments: %s' % (len(wrong), len(answers), wrong[:3]), not wrong
 
 
+def three_declarations(program):
+    """Declarations that share a sync are told each once, in their order, to who watched before and who watches after."""
+    with World(program, {1: [1, 2, 3, 4, 5, 6], 2: [7]}) as world:
+        served = serve(world, 1, more=ALONE)
+        client, before, after = (served.client() for _ in range(3))
+        news = ['! declared 1', '! declared 3', '! declared 5']
+        yield 'one watches', before.call('watch') == 'ok'
+        answers_of(client, ['ask 1 2', 'ask 2 1', 'ask 3 4', 'ask 4 3', 'ask 5 6', 'ask 6 5'])
+        answers = answers_of(client, ['start 1', 'start 3', 'start 5'])
+        yield 'three are declared', answers == ['ok sent 0 declared %d' % process for process in (1, 3, 5)]
+        yield 'who watched before is told', [before.receive() for _ in news] == news
+        after.send('watch')
+        yield 'who watches after is told', [after.receive() for _ in range(4)] == ['ok', *news]
+        yield 'and nothing twice', all(each.call('waits', 1) == 'waits 1 2' for each in (before, after))
+
+
 def answers_of(client, lines):
     client.send(*lines)
     return [client.receive() for _ in lines]
 
 
-CROWDS = [many_clients, endless_lines, after_quit, web_pages, one_moment]
+CROWDS = [many_clients, endless_lines, after_quit, web_pages, one_moment, three_declarations]
 
 if __name__ == '__main__':
     send_endlessly(int(sys.argv[1]), float(sys.argv[2]))

@@ -1,3 +1,4 @@
 pub mod Clients
 pub mod Replies
 pub mod Said
+pub mod Telling

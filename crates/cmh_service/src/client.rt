@@ -1,6 +1,7 @@
 //! What a service knows of a client, whatever carries its bytes.
 
-ghost use Rattle.std.specs.Prelude.{◌≡◌, ◌≤◌, ◌++◌, drop, min, vec_len, IfOk, IfSome, OnOk};
+ghost use Rattle.std.specs.Prelude.{◌≡◌, ◌≤◌, ◌++◌, drop, flat_map, min, vec_len, IfOk, IfSome, OnOk, Some};
+ghost use Rattle.cmh_service.specs.Telling.{declaration_text, news_text, told_of};
 
 use crate::said::{Said, said_by};
 use cmh_console::{Input, MAX_LINE, read_line};
@@ -193,14 +194,20 @@ impl Client {
     }
 
     /// Tells it, if it watches, those of the declarations that it wasn't told.
-    pub fn tell(&mut self, declared: &[ProcId]) -> Result<(), AllocError> {
+    pub fn tell(&mut self, declared: &[ProcId]) -> Result<(), AllocError>
+        ensures news { OnOk result (self.new.queue.items ≡ self.old.queue.items ++ news_text self.old.told declared.now) }
+        ensures told { OnOk result (self.new.told ≡ told_of self.old.told declared.now) }
+        ensures heard { unread self.new ≡ unread self.old }
+    {
         let Some(told) = self.told else {
             return Ok(());
         };
-        for process in declared.get(told..).unwrap_or(&[]) {
-            self.say(Declaration(*process))?;
+        if told < declared.len() {
+            self.say(Declarations {
+                processes: &declared[told..],
+            })?;
+            self.told = Some(declared.len());
         }
-        self.told = Some(declared.len().max(told));
         Ok(())
     }
 
@@ -219,13 +226,19 @@ impl Client {
     }
 }
 
-/// A declaration, as it is told to whoever watches.
-#[derive(Clone, Copy, Debug)]
-struct Declaration(ProcId);
+/// Declarations, as they are told to whoever watches, each on a line.
+#[derive(Drop)]
+struct Declarations<'a> {
+    processes: &'a [ProcId],
+}
 
-impl fmt::Display for Declaration {
+impl<'a> fmt::Display for Declarations<'a> {
+    ghost output = { λ d. Some (flat_map declaration_text d.processes.now) };
+
     fn fmt<W: fmt::Write>(&self, f: &mut fmt::Formatter<W>) -> fmt::Result {
-        let process = self.0;
-        write!(f, "! declared {process}\n")
+        for process in self.processes {
+            write!(f, "! declared {process}\n")?;
+        }
+        Ok(())
     }
 }
