@@ -1,3 +1,4 @@
 mod Named
 mod Porting
+pub mod StartFaults
 pub mod Taking

@@ -7,9 +7,8 @@ use crate::starting::{Carriers, Opened, RunningSite, Speakers, open_station, sta
 use crate::system::System;
 use crate::{Disk, NewJournal, Ports, can_be_made, make_journal};
 use cmh_carriers::{Note, Noting, Origin, Speaker, TcpDial, TcpListen};
-use cmh_console::NoFile;
 use cmh_frames::{SiteId, Topology};
-use std::alloc::Global;
+use std::alloc::{AllocError, Global};
 use std::fs::File;
 use std::net::{Net, TcpListener, TcpStream};
 use std::rt::Files;
@@ -53,7 +52,7 @@ where
 {
     let carriers = make_carriers(rt, alloc, setup, noting)?;
     let opened = open_own(rt, alloc, setup, carriers.speakers.handle.as_ref())?;
-    Ok(start_threads(rt, alloc, setup.topology, opened, carriers)?)
+    start_own(rt, alloc, setup.topology, opened, carriers)
 }
 
 /// Takes the site's port.
@@ -93,15 +92,38 @@ fn open_own<R>(
     alloc: Global,
     setup: &SiteSetup<'_>,
     speaker: Option<&Speaker>,
-) -> Result<Opened<R>, NoFile>
+) -> Result<Opened<R>, SiteFault>
 where
     R: System + Files<File = File> + Send + 'static,
-    ensures { IfOk result (λ opened. opened.site ≡ setup.now.site) }
+    ensures site { IfOk result (λ opened. opened.site ≡ setup.now.site) }
+    ensures fault { IfErr result (λ fault. (fault ≡ SiteFault.JournalDisk) ⊎ (fault ≡ SiteFault.Memory)) }
 {
-    let NewJournal { sink, kept } = make_journal(&rt, alloc, setup.journal)?;
+    let journal = make_journal(&rt, alloc, setup.journal)?;
+    let NewJournal { sink, kept } = journal;
     let opened = open_station(rt, alloc, setup.topology, setup.site, sink)?;
     note_kept(&rt, speaker, kept);
     Ok(opened)
+}
+
+/// Starts the site's threads. It stands apart from [`start_site`], so that its fault is converted where nothing else is held.
+fn start_own<R>(
+    rt: R,
+    alloc: Global,
+    topology: &Topology,
+    opened: Opened<R>,
+    carriers: Carriers<R>,
+) -> Result<RunningSite<R>, SiteFault>
+where
+    R: System + Send + 'static,
+    requires listens { carriers.listen.faults ≡ 0 }
+    requires dials { carriers.dial.faults ≡ 0 }
+    ensures site { IfOk result (λ running. running.handle.site ≡ opened.site) }
+    ensures fault { IfErr result (λ fault. fault ≡ SiteFault.Memory) }
+{
+    match start_threads(rt, alloc, topology, opened, carriers) {
+        Ok(running) => Ok(running),
+        Err(AllocError) => Err(SiteFault::Memory),
+    }
 }
 
 /// Notes the number under which a journal of before was kept.
