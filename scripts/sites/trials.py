@@ -17,6 +17,7 @@ from crowds import CROWDS
 from operations import OPERATIONS, LeftOut
 from services import LONG, SERVICES
 from soak import soak
+from strangers import UNINVITED
 from world import Collided, Missed, World, allow, is_free, of_size, patience, read_answer, wait_until
 
 PAIR = {1: [1], 2: [2]}
@@ -557,7 +558,7 @@ def few_files(program):
 
 TRIALS = [two_sites, three_sites, storm, late_peer, lines_ahead, killed_peer, full_disk, kept_journals, started_twice, silent_peers, slow_hello, noise, cut_frame,
           second_connection, own_hello, resets, many_connections, held_by_silent_peers, closed_output, clusters,
-          full_disk_of_a_cluster, two_clusters, few_files, python_client, lost_sites, ends_by_signal, kills, *SERVICES, *CROWDS]
+          full_disk_of_a_cluster, two_clusters, few_files, python_client, lost_sites, ends_by_signal, kills, *SERVICES, *CROWDS, *UNINVITED]
 
 OPERATION_SECONDS = 40.0  # that a trial of operation may take
 SIDE_BY_SIDE = 3  # trials of operation: most of them wait
