@@ -1,9 +1,78 @@
-"""The trials of strangers: what somebody else does to the journal of a site."""
+"""The trials of strangers: who keeps a link from opening, and what somebody else does to the journal of a site."""
 import os
+import socket
+import threading
+from contextlib import suppress
 
 from services import PAIR, serve, status_of
-from world import World
+from world import World, patience, wait_until
 
+STRANGERS = 256
+HELLO = 6  # bytes
+
+
+# ---- who keeps a link from opening
+
+def strangers_first(program):
+    """A site whose connections are all taken by strangers who say nothing has room for a peer."""
+    with World(program, PAIR) as world:
+        first = world.start(1, more=('--notes',))
+        first.await_listening()
+        threads = first.threads()
+        strangers = [socket.create_connection(('127.0.0.1', world.ports[1])) for _ in range(STRANGERS)]
+        wait_until(lambda: first.threads() >= threads + STRANGERS, 'a thread for each stranger')
+        second = world.start(2, more=('--patience', '10'))
+        second.await_listening()
+        yield 'it connects', second.ask('connect') == 'connected 1 failed 0'
+        yield 'a request', second.ask('ask 2 1') == 'ok sent 1'
+        first.await_link('in 2', 'open')
+        wait_until(lambda: len(world.entries(1)) == 1, 'the request')
+        yield 'the link is open at both ends', second.links()['out 1'] == 'open'
+        first.await_note('note closed a connection without a hello')
+        yield 'the first stranger is closed', strangers[0].recv(1) == b''
+        yield 'and no other', not any(is_readable(peer) for peer in strangers[1:])
+        for peer in strangers:
+            peer.close()
+        yield 'each quit ends', first.say('quit') is None and first.wait() == 0 and second.end()
+
+
+def is_readable(peer):
+    peer.setblocking(False)
+    try:
+        peer.recv(1)
+    except BlockingIOError:
+        return False
+    except OSError:
+        pass
+    return True
+
+
+def closed_at_first(program):
+    """A peer that closes connections at once doesn't listen yet, where there is patience."""
+    with World(program, PAIR) as world, socket.create_server(('127.0.0.1', world.ports[1])) as listener:
+        listener.settimeout(patience())
+        heard = []
+
+        def listen():
+            with suppress(OSError):
+                for _ in range(3):
+                    listener.accept()[0].close()
+                peer, _ = listener.accept()
+                peer.settimeout(patience())
+                heard.append((peer.recv(HELLO), peer))
+        listening = threading.Thread(target=listen)
+        listening.start()
+        site = world.start(2, more=('--patience', '10'))
+        site.await_listening()
+        yield 'it connects', site.ask('connect') == 'connected 1 failed 0'
+        listening.join(patience())
+        yield 'its hello comes', [hello for hello, _ in heard] == [bytes.fromhex('434D48010002')]
+        yield 'the link is open', site.links()['out 1'] == 'open'
+        for _, peer in heard:
+            peer.close()
+
+
+# ---- journals that lose their name
 
 def removed_journal(program):
     """A journal without a name takes no more entries: they would go with the site."""
@@ -32,4 +101,4 @@ def removed_journal(program):
         yield 'it is sealed', status_of(client)['sealed'] == 'yes'
 
 
-UNINVITED = [removed_journal]
+UNINVITED = [strangers_first, closed_at_first, removed_journal]

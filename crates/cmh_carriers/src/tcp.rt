@@ -28,6 +28,9 @@ const LONGEST_PAUSE_MILLISECONDS: u64 = 1_000;
 /// How long a look waits for what the other end did.
 const LOOK_MILLISECONDS: u64 = 1;
 
+/// A connection that ends within so long is as good as none, where sites are tried again.
+const FIRST_LOOK_MILLISECONDS: u64 = 20;
+
 /// How long accepting pauses where there is no descriptor or no memory for one more connection.
 const PAUSE_MILLISECONDS: u64 = 100;
 
@@ -92,12 +95,17 @@ impl Write for TcpLine {
 impl Look for TcpLine {
     fn has_ended(&self) -> bool {
         match &self.socket {
-            Some(socket) => match socket.peek(&mut [0]) {
-                Ok(count) => count == 0,
-                Err(error) => !is_silence(error.kind()),
-            },
+            Some(socket) => is_at_end(socket),
             None => true,
         }
+    }
+}
+
+/// Whether the other end of a socket is gone.
+fn is_at_end(socket: &TcpStream) -> bool {
+    match socket.peek(&mut [0]) {
+        Ok(count) => count == 0,
+        Err(error) => !is_silence(error.kind()),
     }
 }
 
@@ -263,7 +271,8 @@ impl<R: Net<Stream = TcpStream> + Clock + Drop> TcpDial<R> {
     }
 
     /// The same, where connections that fail are tried again for so long, which counts for all sites together from the
-    /// first that failed. A connection has failed once the last try has.
+    /// first that failed. A connection has failed once the last try has. One that the other end closes at once, before a
+    /// byte went over it, has failed, too.
     pub fn with_patience(self, patience: Duration) -> TcpDial<R>
         ensures { result.faults ≡ self.faults }
     {
@@ -287,7 +296,7 @@ impl<R: Net<Stream = TcpStream> + Clock + Drop> TcpDial<R> {
         };
         let mut pause = Duration::from_millis(FIRST_PAUSE_MILLISECONDS);
         for turn in 0..u64::MAX {
-            let opened = open_stream(&self.rt, address);
+            let opened = self.open_once(address);
             if opened.is_ok() || !self.has_patience() {
                 return opened;
             }
@@ -297,6 +306,15 @@ impl<R: Net<Stream = TcpStream> + Clock + Drop> TcpDial<R> {
                 .min(Duration::from_millis(LONGEST_PAUSE_MILLISECONDS));
         }
         Err(IoFault)
+    }
+
+    /// A connection that doesn't end at once, where there is patience to try again.
+    fn open_once(&self, address: SocketAddr) -> Result<TcpStream, IoFault> {
+        let stream = open_stream(&self.rt, address)?;
+        if !self.patience.is_zero() && ends_at_once(&stream) {
+            return Err(IoFault);
+        }
+        Ok(stream)
     }
 
     /// Whether a connection that failed just now is tried again.
@@ -335,6 +353,15 @@ fn open_stream<R: Net<Stream = TcpStream>>(
         return Err(IoFault);
     }
     Ok(stream)
+}
+
+/// Whether the other end closes a new connection at once, as a site does that takes no more, or one that is ending.
+fn ends_at_once(stream: &TcpStream) -> bool {
+    let first = Some(Duration::from_millis(FIRST_LOOK_MILLISECONDS));
+    let later = Some(Duration::from_millis(LOOK_MILLISECONDS));
+    stream.set_read_timeout(first).is_err()
+        || is_at_end(stream)
+        || stream.set_read_timeout(later).is_err()
 }
 
 impl<R: Net<Stream = TcpStream> + Clock + Drop> Dial for TcpDial<R> {

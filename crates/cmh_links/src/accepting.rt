@@ -1,6 +1,6 @@
 //! The accepting thread of a site, and its reading threads.
 
-ghost use Rattle.std.specs.Prelude.{◌≡◌, ◌+◌, ◌≤◌, [], true, vec_len, IfOk};
+ghost use Rattle.std.specs.Prelude.{◌≡◌, ◌+◌, ◌<◌, ◌≤◌, [], true, length, vec_len, IfOk, IfSome};
 ghost use Rattle.cmh_reader.specs.Reader.{StandsFor, fresh};
 ghost use Rattle.cmh_links.specs.TurnedAway.{is_turned_away};
 
@@ -18,7 +18,7 @@ use std::sync::atomic::Ordering;
 use std::sync::{Arc, Wait};
 use std::thread;
 use std::thread::{JoinHandle, Threads};
-use std::time::Clock;
+use std::time::{Clock, Duration};
 
 /// A reading thread, and its connection.
 type Reading<L> = (JoinHandle<()>, Arc<Seat<L>>);
@@ -139,6 +139,7 @@ where
                 break;
             }
             give_up(&rt, &mut readers);
+            self.make_room(&rt, &mut readers);
             self.admit(rt, alloc, incoming, &mut readers);
         }
         self.shared.note(&rt, Note::AcceptingEnded);
@@ -161,6 +162,24 @@ where
                 seat.shut(&rt);
             }
             reader.join(&rt);
+        }
+    }
+
+    /// Where as many connections stand as may, ends the one that has told no hello for the longest time, so that those who
+    /// say nothing keep nobody away.
+    fn make_room<R: Wait + Threads>(&self, rt: &R, readers: &mut Vec<Reading<L::Line>>)
+        ensures fewer { vec_len readers.new ≤ vec_len readers.old }
+    {
+        if !turns_away(readers.len()) {
+            return;
+        }
+        let Some(place) = longest_silent(readers) else {
+            return;
+        };
+        if readers[place].1.shut_if_silent(rt) {
+            let (reader, _) = readers.swap_remove(place);
+            reader.join(rt);
+            self.shared.note(rt, Note::NoHello);
         }
     }
 
@@ -220,6 +239,24 @@ fn give_up<R: Wait + Threads, L: Line + Drop>(rt: &R, readers: &mut Vec<Reading<
             reader.join(rt);
         }
     }
+}
+
+/// The place of the connection that has told no hello for the longest time, if there is one without.
+fn longest_silent<L: Line + Drop>(readers: &[Reading<L>]) -> Option<usize>
+    ensures { IfSome result (λ place. place < length readers.now) }
+{
+    let mut longest: Option<(usize, Duration)> = None;
+    for place in 0..readers.len() {
+        let Some(since) = readers[place].1.silent_since() else {
+            continue;
+        };
+        match longest {
+            Some((_, before)) if before <= since => {}
+            _ => longest = Some((place, since)),
+        }
+    }
+    let (place, _) = longest?;
+    Some(place)
 }
 
 /// A reader of the bytes that come to a site: it expects the other sites.

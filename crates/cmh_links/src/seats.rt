@@ -54,9 +54,22 @@ impl<L: Line + Drop> Seat<L> {
         }
     }
 
-    /// Whether it is still to tell a good hello, and came so long before. It says so once.
-    fn is_silent(&self, now: Duration, most: Duration) -> bool {
-        now.saturating_sub(self.began) >= most && self.is_awaited.swap(false, Ordering::SeqCst)
+    /// When it came, if it is still to tell a good hello.
+    pub fn silent_since(&self) -> Option<Duration> {
+        if self.is_awaited.load(Ordering::SeqCst) {
+            Some(self.began)
+        } else {
+            None
+        }
+    }
+
+    /// Ends it, if it is still to tell a good hello, and says whether it did.
+    pub fn shut_if_silent<R: Wait>(&self, rt: &R) -> bool {
+        if !self.is_awaited.swap(false, Ordering::SeqCst) {
+            return false;
+        }
+        self.shut(rt);
+        true
     }
 }
 
@@ -99,8 +112,8 @@ impl<L: Line + Drop> Seats<L> {
         let mut count = 0usize;
         let seats = self.seats.lock(rt);
         for seat in &*seats {
-            if seat.is_silent(now, most) {
-                seat.shut(rt);
+            let is_late = now.saturating_sub(seat.began) >= most;
+            if is_late && seat.shut_if_silent(rt) {
                 count = count.saturating_add(1);
             }
         }
