@@ -1,7 +1,8 @@
-"""The trials of strangers: who keeps a link from opening, and what somebody else does to the journal of a site."""
+"""The trials of strangers: who keeps a link from opening, what somebody else does to a journal, and what an unread link costs."""
 import os
 import socket
 import threading
+import time
 from contextlib import suppress
 
 from services import PAIR, serve, status_of
@@ -9,6 +10,13 @@ from world import World, patience, wait_until
 
 STRANGERS = 256
 HELLO = 6  # bytes
+FRAME = 7  # bytes of a probe
+PROCESSES = 32
+PROBES = PROCESSES * (PROCESSES - 1)  # that a start sends
+STARTS = 6000
+AHEAD = 64  # lines ahead of their answers
+BACKLOG = 4  # megabytes
+MEGABYTE = 1 << 20
 
 
 # ---- who keeps a link from opening
@@ -101,4 +109,86 @@ def removed_journal(program):
         yield 'it is sealed', status_of(client)['sealed'] == 'yes'
 
 
-UNINVITED = [strangers_first, closed_at_first, removed_journal]
+# ---- what a link costs that nobody reads
+
+class Peer:
+    """Site 2, as a stranger plays it: it listens, and reads, does nothing, ends at once, or isn't there."""
+
+    def __init__(self, world, kind):
+        self.kind, self.read, self.connections = kind, 0, []
+        self.listener = None if kind == 'absent' else socket.create_server(('127.0.0.1', world.ports[2]))
+        if self.listener:
+            self.listener.settimeout(patience())
+            threading.Thread(target=self.run, daemon=True).start()
+
+    def run(self):
+        try:
+            connection, _ = self.listener.accept()
+            self.connections.append(connection)
+            if self.kind == 'leaving':
+                connection.close()
+            while self.kind == 'reading':
+                piece = len(connection.recv(MEGABYTE))
+                self.read += piece
+                if not piece:
+                    break
+        except OSError:
+            pass
+
+    def let_go(self):
+        for each in self.connections + [self.listener] * bool(self.listener):
+            each.close()
+
+
+def resident(served):
+    """The megabytes of memory that a process has."""
+    with open('/proc/%d/status' % served.process.pid) as file:
+        return next(int(line.split()[1]) for line in file if line.startswith('VmRSS')) / 1024
+
+
+def outgoing(client):
+    """The state of the link to site 2."""
+    state = client.call('links')
+    client.receive()
+    return state.split(' ', 2)[2]
+
+
+def cost(program, kind, starts, more=()):
+    """The megabytes that so many starts cost a site, each of which sends 992 probes to such a peer; and its link then."""
+    members = {1: list(range(1, PROCESSES + 1)), 2: list(range(101, 101 + PROCESSES))}
+    with World(program, members, edition=2) as world:
+        peer = Peer(world, kind)
+        try:
+            served = serve(world, 1, more=('--quiet', '--patience', '0', *more))
+            client = served.client()
+            wait_until(lambda: outgoing(client) != 'new', 'an opened link')
+            for process in members[1]:
+                local = [process + 1] if process < PROCESSES else []
+                client.ask(process, local + members[2][:PROCESSES - 1])
+            before, sent = resident(served), 0
+            client.send(*['start 1'] * AHEAD)
+            for left in range(starts, 0, -1):
+                sent += int(client.receive().split()[2])
+                if left > AHEAD:
+                    client.send('start 1')
+            if kind == 'reading':
+                wait_until(lambda: peer.read >= sent * FRAME, 'all frames')
+            time.sleep(0.5)
+            return resident(served) - before, sent, outgoing(client)
+        finally:
+            peer.let_go()
+
+
+def unread_links(program):
+    """A link that nobody reads costs no memory for its frames, once it is closed; one that is open costs its backlog's bound."""
+    reading, frames, state = cost(program, 'reading', STARTS)
+    yield 'each start sends its probes', frames == STARTS * PROBES
+    yield 'a link that is read stays open', state == 'open'
+    for kind, more, closed, extra in (('absent', (), 'closed 1', 8), ('leaving', (), 'closed 3', 8),
+                                      ('silent', ('--backlog', str(BACKLOG)), 'closed 3', BACKLOG + 8)):
+        found, _, state = cost(program, kind, STARTS, more)
+        yield '%s: %s' % (kind, state), state == closed
+        yield '%s: %.0f MB, %.0f where it is read' % (kind, found, reading), found < reading + extra
+
+
+UNINVITED = [strangers_first, closed_at_first, removed_journal, unread_links]

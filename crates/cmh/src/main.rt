@@ -18,13 +18,13 @@ ghost use Rattle.cmh_console.specs.Status.{IsStatus};
 use clap::{ArgMatches, Error, error};
 use cmh_carriers::{Noted, Voice};
 use cmh_commands::{
-    AUDIT, CLUSTER, DRAW, FileFault, Help, JOURNAL, JOURNALS, NOTES, OUT, PATIENCE, PLAY, PORT,
-    QUIET, SERVE, SHOW, SITE, TOPOLOGY, audit, cluster_files_of, command, draw, play_into,
+    AUDIT, BACKLOG, CLUSTER, DRAW, FileFault, Help, JOURNAL, JOURNALS, NOTES, OUT, PATIENCE, PLAY,
+    PORT, QUIET, SERVE, SHOW, SITE, TOPOLOGY, audit, cluster_files_of, command, draw, play_into,
     read_file, show,
 };
 use cmh_console::{Ahead, Fault, Input, Output};
 use cmh_frames::SiteId;
-use cmh_host::{SiteStart, System};
+use cmh_host::{BacklogLimit, SiteStart, System};
 use cmh_play::run_play;
 use cmh_service::{ServiceStart, run_service};
 use cmh_site::{ClusterStart, run_cluster_noting, run_site_noting};
@@ -218,6 +218,7 @@ where
         site,
         journal: words.get_str(JOURNAL).unwrap_or(""),
         patience: patience_of(words),
+        backlog: backlog_of(words),
     };
     let voice = voice_of(rt, words);
     match run_site_noting(*rt, &start, input, out, voice) {
@@ -252,6 +253,7 @@ where
             site: own,
             journal: words.get_str(JOURNAL).unwrap_or(""),
             patience: patience_of(words),
+            backlog: backlog_of(words),
         },
         port: words.get_one(PORT).unwrap_or(0),
     };
@@ -289,6 +291,14 @@ fn voice_of<R: Eprint + Copy + Drop>(rt: &R, words: &ArgMatches<'_>) -> Option<O
 fn patience_of(words: &ArgMatches<'_>) -> Duration {
     let seconds: u16 = words.get_one(PATIENCE).unwrap_or(0);
     Duration::from_secs(u64::from(seconds))
+}
+
+/// How many frames may wait for a link.
+fn backlog_of(words: &ArgMatches<'_>) -> BacklogLimit {
+    match words.get_one(BACKLOG) {
+        Some(megabytes) => BacklogLimit::of_megabytes(megabytes),
+        None => BacklogLimit::default(),
+    }
 }
 
 /// The number of the site that the words name. The command line takes no word that is none.

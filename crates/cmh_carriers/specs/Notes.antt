@@ -3,7 +3,7 @@ use Rattle.std.specs.Prelude.{ℕ, List, ◌++◌, codes}
 use Rattle.std.specs.Fmt.{decimal}
 use Rattle.cmh_carriers.specs.Table.{number_of, state_text}
 use Rattle.cmh_carriers.specs.declared.note.Note.{Note}
-use Rattle.cmh_carriers.specs.declared.note.Note.TheVariants.{RefusedHello, StrangeHello, NoHello, TurnedAway, ClosedOut, ClosedIn, AcceptingEnded, NoThread, NoThreadTo, Sealed, Kept, LeftOut}
+use Rattle.cmh_carriers.specs.declared.note.Note.TheVariants.{RefusedHello, StrangeHello, NoHello, TurnedAway, Unread, ClosedOut, ClosedIn, AcceptingEnded, NoThread, NoThreadTo, Sealed, Kept, LeftOut}
 use Rattle.cmh_carriers.specs.declared.note.Origin.{Origin}
 use Rattle.cmh_carriers.specs.declared.note.Origin.TheVariants.{Alone, Site}
 
@@ -12,6 +12,7 @@ note_text (RefusedHello site state) = codes "refused a hello of site " ++ (decim
 note_text StrangeHello = codes "refused a hello of no other site"
 note_text NoHello = codes "closed a connection without a hello"
 note_text TurnedAway = codes "turned a connection away"
+note_text (Unread site count) = codes "shut the link to " ++ (decimal site ++ (codes ": " ++ (decimal count ++ codes " frames wait")))
 note_text (ClosedOut site fault) = codes "out " ++ decimal site ++ codes " closed " ++ decimal (number_of fault)
 note_text (ClosedIn site fault) = codes "in " ++ decimal site ++ codes " closed " ++ decimal (number_of fault)
 note_text AcceptingEnded = codes "accepting ended"

@@ -18,6 +18,8 @@ pub enum Note {
     NoHello,
     /// A connection came while as many stood as may.
     TurnedAway,
+    /// So many frames wait for the link to a site, and it is closed.
+    Unread(SiteId, usize),
     ClosedOut(SiteId, LinkFault),
     ClosedIn(SiteId, LinkFault),
     /// No more connections are accepted, though the site isn't ending.
@@ -45,6 +47,9 @@ impl fmt::Display for Note {
             Note::StrangeHello => write!(f, "refused a hello of no other site"),
             Note::NoHello => write!(f, "closed a connection without a hello"),
             Note::TurnedAway => write!(f, "turned a connection away"),
+            Note::Unread(site, count) => {
+                write!(f, "shut the link to {site}: {count} frames wait")
+            }
             Note::ClosedOut(site, fault) => {
                 let number = fault.number();
                 write!(f, "out {site} closed {number}")

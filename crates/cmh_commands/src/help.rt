@@ -102,6 +102,7 @@ With --notes a line on standard error, at most ten a second, for each of these (
   note refused a hello of no other site              a connection of nobody in the topology, or of another edition
   note closed a connection without a hello           30 seconds after it came, or to make room for the 257th
   note turned a connection away                      256 stand, each with a hello
+  note shut the link to S: N frames wait             more than `--backlog`, since site S doesn't read them
   note accepting ended                               no connection can come any more
   note no thread for a connection, note no thread for the link to S
   note the journal is sealed                         it can't be written, and no more steps are taken

@@ -36,6 +36,8 @@ pub const NOTES: &str = "notes";
 
 pub const PATIENCE: &str = "patience";
 
+pub const BACKLOG: &str = "backlog";
+
 pub const PORT: &str = "port";
 
 pub const QUIET: &str = "quiet";
@@ -127,6 +129,7 @@ fn site_command<'a>(alloc: Global, help: &'a Help) -> Result<Command<'a>, Error>
         .arg(site_arg(alloc))?
         .arg(journal_arg(alloc))?
         .arg(site_patience_arg(alloc))?
+        .arg(backlog_arg(alloc))?
         .arg(notes_arg(alloc))?;
     Ok(command)
 }
@@ -142,6 +145,7 @@ fn serve_command<'a>(alloc: Global, help: &'a Help) -> Result<Command<'a>, Error
         .arg(journal_arg(alloc))?
         .arg(port_arg(alloc))?
         .arg(serve_patience_arg(alloc))?
+        .arg(backlog_arg(alloc))?
         .arg(quiet_arg(alloc))?;
     Ok(command)
 }
@@ -262,6 +266,18 @@ fn patience_arg<'a>(alloc: Global) -> Arg<'a> {
         .long(PATIENCE)
         .value_name("SECONDS")
         .value_parser(value_parser!(u16).range(0..=3600))
+        .action(ArgAction::Set)
+}
+
+fn backlog_arg<'a>(alloc: Global) -> Arg<'a> {
+    Arg::new(alloc, BACKLOG)
+        .long(BACKLOG)
+        .value_name("MEGABYTES")
+        .help(
+            "How much may wait for a site that reads nothing, before its link is closed; 1 to 65535",
+        )
+        .default_value("64")
+        .value_parser(value_parser!(u16).range(1..=65535))
         .action(ArgAction::Set)
 }
 

@@ -32,3 +32,4 @@ pub use crate::starting::{
 };
 pub use crate::system::System;
 pub use crate::together::{Answer, answer_events, reply_to};
+pub use cmh_links::BacklogLimit;

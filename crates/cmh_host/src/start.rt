@@ -8,6 +8,7 @@ use crate::system::System;
 use crate::{Disk, NewJournal, Ports, can_be_made, make_journal};
 use cmh_carriers::{Note, Noting, Origin, Speaker, TcpDial, TcpListen};
 use cmh_frames::{SiteId, Topology};
+use cmh_links::BacklogLimit;
 use std::alloc::{AllocError, Global};
 use std::fs::File;
 use std::net::{Net, TcpListener, TcpStream};
@@ -25,6 +26,8 @@ pub struct SiteStart<'a> {
     pub journal: &'a str,
     /// How long sites that can't be connected are tried again, for all together.
     pub patience: Duration,
+    /// A link for which more frames wait is closed.
+    pub backlog: BacklogLimit,
 }
 
 /// The same, where the topology file was read.
@@ -35,6 +38,7 @@ pub struct SiteSetup<'a> {
     pub site: SiteId,
     pub journal: &'a str,
     pub patience: Duration,
+    pub backlog: BacklogLimit,
 }
 
 /// Takes the site's port, makes its journal, and starts its threads. What is answered beside them makes its notes.
@@ -82,6 +86,7 @@ where
     Ok(Carriers {
         listen: listen_at(&rt, alloc, port, setup.journal)?,
         dial,
+        backlog: setup.backlog,
         speakers,
     })
 }

@@ -13,7 +13,7 @@ use cmh_carriers::{Dial, Note, Speaker, TcpDial, TcpListen};
 use cmh_console::NoFile;
 use cmh_frames::{Done, Event, SiteId, Topology};
 use cmh_journal::Sink;
-use cmh_links::{LinkFault, LinkState, SharedLinks, SiteParts, SiteThreads};
+use cmh_links::{BacklogLimit, LinkFault, LinkState, SharedLinks, SiteParts, SiteThreads};
 use cmh_station::{
     BoardReader, KeptBoard, LinkTap, Listing, ParkingTap, SharedStation, Station, StationRefusal,
 };
@@ -91,6 +91,8 @@ pub struct Speakers {
 pub struct Carriers<R: System + 'static> {
     pub listen: TcpListen<R>,
     pub dial: TcpDial<R>,
+    /// A link for which more frames wait is closed.
+    pub backlog: BacklogLimit,
     pub speakers: Speakers,
 }
 
@@ -168,6 +170,7 @@ where
     let Carriers {
         listen,
         dial,
+        backlog,
         speakers: Speakers {
             handle: speaker,
             threads: theirs,
@@ -183,6 +186,7 @@ where
         taps,
         listen,
         dial,
+        backlog,
         speaker: theirs,
     };
     match SiteThreads::start_noting(rt, alloc, topology, site, parts) {

@@ -4,7 +4,7 @@ use Rattle.std.specs.List.{filter, sum_by}
 use Rattle.cmh_shared.specs.Links.{Tap}
 use Rattle.cmh_carriers.specs.Table.{number_of}
 use Rattle.cmh_links.specs.declared.opening.Place.{Place}
-use Rattle.cmh_links.specs.declared.opening.Place.TheVariants.{Idle, Closed, Writing}
+use Rattle.cmh_links.specs.declared.opening.Place.TheVariants.{Idle, Closed, Draining, Writing}
 
 -- the site that a tap's link leads to
 abbrev pub site_of : Tap → ℕ
@@ -14,6 +14,7 @@ site_of tap = tap.to
 abbrev pub leads_to : Place → ℕ
 leads_to (Idle tap) = tap.to
 leads_to (Closed tap fault) = tap.to
+leads_to (Draining drain fault) = drain.promise.to
 leads_to (Writing writer) = writer.promise.to
 
 -- the sites of all links: of those that were to be opened, and of those whose taps wait, the next one last
@@ -24,12 +25,14 @@ link_sites places waiting = map leads_to places ++ map site_of (reverse waiting)
 abbrev pub is_idle : Place → Bool
 is_idle (Idle tap) = true
 is_idle (Closed tap fault) = false
+is_idle (Draining drain fault) = false
 is_idle (Writing writer) = false
 
 -- how many links have a writing thread
 abbrev pub is_connected : Place → ℕ
 is_connected (Idle tap) = 0
 is_connected (Closed tap fault) = 0
+is_connected (Draining drain fault) = 0
 is_connected (Writing writer) = 1
 
 abbrev pub connected_in : List Place → ℕ
@@ -39,6 +42,7 @@ connected_in places = sum_by is_connected places
 abbrev pub is_failed : Place → ℕ
 is_failed (Idle tap) = 0
 is_failed (Closed tap fault) = 1
+is_failed (Draining drain fault) = 1
 is_failed (Writing writer) = 0
 
 abbrev pub failed_in : List Place → ℕ
@@ -48,6 +52,7 @@ failed_in places = sum_by is_failed places
 abbrev pub has_closed : ℕ → Place → Bool
 has_closed number (Idle tap) = false
 has_closed number (Closed tap fault) = number_of fault == number
+has_closed number (Draining drain fault) = number_of fault == number
 has_closed number (Writing writer) = false
 
 -- the sites that such links lead to

@@ -212,7 +212,7 @@ where
         requires { L.In.failures incoming ≡ 0 }
     {
         let theirs = Arc::try_clone(&self.shared).ok()?;
-        let seat = self.seats.seat(&rt, self.listen.line(&incoming)?)?;
+        let seat = self.seats.seat(&rt, self.listen.line(&incoming)?, None)?;
         let Ok(taken) = Arc::try_clone(&seat) else {
             seat.leave(&rt);
             return None;

@@ -51,8 +51,13 @@ impl<D: Dial> Dialler<D> {
         self.dial.connect(site)
     }
 
-    /// A seat for a connection that it opened. `None` where memory was refused, or the clock can't be read.
-    pub fn seat<R: Wait + Clock>(&self, rt: &R, outgoing: &D::Out) -> Option<Arc<Seat<D::Line>>> {
-        self.seats.seat(rt, self.dial.line(outgoing)?)
+    /// A seat for a connection that it opened to a site. `None` where memory was refused, or the clock can't be read.
+    pub fn seat<R: Wait + Clock>(
+        &self,
+        rt: &R,
+        site: SiteId,
+        outgoing: &D::Out,
+    ) -> Option<Arc<Seat<D::Line>>> {
+        self.seats.seat(rt, self.dial.line(outgoing)?, Some(site))
     }
 }

@@ -2,7 +2,9 @@
 #![tactic(auto)]
 
 mod accepting;
+mod backlog;
 mod dialler;
+mod draining;
 mod lent;
 mod opening;
 mod reading;
@@ -13,6 +15,7 @@ mod turned_away;
 mod watching;
 mod writing;
 
+pub use crate::backlog::BacklogLimit;
 pub use crate::lent::{Lent, lent_law};
 pub use crate::reading::{Handover, ReaderEnd, run_reader};
 pub use crate::threads::{LinkView, SiteParts, SiteThreads};

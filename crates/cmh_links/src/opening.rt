@@ -6,6 +6,7 @@ ghost use Rattle.cmh_links.specs.Writing.{Wrote};
 ghost use Rattle.cmh_carriers.specs.declared.table.LinkFault.{LinkFault};
 
 use crate::dialler::Dialler;
+use crate::draining::drain;
 use crate::run_writer;
 use crate::seats::Seat;
 use crate::shared::{Shared, TapSource};
@@ -35,7 +36,15 @@ pub(crate) enum Place {
     /// With nobody: the link was not new.
     Idle(LinkTap),
     /// With nobody: the link was new, and was closed with this fault.
-    Closed { tap: LinkTap, fault: LinkFault },
+    Closed {
+        tap: LinkTap,
+        fault: LinkFault,
+    },
+    /// With a thread that drops the frames: the link was new, and was closed with this fault.
+    Draining {
+        drain: PromisedHandle<LinkTap, GivesBack>,
+        fault: LinkFault,
+    },
     Writing(PromisedHandle<LinkTap, GivesBack>),
 }
 
@@ -70,11 +79,11 @@ where
         return Place::Idle(tap.into_tap());
     }
     match dial.connect(tap.to()) {
-        Ok(out) => match dial.seat(&rt, &out) {
+        Ok(out) => match dial.seat(&rt, tap.to(), &out) {
             Some(seat) => start_writer(rt, shared, tap, Connection { out, seat }),
             None => closed(&rt, shared, tap.into_tap(), LinkFault::Memory),
         },
-        Err(IoFault) => closed(&rt, shared, tap.into_tap(), LinkFault::Connect),
+        Err(IoFault) => unconnected(rt, shared, tap),
     }
 }
 
@@ -87,12 +96,67 @@ fn closed<R: Wait, S: Sink, B: Listing>(
 ) -> Place
     ensures { result ≡ Place.Closed tap fault }
 {
-    shared.links.lock(rt).close_out(tap.to(), fault);
-    if fault == LinkFault::Memory {
-        shared.note(rt, Note::NoThreadTo(tap.to()));
-    }
-    shared.note(rt, Note::ClosedOut(tap.to(), fault));
+    close(rt, shared, tap.to(), fault);
     Place::Closed { tap, fault }
+}
+
+/// Closes the link to a site, and notes it.
+fn close<R: Wait, S: Sink, B: Listing>(
+    rt: &R,
+    shared: &Shared<S, B>,
+    to: SiteId,
+    fault: LinkFault,
+) {
+    shared.links.lock(rt).close_out(to, fault);
+    if fault == LinkFault::Memory {
+        shared.note(rt, Note::NoThreadTo(to));
+    }
+    shared.note(rt, Note::ClosedOut(to, fault));
+}
+
+/// Closes the link of a tap whose site could not be connected, and starts a thread that drops its frames, if one can be
+/// had.
+fn unconnected<R, S, B>(rt: R, shared: &Arc<Shared<S, B>>, tap: ParkingTap) -> Place
+where
+    R: Wait + Threads + Copy + Send + Drop + 'static,
+    S: Sink + Send + 'static,
+    B: Listing + Send + 'static,
+    ensures to { leads_to result ≡ tap.to }
+    ensures new { is_idle result ≡ false }
+    ensures unconnected { length (closed_with 1 (result ∷ [])) ≡ 1 }
+    ensures causes { is_failed result ≡ length (closed_with 1 (result ∷ [])) + length (closed_with 6 (result ∷ [])) }
+{
+    let to = tap.to();
+    let fault = LinkFault::Connect;
+    close(&rt, shared, to, fault);
+    let Ok(theirs) = Arc::try_clone(shared) else {
+        return Place::Closed {
+            tap: tap.into_tap(),
+            fault,
+        };
+    };
+    let run = move || drain_unless_abandoned(rt, theirs, tap);
+    match thread::spawn_with(&rt, GivesBack { to }, run) {
+        Ok(drain) => Place::Draining { drain, fault },
+        Err(refused) => Place::Closed {
+            tap: abandon(shared, to, refused.value),
+            fault,
+        },
+    }
+}
+
+/// What the thread of a link runs that could not be connected. The tap comes back.
+fn drain_unless_abandoned<R, S, B>(rt: R, shared: Arc<Shared<S, B>>, tap: ParkingTap) -> LinkTap
+where
+    R: Wait + Drop,
+    S: Sink,
+    B: Listing,
+    ensures { result.to ≡ tap.to }
+{
+    if shared.abandoned.load(Ordering::SeqCst) == tap.to().get() {
+        return tap.into_tap();
+    }
+    drain(&rt, &shared, tap)
 }
 
 /// Starts the writing thread of a link, or closes the link.
@@ -145,7 +209,7 @@ fn abandon<S: Sink, B: Listing, F: FnOnce() -> LinkTap>(
     tap
 }
 
-/// What the writing thread of a link runs. The tap comes back.
+/// What the writing thread of a link runs. Once its connection has failed it drops the frames. The tap comes back.
 fn write_unless_abandoned<R, S, B, O, L>(
     rt: R,
     shared: Arc<Shared<S, B>>,
@@ -163,15 +227,16 @@ where
     ensures { result.to ≡ tap.to }
 {
     let Connection { mut out, seat } = connection;
-    let tap = if shared.abandoned.load(Ordering::SeqCst) == tap.to().get() {
-        tap.into_tap()
-    } else {
-        write_link(rt, &shared, own, tap, &mut out)
-    };
+    if shared.abandoned.load(Ordering::SeqCst) == tap.to().get() {
+        drop(out);
+        seat.leave(&rt);
+        return tap.into_tap();
+    }
+    let tap = write_link(rt, &shared, own, tap, &mut out);
     // Its seat has another handle of the connection.
     drop(out);
     seat.leave(&rt);
-    tap
+    drain(&rt, &shared, tap)
 }
 
 /// Writes the frames of a tap until the site ends or a write fails, and closes the link.
@@ -181,7 +246,7 @@ fn write_link<R, S, B, O>(
     own: Arc<Shared<S, B>>,
     tap: ParkingTap,
     out: &mut O,
-) -> LinkTap
+) -> ParkingTap
 where
     R: Wait + Copy + Drop,
     S: Sink,
@@ -199,5 +264,5 @@ where
     let why = fault.unwrap_or(LinkFault::Ended);
     shared.links.lock(&rt).close_out(to, why);
     shared.note(&rt, Note::ClosedOut(to, why));
-    exit.into_tap().into_tap()
+    exit.into_tap()
 }

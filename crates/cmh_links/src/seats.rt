@@ -1,6 +1,10 @@
 //! The connections of a site whose threads run, for those that let these threads go.
 
+use crate::backlog::BacklogLimit;
 use cmh_carriers::Line;
+use cmh_frames::SiteId;
+use cmh_journal::Sink;
+use cmh_station::{Listing, SharedStation};
 use std::alloc::Global;
 use std::sync::atomic::{AtomicBool, Ordering};
 use std::sync::{Arc, Mutex, Wait};
@@ -11,20 +15,26 @@ use std::time::{Clock, Duration};
 pub(crate) struct Seat<L: Line + Drop> {
     /// Another handle of it, which goes with the thread, so that its descriptor is given back at once.
     line: Mutex<Option<L>>,
+    /// The site to which it was opened; `None` of one that was accepted.
+    to: Option<SiteId>,
     /// When it came, by the clock that never goes back.
     began: Duration,
     /// Whether it is still to tell a good hello.
     is_awaited: AtomicBool,
+    /// Whether it was ended because nobody read what waits for it.
+    is_unread: AtomicBool,
     /// Whether its thread is done with it.
     is_over: AtomicBool,
 }
 
 impl<L: Line + Drop> Seat<L> {
-    fn new(line: L, began: Duration) -> Seat<L> {
+    fn new(line: L, to: Option<SiteId>, began: Duration) -> Seat<L> {
         Seat {
             line: Mutex::new(Some(line)),
+            to,
             began,
             is_awaited: AtomicBool::new(true),
+            is_unread: AtomicBool::new(false),
             is_over: AtomicBool::new(false),
         }
     }
@@ -71,6 +81,25 @@ impl<L: Line + Drop> Seat<L> {
         self.shut(rt);
         true
     }
+
+    /// Ends it, if more frames wait for its site than may, and says how many, once.
+    fn shut_if_unread<R: Wait, S: Sink, B: Listing>(
+        &self,
+        rt: &R,
+        station: &SharedStation<S, B>,
+        most: BacklogLimit,
+    ) -> Option<(SiteId, usize)> {
+        let site = self.to?;
+        let waiting = station.waiting(site);
+        if !most.is_passed_by(waiting) || self.is_over() {
+            return None;
+        }
+        if self.is_unread.swap(true, Ordering::SeqCst) {
+            return None;
+        }
+        self.shut(rt);
+        Some((site, waiting))
+    }
 }
 
 /// The connections of a site, all that it accepted or all that it opened.
@@ -89,12 +118,17 @@ impl<L: Line + Drop> Seats<L> {
 
     /// Seats a connection that came just now, by another handle of it. `None` where memory was refused, or the clock can't
     /// be read.
-    pub fn seat<R: Wait + Clock>(&self, rt: &R, line: L) -> Option<Arc<Seat<L>>> {
+    pub fn seat<R: Wait + Clock>(
+        &self,
+        rt: &R,
+        line: L,
+        to: Option<SiteId>,
+    ) -> Option<Arc<Seat<L>>> {
         let began = rt.monotonic().ok()?;
         let mut guard = self.seats.lock(rt);
         let seats = &mut *guard;
         seats.retain(|seat| !seat.is_over());
-        let seat = Arc::new(*seats.allocator(), Seat::new(line, began)).ok()?;
+        let seat = Arc::new(*seats.allocator(), Seat::new(line, to, began)).ok()?;
         seats.push(Arc::try_clone(&seat).ok()?).ok()?;
         Some(seat)
     }
@@ -118,5 +152,21 @@ impl<L: Line + Drop> Seats<L> {
             }
         }
         count
+    }
+
+    /// Ends the first connection for whose site more frames wait than may, and says for which, and how many; each one once.
+    pub fn shut_unread<R: Wait, S: Sink, B: Listing>(
+        &self,
+        rt: &R,
+        station: &SharedStation<S, B>,
+        most: BacklogLimit,
+    ) -> Option<(SiteId, usize)> {
+        let seats = self.seats.lock(rt);
+        for seat in &*seats {
+            if let Some(unread) = seat.shut_if_unread(rt, station, most) {
+                return Some(unread);
+            }
+        }
+        None
     }
 }

@@ -5,6 +5,7 @@ ghost use Rattle.std.specs.Arc.{arc_value};
 ghost use Rattle.cmh_frames.specs.Topology.{sites_of};
 ghost use Rattle.cmh_links.specs.Writing.{Gave};
 
+use crate::backlog::BacklogLimit;
 use crate::seats::Seat;
 use crate::{FrameSource, Handover, Next};
 use cmh_carriers::{Line, LinkTable, Note, SharedLinks, Speaker};
@@ -37,6 +38,8 @@ pub(crate) struct Shared<S: Sink, B: Listing> {
     pub looks: AtomicU64,
     /// The site to which no writing thread could be started, or 0.
     pub abandoned: AtomicU16,
+    /// A link for which more frames wait is closed.
+    pub backlog: BacklogLimit,
     /// What makes its notes, where they are wanted.
     pub speaker: Option<Speaker>,
 }
@@ -48,6 +51,7 @@ impl<S: Sink, B: Listing> Shared<S, B> {
         topology: &Topology,
         site: SiteId,
         station: Arc<SharedStation<S, B>>,
+        backlog: BacklogLimit,
         speaker: Option<Speaker>,
     ) -> Result<Arc<Shared<S, B>>, AllocError>
         ensures edition { IfOk result (λ shared. (arc_value shared).edition ≡ topology.now.edition) }
@@ -71,6 +75,7 @@ impl<S: Sink, B: Listing> Shared<S, B> {
                 watcher: Parker::new(),
                 looks: AtomicU64::new(0),
                 abandoned: AtomicU16::new(0),
+                backlog,
                 speaker,
             },
         )?;

@@ -5,6 +5,7 @@ ghost use Rattle.std.specs.Vec.{vec_capacity};
 ghost use Rattle.cmh_links.specs.Threads.{closed_with, connected_in, failed_in, link_sites, site_of};
 
 use crate::accepting::{Accepter, Accepting, start_accepting};
+use crate::backlog::BacklogLimit;
 use crate::dialler::Dialler;
 use crate::opening::{Place, open};
 use crate::shared::Shared;
@@ -27,6 +28,8 @@ pub struct SiteParts<S: Sink, B: Listing, L, D> {
     pub taps: Vec<ParkingTap>,
     pub listen: L,
     pub dial: D,
+    /// A link for which more frames wait is closed.
+    pub backlog: BacklogLimit,
     /// What notes what the threads notice, where that is wanted.
     pub speaker: Option<Speaker>,
 }
@@ -97,6 +100,7 @@ where
             taps,
             listen,
             dial,
+            backlog: BacklogLimit::default(),
             speaker: None,
         };
         SiteThreads::start_noting(rt, alloc, topology, site, parts)
@@ -125,9 +129,10 @@ where
             taps,
             listen,
             dial,
+            backlog,
             speaker,
         } = parts;
-        let Ok(shared) = Shared::open(alloc, topology, site, station, speaker) else {
+        let Ok(shared) = Shared::open(alloc, topology, site, station, backlog, speaker) else {
             return Err(taps);
         };
         let (Ok(accepter), Ok(dial), Ok(places), Ok(room)) = (
@@ -197,7 +202,7 @@ where
             let place = open(self.rt, &self.shared, &mut self.dial, tap, is_new);
             match &place {
                 Place::Idle(_) => {}
-                Place::Closed { .. } => failed += 1,
+                Place::Closed { .. } | Place::Draining { .. } => failed += 1,
                 Place::Writing(_) => connected += 1,
             }
             self.places.push_reserved(place);
@@ -244,6 +249,7 @@ where
             let tap = match place {
                 Place::Idle(tap) => tap,
                 Place::Closed { tap, fault: _ } => tap,
+                Place::Draining { drain, fault: _ } => drain.join(&rt),
                 Place::Writing(writer) => writer.join(&rt),
             };
             taps.push_reserved(tap);

@@ -12,10 +12,10 @@ use std::thread::{JoinHandle, Threads};
 use std::time::{Clock, Duration};
 
 /// How long it sleeps between its turns.
-const TURN_MILLISECONDS: u64 = 250;
+const TURN_MILLISECONDS: u64 = 100;
 
 /// In how many turns the writing threads look once at their connections.
-const LOOK_TURNS: u64 = 4;
+const LOOK_TURNS: u64 = 10;
 
 /// A connection that told no good hello by then is closed.
 const MOST_HELLO_SECONDS: u64 = 30;
@@ -86,6 +86,7 @@ where
         for _ in 0..seats.shut_silent(&rt, now, most_hello) {
             shared.note(&rt, Note::NoHello);
         }
+        shut_unread(&rt, &shared, &outs);
         if shared.cutting.load(Ordering::SeqCst) {
             let since = cut_at.unwrap_or(now);
             cut_at = Some(since);
@@ -93,5 +94,21 @@ where
                 outs.shut_all(&rt);
             }
         }
+    }
+}
+
+/// Ends the connections to sites for which more frames wait than may, so that their links close.
+fn shut_unread<R, S, B, O>(rt: &R, shared: &Shared<S, B>, outs: &Seats<O>)
+where
+    R: Wait,
+    S: Sink,
+    B: Listing,
+    O: Line + Drop,
+{
+    for _ in 0..shared.others.len() {
+        let Some((site, waiting)) = outs.shut_unread(rt, &shared.station, shared.backlog) else {
+            return;
+        };
+        shared.note(rt, Note::Unread(site, waiting));
     }
 }

@@ -99,6 +99,7 @@ where
         site: own.site,
         journal: own.journal,
         patience: own.patience,
+        backlog: own.backlog,
     };
     let RunningSite { handle, threads } = start_site(rt, alloc, &setup, noting)?;
     let links = match threads.view() {

@@ -7,9 +7,14 @@ use cmh_frames::{Entry, Frame, SiteId};
 use rtrb::{Producer, RingBuffer};
 use std::alloc::{AllocError, Global};
 use std::collections::VecDeque;
+use std::sync::Arc;
+use std::sync::atomic::{AtomicUsize, Ordering};
 
 /// How many frames a ring holds.
 const PLACES: usize = 64;
+
+/// An empty backlog with room for more frames gives it back.
+const MOST_KEPT_ROOM: usize = 8192;
 
 /// The ring's producer, and the frames that are not in the ring yet.
 #[derive(Drop)]
@@ -17,6 +22,8 @@ pub(crate) struct Link {
     to: SiteId,
     pub(crate) producer: Producer<Frame>,
     backlog: VecDeque<Frame>,
+    /// How many frames the backlog has, for those who look at it from other threads.
+    waiting: Arc<AtomicUsize>,
 }
 
 fn is_same(a: SiteId, b: SiteId) -> bool
@@ -35,12 +42,15 @@ impl Link {
         ensures fresh { IfOk result (λ opened. AreFresh (seen opened.0) opened.1) }
     {
         let (producer, consumer) = RingBuffer::new(alloc, PLACES)?;
+        let waiting = Arc::new(alloc, AtomicUsize::new(0))?;
+        let tap = LinkTap::new(to, consumer, Arc::try_clone(&waiting)?);
         let link = Link {
             to,
             producer,
             backlog: VecDeque::new(alloc),
+            waiting,
         };
-        Ok((link, LinkTap::new(to, consumer)))
+        Ok((link, tap))
     }
 
     /// Makes room in the backlog for so many more frames.
@@ -59,6 +69,7 @@ impl Link {
         for entry in entries {
             self.queue(entry.sent.as_slice());
         }
+        self.show_waiting();
     }
 
     /// The same of one entry; what room it does not take is left.
@@ -75,8 +86,19 @@ impl Link {
         }
     }
 
-    /// Moves frames from the backlog into the ring while the producer knows of a free place. It takes no memory.
+    /// Moves frames from the backlog into the ring while the producer knows of a free place. It takes no memory, and gives
+    /// back that of a backlog which had many and is empty now.
     pub fn release(&mut self)
+        ensures { Released (seen self.old) (seen self.new) }
+    {
+        self.refill();
+        if self.backlog.is_empty() && self.backlog.capacity() > MOST_KEPT_ROOM {
+            self.backlog.shrink_to_fit();
+        }
+        self.show_waiting();
+    }
+
+    fn refill(&mut self)
         ensures { Released (seen self.old) (seen self.new) }
     {
         while self.backlog.len() > 0 {
@@ -88,5 +110,9 @@ impl Link {
             };
             self.producer.push_reserved(frame);
         }
+    }
+
+    fn show_waiting(&self) {
+        self.waiting.store(self.backlog.len(), Ordering::Relaxed);
     }
 }

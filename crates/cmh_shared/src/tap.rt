@@ -6,7 +6,10 @@ ghost use Rattle.rtrb.specs.Ring.{known_items, received};
 use crate::link::Link;
 use cmh_frames::{Frame, SiteId};
 use rtrb::Consumer;
+use std::alloc::AllocError;
 use std::marker::Model;
+use std::sync::Arc;
+use std::sync::atomic::AtomicUsize;
 
 /// The end of a link that takes its frames. It may be in another thread than the station: it locks nothing, waits for
 /// nobody and takes no memory.
@@ -14,6 +17,7 @@ use std::marker::Model;
 pub struct LinkTap {
     to: SiteId,
     consumer: Consumer<Frame>,
+    waiting: Arc<AtomicUsize>,
 }
 
 impl Model for LinkTap {
@@ -34,13 +38,17 @@ impl LinkTap {
     ghost use Rattle.cmh_shared.specs.Backlogs.{seen};
     ghost use Rattle.cmh_shared.specs.Links.{IsTapOf, Through};
 
-    pub(crate) fn new(to: SiteId, consumer: Consumer<Frame>) -> LinkTap
+    pub(crate) fn new(to: SiteId, consumer: Consumer<Frame>, waiting: Arc<AtomicUsize>) -> LinkTap
         ensures to { result.to ≡ to }
         ensures ring { result.ring ≡ (consumer.end.words, consumer.end.slots, consumer.end.names) }
         ensures taken { result.taken ≡ received consumer }
         ensures known { result.known ≡ known_items consumer }
     {
-        LinkTap { to, consumer }
+        LinkTap {
+            to,
+            consumer,
+            waiting,
+        }
     }
 
     /// The site that the link leads to.
@@ -48,6 +56,11 @@ impl LinkTap {
         ensures { result ≡ self.now.to }
     {
         self.to
+    }
+
+    /// How many frames wait to go into the ring, as a number that any thread reads: it is that of the last step or release.
+    pub fn waiting(&self) -> Result<Arc<AtomicUsize>, AllocError> {
+        Arc::try_clone(&self.waiting)
     }
 
     /// The next frame of the ring, or `None` where none is seen there.

@@ -24,8 +24,8 @@ use cmh_controller::Refusal;
 use cmh_files::run_audit;
 use cmh_frames::{Event, ProcId, SiteId, Topology};
 use cmh_host::{
-    Carriers, ClosedLink, ClusterLine, Disk, JournalFolder, JournalSink, Opened, Ports,
-    RunningSite, Setting, SiteReply, Speakers, System, can_be_made, closed_in, closed_out,
+    BacklogLimit, Carriers, ClosedLink, ClusterLine, Disk, JournalFolder, JournalSink, Opened,
+    Ports, RunningSite, Setting, SiteReply, Speakers, System, can_be_made, closed_in, closed_out,
     open_station, parse_for_cluster, read_setting, start_threads,
 };
 use cmh_journal::Sink;
@@ -363,6 +363,7 @@ where
         Ok(Carriers {
             listen,
             dial,
+            backlog: BacklogLimit::default(),
             speakers,
         })
     }

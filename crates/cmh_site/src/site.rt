@@ -118,6 +118,7 @@ where
         site: start.site,
         journal: start.journal,
         patience: start.patience,
+        backlog: start.backlog,
     };
     let mut host = SiteHost::start(rt, rt.alloc(), &setup, noting)?;
     let answered = host.serve(input, out);

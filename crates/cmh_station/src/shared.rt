@@ -10,7 +10,8 @@ use cmh_journal::Sink;
 use cmh_shared::{LinkTap, Listing};
 use crossbeam_utils::sync::{Parker, Unparker};
 use std::alloc::{AllocError, Global};
-use std::sync::{Mutex, MutexGuard, OnceLock, Wait};
+use std::sync::atomic::{AtomicUsize, Ordering};
+use std::sync::{Arc, Mutex, MutexGuard, OnceLock, Wait};
 
 /// A station under a lock, and what wakes the threads of its taps.
 #[derive(Drop)]
@@ -21,11 +22,12 @@ pub struct SharedStation<S: Sink, B: Listing> {
     watcher: OnceLock<Unparker>,
 }
 
-/// What wakes the thread of the link to a site.
+/// What wakes the thread of the link to a site, and how many frames wait for it.
 #[derive(Drop)]
 struct Sleeper {
     to: SiteId,
     unparker: Unparker,
+    waiting: Arc<AtomicUsize>,
 }
 
 /// Who has something to do after steps: the threads of links that frames were sent on, and the one that tells
@@ -114,6 +116,15 @@ impl<S: Sink, B: Listing> SharedStation<S, B> {
         }
     }
 
+    /// How many frames wait for room in the ring of the link to a site, as of the last step or release. It locks nothing,
+    /// waits for nobody and takes no memory.
+    pub fn waiting(&self, to: SiteId) -> usize {
+        match self.sleepers.iter().find(|sleeper| sleeper.to == to) {
+            Some(sleeper) => sleeper.waiting.load(Ordering::Relaxed),
+            None => 0,
+        }
+    }
+
     /// The station, which is no longer shared.
     pub fn into_station(self) -> Station<S, B> {
         let SharedStation {
@@ -136,6 +147,7 @@ fn make_parkers(alloc: Global, taps: &[LinkTap]) -> Result<(Vec<Parker>, Vec<Sle
         sleepers.push(Sleeper {
             to: tap.to(),
             unparker: parker.unparker().clone()?,
+            waiting: tap.waiting()?,
         })?;
         parkers.push(parker)?;
     }

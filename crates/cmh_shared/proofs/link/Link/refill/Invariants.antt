@@ -2,7 +2,7 @@ use Rattle.std.proofs.Common.{◌≡◌, ◌++◌, ◌≤◌}
 use Rattle.std.specs.VecDeque.{deque_len}
 use mathlib.Core.List.{IsPrefix}
 use Rattle.rtrb.specs.Ring.{sent, SameProducer}
-use Rattle.cmh_shared.proofs.link.Link.release.Given as goal
+use Rattle.cmh_shared.proofs.link.Link.refill.Given as goal
 
 abbrev pub invariant-loop-self : goal.invariant-loop-self
 invariant-loop-self l = record {
