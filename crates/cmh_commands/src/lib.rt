@@ -18,7 +18,7 @@ pub use crate::files::{
 };
 pub use crate::help::Help;
 pub use crate::options::{
-    AUDIT, BACKLOG, CLUSTER, DRAW, FORMAT, JOURNAL, JOURNALS, KIND, NOTES, OUT, PATIENCE, PLAY,
+    AUDIT, BACKLOG, CLUSTER, DRAW, EXPLAIN, FORMAT, JOURNAL, JOURNALS, KIND, NOTES, OUT, PATIENCE, PLAY,
     PORT, QUIET, RUN, SCRIPT, SERVE, SHOW, SITE, TOPOLOGY, WHY, command,
 };
 pub use crate::playing::play_into;

@@ -46,6 +46,8 @@ pub const KIND: &str = "kind";
 
 pub const FORMAT: &str = "format";
 
+pub const EXPLAIN: &str = "explain";
+
 const KINDS: &[&str] = &["waits", "run"];
 
 const FORMATS: &[&str] = &["dot", "svg"];
@@ -80,9 +82,10 @@ fn play_command<'a>(alloc: Global, help: &'a Help) -> Result<Command<'a>, Error>
         .about(
             "Plays a script from standard input on a world of sites in memory, and answers each line",
         )
-        .override_usage("cmh play < FILE [--journals DIR]")
+        .override_usage("cmh play < FILE [--journals DIR] [--explain]")
         .after_help(help.play.as_str())
-        .arg(folder_arg(alloc))?;
+        .arg(folder_arg(alloc))?
+        .arg(explain_arg(alloc))?;
     Ok(play)
 }
 
@@ -90,6 +93,7 @@ fn show_command<'a>(alloc: Global, help: &'a Help) -> Result<Command<'a>, Error>
     let show = Command::new(alloc, SHOW)
         .about("Prints the entries of journals, one a line, in the words of scripts")
         .after_help(help.show.as_str())
+        .arg(explain_arg(alloc))?
         .arg(journals_arg(alloc).help("The journal files, which are shown in this order"))?;
     Ok(show)
 }
@@ -104,6 +108,7 @@ fn audit_command<'a>(alloc: Global, help: &'a Help) -> Result<Command<'a>, Error
         .arg(topology_arg(alloc))?
         .arg(why_arg(alloc))?
         .arg(run)?
+        .arg(explain_arg(alloc))?
         .arg(journals_arg(alloc).help("The journal files of all sites, in any order"))?;
     Ok(audit)
 }
@@ -115,6 +120,7 @@ fn draw_command<'a>(alloc: Global, help: &'a Help) -> Result<Command<'a>, Error>
         .arg(topology_arg(alloc))?
         .arg(kind_arg(alloc))?
         .arg(format_arg(alloc))?
+        .arg(explain_arg(alloc))?
         .arg(journals_arg(alloc).help("The journal files of all sites, in any order"))?;
     Ok(draw)
 }
@@ -130,7 +136,8 @@ fn site_command<'a>(alloc: Global, help: &'a Help) -> Result<Command<'a>, Error>
         .arg(journal_arg(alloc))?
         .arg(site_patience_arg(alloc))?
         .arg(backlog_arg(alloc))?
-        .arg(notes_arg(alloc))?;
+        .arg(notes_arg(alloc))?
+        .arg(explain_arg(alloc))?;
     Ok(command)
 }
 
@@ -146,7 +153,8 @@ fn serve_command<'a>(alloc: Global, help: &'a Help) -> Result<Command<'a>, Error
         .arg(port_arg(alloc))?
         .arg(serve_patience_arg(alloc))?
         .arg(backlog_arg(alloc))?
-        .arg(quiet_arg(alloc))?;
+        .arg(quiet_arg(alloc))?
+        .arg(explain_arg(alloc))?;
     Ok(command)
 }
 
@@ -159,7 +167,8 @@ fn cluster_command<'a>(alloc: Global, help: &'a Help) -> Result<Command<'a>, Err
         .arg(topology_arg(alloc))?
         .arg(script_arg(alloc))?
         .arg(out_arg(alloc))?
-        .arg(notes_arg(alloc))?;
+        .arg(notes_arg(alloc))?
+        .arg(explain_arg(alloc))?;
     Ok(command)
 }
 
@@ -285,6 +294,14 @@ fn notes_arg<'a>(alloc: Global) -> Arg<'a> {
     Arg::new(alloc, NOTES)
         .long(NOTES)
         .help("Notes on standard error what is noticed and no line asks for")
+        .action(ArgAction::SetTrue)
+}
+
+/// Of every command that has faults. Where standard error is a terminal, it is as if it were given.
+fn explain_arg<'a>(alloc: Global) -> Arg<'a> {
+    Arg::new(alloc, EXPLAIN)
+        .long(EXPLAIN)
+        .help("Explains a fault in a second line on standard error, as at a terminal")
         .action(ArgAction::SetTrue)
 }
 
