@@ -7,9 +7,19 @@ use crate::file_fault::FileFault;
 use crate::options::{JOURNALS, SCRIPT, TOPOLOGY};
 use clap::ArgMatches;
 use cmh_files::stop_of;
-use std::fs;
-use std::io::ErrorKind;
+use cmh_journal::read_stored;
+use std::io::{Error, ErrorKind, Read};
 use std::rt::Files;
+use std::{fs, io};
+
+/// The most bytes of a topology file. One that says nothing but a topology has some ten thousand at most.
+pub const LONGEST_TOPOLOGY: u64 = 64 << 20;
+
+/// The bytes of a journal's header.
+const HEADER: u64 = 7;
+
+/// The most bytes of a journal that are read after its header, before it is looked at again.
+const FIRST_PIECE: u64 = 64 << 20;
 
 /// What the files of a cluster hold.
 #[derive(Drop)]
@@ -115,7 +125,8 @@ pub fn journals_of<R: AllocGlobal + Files>(
     Ok(journals)
 }
 
-/// What a file holds; the fault is the one given, but where memory was refused.
+/// What a file holds, or of a journal what shows that it is none; the fault is the one given, but where memory was
+/// refused.
 pub fn read_file<R: AllocGlobal + Files>(
     rt: &R,
     path: &str,
@@ -123,9 +134,46 @@ pub fn read_file<R: AllocGlobal + Files>(
 ) -> Result<Vec<u8>, FileFault>
     ensures { IfErr result (λ named. (named ≡ fault) ⊎ (named ≡ FileFault.Memory)) }
 {
-    match fs::read(rt, path) {
+    match bytes_of(rt, path, fault) {
         Ok(bytes) => Ok(bytes),
         Err(error) if error.kind() == ErrorKind::OutOfMemory => Err(FileFault::Memory),
         Err(_) => Err(fault),
     }
+}
+
+/// Reads the file to its end, or as far as it is looked at where it is the one that this fault names.
+fn bytes_of<R: AllocGlobal + Files>(rt: &R, path: &str, fault: FileFault) -> io::Result<Vec<u8>> {
+    let mut file = fs::open(rt, path)?;
+    let mut bytes = Vec::new(rt.alloc());
+    match fault {
+        FileFault::Topology => read_topology(&mut file, &mut bytes)?,
+        FileFault::Journal(_) => read_journal(&mut file, &mut bytes)?,
+        FileFault::Script | FileFault::Memory => {
+            file.read_to_end(&mut bytes)?;
+        }
+    }
+    Ok(bytes)
+}
+
+/// Reads a topology file, which is not longer than the longest.
+fn read_topology<F: Read>(file: &mut F, bytes: &mut Vec<u8>) -> io::Result<()> {
+    file.by_ref().take(LONGEST_TOPOLOGY + 1).read_to_end(bytes)?;
+    if bytes.len() as u64 > LONGEST_TOPOLOGY {
+        return Err(Error::from(ErrorKind::InvalidData));
+    }
+    Ok(())
+}
+
+/// Reads a journal's file while what was read may begin a journal: the header first, then as much at once as was read
+/// before. What comes after a fault changes nothing.
+fn read_journal<F: Read>(file: &mut F, bytes: &mut Vec<u8>) -> io::Result<()> {
+    let mut room = HEADER;
+    for _ in 0..u64::MAX {
+        let read = file.by_ref().take(room).read_to_end(bytes)?;
+        if (read as u64) < room || read_stored(bytes).is_err() {
+            return Ok(());
+        }
+        room = FIRST_PIECE.max(bytes.len() as u64);
+    }
+    Ok(())
 }
