@@ -62,10 +62,10 @@ Lines that clients send; a line that fits none is answered `bad line`:
 
 A client may send lines ahead of its answers; each is answered once, in its order. An answer `ok` comes after its entry
 is in the journal and synced. Events of all clients that wait at the same time share a sync, up to 64. At most 256
-clients are served at once, and one for which over a mebibyte waits unread is closed.
+clients are served at once. The connection of a client that leaves more than 1 MiB of answers unread is closed.
 
-The site connects to the others by itself. It prints `listening` once both its ports stand, and notes on standard error
-what it notices, unless --quiet is given. It ends at SIGTERM or SIGINT, and its journal can be audited at any time.
+The site connects to the others by itself. It prints `listening` once it listens on both its ports. It ends at SIGTERM
+or SIGINT, and its journal can be audited at any time.
 ";
 
 const CLUSTER_LINES: &str = "\
@@ -95,19 +95,36 @@ Why a link is closed, as in `closed 5`:
    7  the station takes no more steps
 ";
 
-const NOTES: &str = "\
-With --notes a line on standard error, at most ten a second, for each of these (`note at S ..` in a cluster):
-  note out S closed N, note in S closed N            a link closed, for the reason N
-  note refused a hello of site S: its link is X      a connection of a site whose link isn't new
-  note refused a hello of no other site              a connection of nobody in the topology, or of another edition
-  note closed a connection without a hello           30 seconds after it came, or to make room for the 257th
-  note turned a connection away                      256 stand, each with a hello
+const SITE_NOTES: &str = "\
+With --notes the site tells on standard error what it notices by itself, in at most ten lines a second:
+";
+
+const SERVE_NOTES: &str = "\
+The site tells on standard error what it notices by itself, in at most ten lines a second. With --quiet it doesn't:
+";
+
+const CLUSTER_NOTES: &str = "\
+With --notes the sites tell on standard error what they notice by themselves, in at most ten lines a second. In each
+line `note at S` stands for `note`, S being the site:
+";
+
+const NOTES: &str =
+    "  note out S closed N, note in S closed N            a link closed, for the reason N
+  note refused a hello of site S: its link is X      site S connected a second time
+  note refused a hello of no other site              somebody connected who is no other site of the topology
+  note closed a connection without a hello           none came within 30 seconds, or it made room for the 257th
+  note turned a connection away                      256 others are connected, each with a hello
   note shut the link to S: N frames wait             more than `--backlog`, since site S doesn't read them
   note accepting ended                               no connection can come any more
   note no thread for a connection, note no thread for the link to S
   note the journal is sealed                         it can't be written, and no more steps are taken
   note kept the old journal as .N                    under the journal's name with .N behind
-  note left out N                                    so many more were noticed in a second
+  note left out N                                    N more notes were not told in that second
+";
+
+const TOPOLOGY_FILE: &str = "\
+`fault json`: the topology file is no JSON, or lacks a member, as in {\"edition\":1,\"sites\":[{\"site\":1,\"processes\":[1]}]}.
+Of sites that run each also has a `port` of its own, 1 to 65535.
 ";
 
 const SITE_STATUSES: &str = "\
@@ -207,7 +224,8 @@ running sites, `cmh audit --help` the faults of files, `cmh show --help` the lin
 Example: cmh play < examples/cycle-over-two-sites.script
 ";
 
-const REFUSALS: [Refusal; 9] = [
+// Those of every step, but for memory.
+const REFUSALS: [Refusal; 8] = [
     Refusal::UnknownProcess,
     Refusal::NotHere,
     Refusal::BadTargets,
@@ -216,8 +234,11 @@ const REFUSALS: [Refusal; 9] = [
     Refusal::NotOwed,
     Refusal::AlreadyDeclared,
     Refusal::Unlawful,
-    Refusal::Memory,
 ];
+
+const STATION_REFUSALS: &str = "   9  the journal could not be written, and no more steps are taken
+  10  the journal can't be written
+";
 
 // Those of a file; when memory runs out `fault memory` is printed, but for a line of a script.
 const TOPOLOGY_FAULTS: [TopologyFault; 4] = [
@@ -253,9 +274,9 @@ impl Help {
     pub fn new(alloc: Global) -> Result<Help, AllocError> {
         Ok(Help {
             play: play(alloc)?,
-            site: running(alloc, SITE_LINES, SITE_STATUSES)?,
-            serve: running(alloc, SERVE_LINES, SERVE_STATUSES)?,
-            cluster: running(alloc, CLUSTER_LINES, CLUSTER_STATUSES)?,
+            site: running(alloc, SITE_LINES, SITE_NOTES, SITE_STATUSES)?,
+            serve: running(alloc, SERVE_LINES, SERVE_NOTES, SERVE_STATUSES)?,
+            cluster: running(alloc, CLUSTER_LINES, CLUSTER_NOTES, CLUSTER_STATUSES)?,
             audit: audit(alloc)?,
             show: show(alloc)?,
             draw: String::from_str(alloc, DRAW_PICTURE)?,
@@ -266,7 +287,8 @@ impl Help {
 fn play(alloc: Global) -> Result<String, AllocError> {
     let mut text = String::from_str(alloc, SCRIPT)?;
     write!(text, "\nRefusals, as in `refused 3`:\n")?;
-    refusals(&mut text)?;
+    refusals(&mut text, "")?;
+    row(&mut text, 12, JournalFault::Full)?;
     write!(text, "\nFaults of sites, as in `topology 2`:\n")?;
     topology_faults(&mut text)?;
     row(
@@ -278,32 +300,33 @@ fn play(alloc: Global) -> Result<String, AllocError> {
     Ok(text)
 }
 
-/// Of sites that run: the lines that they are given, refusals, faults of links and statuses.
-fn running(alloc: Global, lines: &str, statuses: &str) -> Result<String, AllocError> {
+/// Of sites that run: the lines that they are given, refusals, faults of links, notes and statuses.
+fn running(alloc: Global, lines: &str, notes: &str, statuses: &str) -> Result<String, AllocError> {
     let mut text = String::from_str(alloc, lines)?;
     write!(text, "\nRefusals, as in `refused 3`:\n")?;
-    refusals(&mut text)?;
+    refusals(&mut text, STATION_REFUSALS)?;
+    row(&mut text, 12, JournalFault::Full)?;
     write!(
         text,
-        "   9  the journal could not be written, and no more steps are taken\n"
+        "\n{LINK_FAULTS}\n{notes}{NOTES}\n{TOPOLOGY_FILE}\n{statuses}"
     )?;
-    write!(text, "  10  the journal can't be written\n")?;
-    write!(text, "\n{LINK_FAULTS}\n{NOTES}\n{statuses}")?;
     Ok(text)
 }
 
-fn refusals(text: &mut String) -> Result<(), AllocError> {
+/// The refusals of every step, by their numbers; those of a station stand before the last.
+fn refusals(text: &mut String, of_station: &str) -> Result<(), AllocError> {
     for refusal in REFUSALS {
         row(text, refusal.number(), refusal)?;
     }
-    row(text, 12, JournalFault::Full)?;
-    Ok(())
+    write!(text, "{of_station}")?;
+    row(text, Refusal::Memory.number(), Refusal::Memory)
 }
 
 fn audit(alloc: Global) -> Result<String, AllocError> {
-    let mut text = String::from_str(
-        alloc,
-        "Faults of the topology file, as in `fault topology 2`:\n",
+    let mut text = String::from_str(alloc, TOPOLOGY_FILE)?;
+    write!(
+        text,
+        "\nFaults of the topology, as in `fault topology 2`:\n"
     )?;
     topology_faults(&mut text)?;
     write!(
@@ -328,9 +351,7 @@ fn audit(alloc: Global) -> Result<String, AllocError> {
         text,
         "\n{AUDIT_RUN}\n{AUDIT_REASONS}\nRefusals, as in `refused 3`:\n"
     )?;
-    for refusal in REFUSALS {
-        row(&mut text, refusal.number(), refusal)?;
-    }
+    refusals(&mut text, "")?;
     write!(text, "\n{AUDIT_RUNNING}\n{AUDIT_STATUSES}")?;
     Ok(text)
 }

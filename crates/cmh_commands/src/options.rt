@@ -242,7 +242,7 @@ fn port_arg<'a>(alloc: Global) -> Arg<'a> {
 fn quiet_arg<'a>(alloc: Global) -> Arg<'a> {
     Arg::new(alloc, QUIET)
         .long(QUIET)
-        .help("Notes nothing on standard error")
+        .help("Tells no notes on standard error")
         .action(ArgAction::SetTrue)
 }
 
@@ -293,7 +293,7 @@ fn backlog_arg<'a>(alloc: Global) -> Arg<'a> {
 fn notes_arg<'a>(alloc: Global) -> Arg<'a> {
     Arg::new(alloc, NOTES)
         .long(NOTES)
-        .help("Notes on standard error what is noticed and no line asks for")
+        .help("Tells on standard error what a site notices by itself, as a link that closes")
         .action(ArgAction::SetTrue)
 }
 
