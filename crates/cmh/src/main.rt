@@ -18,9 +18,9 @@ ghost use Rattle.cmh_console.specs.Status.{IsStatus};
 use clap::{ArgMatches, Error, error};
 use cmh_carriers::{Noted, Voice};
 use cmh_commands::{
-    AUDIT, BACKLOG, CLUSTER, DRAW, FileFault, Help, JOURNAL, JOURNALS, NOTES, OUT, PATIENCE, PLAY,
-    PORT, QUIET, SERVE, SHOW, SITE, TOPOLOGY, audit, cluster_files_of, command, draw, play_into,
-    read_file, show,
+    AUDIT, BACKLOG, CLUSTER, DRAW, EXPLAIN, FileFault, Help, JOURNAL, JOURNALS, Listener, NOTES, OUT,
+    PATIENCE, PLAY, PORT, QUIET, SERVE, SHOW, SITE, TOPOLOGY, audit, cluster_files_of, command,
+    draw, explanation, play_into, read_file, show,
 };
 use cmh_console::{Ahead, Fault, Input, Output};
 use cmh_frames::SiteId;
@@ -29,7 +29,7 @@ use cmh_play::run_play;
 use cmh_service::{ServiceStart, run_service};
 use cmh_site::{ClusterStart, run_cluster_noting, run_site_noting};
 use std::fs::File;
-use std::io::{BufRead, BufReader, BufWriter, ErrorKind, Write};
+use std::io::{BufRead, BufReader, BufWriter, ErrorKind, IsTerminal, Write};
 use std::net::{Net, TcpListener, TcpStream};
 use std::process::ExitCode;
 use std::rt::{Clock, Env, Files};
@@ -46,9 +46,17 @@ fn words<R: Env + AllocGlobal>(rt: &R) -> io::Result<Vec<String>> {
     Ok(words)
 }
 
+/// Whether a person types the input, and whether one reads what is told on standard error.
+#[derive(Clone, Copy)]
+struct Terminals {
+    input: bool,
+    error: bool,
+}
+
 /// Reads the command line and runs the command; answers the status.
 fn run<R, I: BufRead + Ahead, W: Write, E: Write>(
     rt: &R,
+    terminals: Terminals,
     input: &mut Input<I>,
     out: &mut Output<W>,
     err: &mut Output<E>,
@@ -70,7 +78,7 @@ where
     ensures { IsEnd result }
 {
     match words(rt) {
-        Ok(words) => run_words(rt, words.as_slice(), input, out, err),
+        Ok(words) => run_words(rt, terminals, words.as_slice(), input, out, err),
         Err(error) if error.kind() == ErrorKind::OutOfMemory => Fault::Memory.name_on(err),
         Err(_) => {
             let _ = eprintln!(rt; "error: a word of the command line is not UTF-8");
@@ -82,6 +90,7 @@ where
 /// Runs the command that the words of a command line name; answers the status.
 fn run_words<R, I: BufRead + Ahead, W: Write, E: Write>(
     rt: &R,
+    terminals: Terminals,
     words: &[String],
     input: &mut Input<I>,
     out: &mut Output<W>,
@@ -99,7 +108,10 @@ where
         return Fault::Memory.name_on(err);
     };
     match command.try_get_matches_from(words) {
-        Ok(matches) => carry_out(rt, &matches, input, out, err),
+        Ok(matches) => {
+            greet(rt, terminals, &matches);
+            run_command(rt, terminals, &matches, input, out, err)
+        }
         Err(error) if error.kind() == error::ErrorKind::OutOfMemory => Fault::Memory.name_on(err),
         Err(error) => print_words(rt, &error, err),
     }
@@ -117,6 +129,70 @@ fn print_words<R: Print + Eprint, E: Write>(rt: &R, error: &Error, err: &mut Out
     match printed {
         Ok(()) => 0,
         Err(_) => Fault::Output.name_on(err),
+    }
+}
+
+/// What a person is told who types a script.
+const GREETING: &str =
+    "cmh reads the lines of a script from here; Ctrl-D ends it, `report` audits, `cmh --help` has more";
+
+/// Greets the person who types a script.
+fn greet<R: Eprint>(rt: &R, terminals: Terminals, matches: &ArgMatches<'_>) {
+    if terminals.input && plays(matches) {
+        // A write to standard error that fails is ignored.
+        let _ = eprintln!(rt; "{GREETING}");
+    }
+}
+
+/// Whether the words name `play`, or no command.
+fn plays(matches: &ArgMatches<'_>) -> bool {
+    matches.subcommand().is_none() || matches.subcommand_matches(PLAY).is_some()
+}
+
+/// Runs the command that the words name, and explains its fault to people; answers the status.
+fn run_command<R, I: BufRead + Ahead, W: Write, E: Write>(
+    rt: &R,
+    terminals: Terminals,
+    matches: &ArgMatches<'_>,
+    input: &mut Input<I>,
+    out: &mut Output<W>,
+    err: &mut Output<E>,
+) -> u8
+where
+    R: System + AllocGlobal + Eprint + Files<File = File> + Send + 'static,
+    ensures { IsStatus result }
+{
+    let mut listener = Listener::new(rt.alloc(), err);
+    let mut heard = Output::new(&mut listener);
+    let status = carry_out(rt, matches, input, out, &mut heard);
+    let line = listener.into_heard();
+    if !line.is_empty() {
+        explain(rt, terminals, words_of(matches), &line, err);
+    }
+    status
+}
+
+/// The words of the command that is named; where none is, those of `cmh` itself.
+fn words_of<'m, 'a>(matches: &'m ArgMatches<'a>) -> &'m ArgMatches<'a> {
+    if let Some((_, words)) = matches.subcommand() {
+        return words;
+    }
+    matches
+}
+
+/// Explains the line of a fault at a terminal, and to whom asks for that.
+fn explain<R: AllocGlobal + Files, E: Write>(
+    rt: &R,
+    terminals: Terminals,
+    words: &ArgMatches<'_>,
+    line: &[u8],
+    err: &mut Output<E>,
+) {
+    if terminals.error || words.get_flag(EXPLAIN) {
+        if let Ok(text) = explanation(rt, words, line) {
+            // A write to standard error that fails is ignored.
+            let _ = err.write_line(text.as_str());
+        }
     }
 }
 
@@ -334,6 +410,10 @@ where
 }
 
 fn main(rt: HostRuntime) -> ExitCode {
+    let terminals = Terminals {
+        input: rt.stdin().is_terminal(),
+        error: rt.stderr().is_terminal(),
+    };
     let mut err = Output::new(rt.stderr());
     let Ok(input) = BufReader::new(rt.alloc(), rt.stdin()) else {
         return ExitCode::from(Fault::Memory.name_on(&mut err));
@@ -343,5 +423,5 @@ fn main(rt: HostRuntime) -> ExitCode {
     };
     let mut input = Input::new(input);
     let mut out = Output::new(out);
-    ExitCode::from(run(&rt, &mut input, &mut out, &mut err))
+    ExitCode::from(run(&rt, terminals, &mut input, &mut out, &mut err))
 }

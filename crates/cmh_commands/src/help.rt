@@ -124,7 +124,7 @@ const NOTES: &str =
 
 const TOPOLOGY_FILE: &str = "\
 `fault json`: the topology file is no JSON, or lacks a member, as in {\"edition\":1,\"sites\":[{\"site\":1,\"processes\":[1]}]}.
-Of sites that run each also has a `port` of its own, 1 to 65535.
+Of sites that run each also has a `port` of its own, 1 to 65535. With --explain a second line says where it is wrong.
 ";
 
 const SITE_STATUSES: &str = "\

@@ -4,19 +4,24 @@
 
 mod auditing;
 mod drawing;
+mod explaining;
 mod file_fault;
 mod files;
 mod help;
+mod listener;
 mod options;
 mod playing;
+mod topology_trouble;
 
 pub use crate::auditing::{audit, show};
 pub use crate::drawing::draw;
+pub use crate::explaining::explanation;
 pub use crate::file_fault::FileFault;
 pub use crate::files::{
     AuditFiles, ClusterFiles, cluster_files_of, files_of, journals_of, read_file,
 };
 pub use crate::help::Help;
+pub use crate::listener::Listener;
 pub use crate::options::{
     AUDIT, BACKLOG, CLUSTER, DRAW, EXPLAIN, FORMAT, JOURNAL, JOURNALS, KIND, NOTES, OUT, PATIENCE, PLAY,
     PORT, QUIET, RUN, SCRIPT, SERVE, SHOW, SITE, TOPOLOGY, WHY, command,

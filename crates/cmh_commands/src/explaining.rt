@@ -1,0 +1,330 @@
+//! A second line for people: what the line of a fault means here. It is worked out again from the words of the command
+//! line and from the files that they name, so it may find them changed. A file that is no regular one is not read again.
+
+use crate::file_fault::FileFault;
+use crate::files::{LONGEST_TOPOLOGY, read_file};
+use crate::options::{JOURNAL, JOURNALS, OUT, PORT, SCRIPT, SITE, TOPOLOGY};
+use crate::topology_trouble::{trouble_of_members, trouble_of_rows};
+use clap::ArgMatches;
+use cmh_console::{TopologyFile, Words, read_topology_file, read_topology_file_with_ports};
+use cmh_frames::{Edition, SiteId, Topology};
+use cmh_journal::{JournalFault, read_stored};
+use serde_json::Value;
+use std::alloc::{AllocError, Global};
+use std::fs;
+use std::io::ErrorKind;
+use std::rt::Files;
+
+/// The line that explains the line of a fault; the words are those of the command that ended with it.
+///
+/// It changes nothing, and waits for no file.
+pub fn explanation<R: AllocGlobal + Files>(
+    rt: &R,
+    words: &ArgMatches<'_>,
+    line: &[u8],
+) -> Result<String, AllocError> {
+    let mut text = String::from_str(rt.alloc(), "cmh: ")?;
+    let line = match line {
+        [front @ .., b'\n'] => front,
+        _ => line,
+    };
+    let mut fault = Words::new(line);
+    let _ = fault.next_word();
+    match fault.next_word() {
+        Some(b"file") => explain_file(rt, words, &mut fault, &mut text)?,
+        Some(b"json" | b"topology") => explain_topology(rt, words, &mut text)?,
+        Some(b"journal") => explain_journal(words, &mut fault, &mut text)?,
+        Some(b"set") => explain_set(rt, words, &mut fault, &mut text)?,
+        Some(b"site") => {
+            let path = words.get_str(TOPOLOGY).unwrap_or("");
+            let site = words.get_str(SITE).unwrap_or("");
+            write!(text, "{path}: there is no site {site}")?;
+        }
+        Some(b"listen") => explain_ports(rt, words, &mut text)?,
+        Some(b"input") => write!(text, "standard input can't be read")?,
+        Some(b"output") => write!(text, "standard output can't be written, or nobody reads it")?,
+        _ => write!(text, "memory was refused")?,
+    }
+    Ok(text)
+}
+
+/// Of a file that was not read, or a folder whose files can't be written.
+fn explain_file<R: AllocGlobal + Files>(
+    rt: &R,
+    words: &ArgMatches<'_>,
+    fault: &mut Words<'_>,
+    text: &mut String,
+) -> Result<(), AllocError> {
+    let place = fault.next_word().unwrap_or(b"");
+    let path = match place {
+        b"topology" => words.get_str(TOPOLOGY),
+        b"script" => words.get_str(SCRIPT),
+        b"out" => words.get_str(OUT).or(words.get_str(JOURNALS)),
+        place => journal_at(words, Words::new(place).number()),
+    };
+    let path = path.unwrap_or("");
+    let cause = cause_of(rt, path, place == b"out".as_slice());
+    write!(text, "{path}: {cause}")?;
+    Ok(())
+}
+
+/// Why a file can't be read, or no file be written in a folder.
+fn cause_of<R: Files>(rt: &R, path: &str, is_folder: bool) -> &'static str {
+    match fs::metadata(rt, path) {
+        Err(error) => named(error.kind()),
+        Ok(found) if is_folder && found.is_dir() => {
+            "a journal in this folder can't be written or read back, or a running site writes to it"
+        }
+        Ok(_) if is_folder => "this is no folder",
+        Ok(found) if found.is_dir() => "this is a folder",
+        Ok(found) if !found.is_file() => "it can't be read, or has no end",
+        Ok(found) => match fs::open(rt, path) {
+            Err(error) => named(error.kind()),
+            Ok(_) if found.len() > LONGEST_TOPOLOGY => "it is longer than 64 MiB",
+            Ok(_) => "it can't be read",
+        },
+    }
+}
+
+const fn named(kind: ErrorKind) -> &'static str {
+    match kind {
+        ErrorKind::NotFound => "there is no such file",
+        ErrorKind::PermissionDenied => "permission is denied",
+        _ => "it can't be opened",
+    }
+}
+
+/// The journal at this place in the command, from 1.
+fn journal_at<'a>(words: &ArgMatches<'a>, place: Option<u16>) -> Option<&'a str> {
+    let paths = words.get_strs(JOURNALS)?;
+    let path = paths.get((place? as usize).saturating_sub(1))?;
+    Some(*path)
+}
+
+/// What the file held, if it is a regular one that can be read once more.
+fn read_again<R: AllocGlobal + Files>(rt: &R, path: &str, fault: FileFault) -> Option<Vec<u8>> {
+    if !fs::metadata(rt, path).ok()?.is_file() {
+        return None;
+    }
+    read_file(rt, path, fault).ok()
+}
+
+/// Of what a topology file holds.
+fn explain_topology<R: AllocGlobal + Files>(
+    rt: &R,
+    words: &ArgMatches<'_>,
+    text: &mut String,
+) -> Result<(), AllocError> {
+    let path = words.get_str(TOPOLOGY).unwrap_or("");
+    write!(text, "{path}: ")?;
+    match read_again(rt, path, FileFault::Topology) {
+        Some(bytes) => tell_topology(rt.alloc(), &bytes, has_ports(words), text),
+        None => {
+            write!(text, "it is not read again to say more")?;
+            Ok(())
+        }
+    }
+}
+
+/// Whether the command looks at the ports of the topology: those do that run sites.
+fn has_ports(words: &ArgMatches<'_>) -> bool {
+    words.get_str(JOURNAL).is_some() || words.get_str(SCRIPT).is_some()
+}
+
+fn tell_topology(
+    alloc: Global,
+    bytes: &[u8],
+    has_ports: bool,
+    text: &mut String,
+) -> Result<(), AllocError> {
+    let value = match Value::from_slice(alloc, bytes) {
+        Ok(value) => value,
+        Err(error) => {
+            write!(text, "{error}")?;
+            return Ok(());
+        }
+    };
+    if let Some(trouble) = trouble_of_members(&value, has_ports) {
+        write!(text, "{trouble}")?;
+        return Ok(());
+    }
+    let Ok(file) = read_topology_file(alloc, bytes) else {
+        return Ok(());
+    };
+    if let Err(fault) = Topology::new(alloc, file.edition, &file.rows) {
+        match trouble_of_rows(file.edition, &file.rows, fault) {
+            Some(trouble) => write!(text, "{trouble}")?,
+            None => write!(text, "{fault}")?,
+        }
+    }
+    Ok(())
+}
+
+/// Of a journal that can't be made, or of what the one at a place in the command holds.
+fn explain_journal(
+    words: &ArgMatches<'_>,
+    fault: &mut Words<'_>,
+    text: &mut String,
+) -> Result<(), AllocError> {
+    if let Some(path) = words.get_str(JOURNAL) {
+        write!(
+            text,
+            "{path}: it can't be made or locked here, is no regular file, or another site writes to it"
+        )?;
+        return Ok(());
+    }
+    match journal_at(words, fault.number()) {
+        Some(path) => write!(text, "{path}: ")?,
+        None => {
+            let dir = words.get_str(OUT).unwrap_or("");
+            write!(text, "{dir}: a journal there changed: ")?;
+        }
+    }
+    match fault.number() {
+        Some(1) => write!(text, "{}", JournalFault::BadHeader)?,
+        Some(2) => write!(text, "the bytes there are no entry")?,
+        _ => write!(text, "{}", JournalFault::Full)?,
+    }
+    Ok(())
+}
+
+/// The site and the edition of a journal.
+#[derive(Clone, Copy)]
+struct Head {
+    site: SiteId,
+    edition: Edition,
+}
+
+/// Of journals that are not those of one world.
+fn explain_set<R: AllocGlobal + Files>(
+    rt: &R,
+    words: &ArgMatches<'_>,
+    fault: &mut Words<'_>,
+    text: &mut String,
+) -> Result<(), AllocError> {
+    let path = words.get_str(TOPOLOGY).unwrap_or("");
+    let paths = words.get_strs(JOURNALS).unwrap_or(&[]);
+    let heads = heads_of(rt, paths)?;
+    let topology = match read_again(rt, path, FileFault::Topology) {
+        Some(bytes) => topology_of(rt.alloc(), &bytes),
+        None => None,
+    };
+    match (topology, heads) {
+        (Some(topology), Some(heads)) => {
+            tell_set(fault.number(), &topology, paths, &heads, text)?;
+        }
+        _ => write!(text, "the files are not read again to say more")?,
+    }
+    Ok(())
+}
+
+fn topology_of(alloc: Global, bytes: &[u8]) -> Option<Topology> {
+    let file = read_topology_file(alloc, bytes).ok()?;
+    Topology::new(alloc, file.edition, &file.rows).ok()
+}
+
+/// Those of the journals that the words name, if all can be read again.
+fn heads_of<R: AllocGlobal + Files>(
+    rt: &R,
+    paths: &[&str],
+) -> Result<Option<Vec<Head>>, AllocError> {
+    let mut heads = Vec::new(rt.alloc());
+    for (i, path) in paths.iter().enumerate() {
+        let Some(bytes) = read_again(rt, *path, FileFault::Journal(i + 1)) else {
+            return Ok(None);
+        };
+        let Ok((journal, _)) = read_stored(&bytes) else {
+            return Ok(None);
+        };
+        heads.push(Head {
+            site: journal.site(),
+            edition: journal.edition(),
+        })?;
+    }
+    Ok(Some(heads))
+}
+
+fn tell_set(
+    number: Option<u16>,
+    topology: &Topology,
+    paths: &[&str],
+    heads: &[Head],
+    text: &mut String,
+) -> Result<(), AllocError> {
+    for (i, head) in heads.iter().enumerate() {
+        let Head { site, edition } = *head;
+        let path = paths.get(i).copied().unwrap_or("");
+        let edition = edition.number();
+        match number {
+            Some(1) if !topology.has_site(site) => {
+                write!(text, "{path}: its site {site} is not in the topology")?;
+                return Ok(());
+            }
+            Some(2) if head.edition != topology.edition() => {
+                write!(
+                    text,
+                    "{path}: its edition is {edition}, that of the topology is not"
+                )?;
+                return Ok(());
+            }
+            Some(3) if is_among(&heads[..i], site) => {
+                write!(text, "{path}: this is a second journal of site {site}")?;
+                return Ok(());
+            }
+            _ => {}
+        }
+    }
+    for site in topology.sites() {
+        if !is_among(heads, *site) {
+            write!(text, "site {site} has no journal here")?;
+            return Ok(());
+        }
+    }
+    Ok(())
+}
+
+fn is_among(heads: &[Head], site: SiteId) -> bool {
+    for head in heads {
+        if head.site == site {
+            return true;
+        }
+    }
+    false
+}
+
+/// Of ports on which nobody can listen now.
+fn explain_ports<R: AllocGlobal + Files>(
+    rt: &R,
+    words: &ArgMatches<'_>,
+    text: &mut String,
+) -> Result<(), AllocError> {
+    let site: Option<u16> = words.get_one(SITE);
+    match words.get_str(PORT) {
+        Some(port) => write!(text, "of 127.0.0.1 this port is taken: {port}, or")?,
+        None if site.is_some() => write!(text, "of 127.0.0.1 this port is taken:")?,
+        None => write!(text, "of 127.0.0.1 one of these ports is taken:")?,
+    }
+    let path = words.get_str(TOPOLOGY).unwrap_or("");
+    let Some(bytes) = read_again(rt, path, FileFault::Topology) else {
+        return Ok(());
+    };
+    match read_topology_file_with_ports(rt.alloc(), &bytes) {
+        Ok((file, ports)) => tell_ports(&file, &ports, site, text),
+        Err(_) => Ok(()),
+    }
+}
+
+/// The port of this site, or those of all.
+fn tell_ports(
+    file: &TopologyFile,
+    ports: &[u16],
+    site: Option<u16>,
+    text: &mut String,
+) -> Result<(), AllocError> {
+    for (row, port) in file.rows.iter().zip(ports) {
+        if site.is_none() || site == Some(row.site) {
+            write!(text, " {port}")?;
+        }
+    }
+    Ok(())
+}
