@@ -1,0 +1,3 @@
+mod FateLemmas
+mod HeldLemmas
+mod MomentLemmas
