@@ -52,6 +52,12 @@ NamesNoFolder matches = (words : ArgMatches)
     → option_map (λ p. p.1) (subcommand_rows_of matches) ≡ Some (rows_of (found_of words))
     → first_value (found_of words) (codes "journals") ≡ None
 
+-- no file for a page is named
+abbrev pub NamesNoPageFile : ArgMatches → Type 0
+NamesNoPageFile matches = (words : ArgMatches)
+    → option_map (λ p. p.1) (subcommand_rows_of matches) ≡ Some (rows_of (found_of words))
+    → first_value (found_of words) (codes "page") ≡ None
+
 -- an option of the command has this value
 abbrev pub NamesOption : ArgMatches → List ℕ → List ℕ → Type 0
 NamesOption matches name value = (words : ArgMatches)
@@ -79,6 +85,16 @@ NamesNoRun matches = (words : ArgMatches)
 -- it is asked for
 abbrev pub NamesRun : ArgMatches → Type 0
 NamesRun matches = NamesOption matches (codes "run") (codes "true")
+
+-- a page is not asked for
+abbrev pub NamesNoPage : ArgMatches → Type 0
+NamesNoPage matches = (words : ArgMatches)
+    → option_map (λ p. p.1) (subcommand_rows_of matches) ≡ Some (rows_of (found_of words))
+    → IsUnset (one_text (found_of words) (codes "page"))
+
+-- it is asked for
+abbrev pub NamesPage : ArgMatches → Type 0
+NamesPage matches = NamesOption matches (codes "page") (codes "true")
 
 -- the reasons for stops are not asked for
 abbrev pub NamesNoReasons : ArgMatches → Type 0

@@ -5,8 +5,9 @@ ghost use Rattle.std.specs.Prelude.{◌≡◌, ℕ, Some, codes};
 ghost use Rattle.clap.specs.Matches.{found_of, one_text};
 ghost use Rattle.cmh_commands.specs.Drawing.{DrawsFiles, DrawsSome};
 ghost use Rattle.cmh_commands.specs.Files.{AuditsFiles, AuditsSomehow, ExplainsFiles, ListsFiles, ShowsFiles};
+ghost use Rattle.cmh_commands.specs.Paging.{PagesFiles, PlaysToPage};
 ghost use Rattle.cmh_commands.specs.Playing.{PlaysAlone, PlaysScript};
-ghost use Rattle.cmh.specs.CommandLine.{IsEnd, NamesAudit, NamesCluster, NamesDraw, NamesNoFolder, NamesNoReasons, NamesNoRun, NamesNothing, NamesOption, NamesReasons, NamesRun, NamesShow, NamesSite, NamesSiteNumber, ReadsNoInput, TellsNumber};
+ghost use Rattle.cmh.specs.CommandLine.{IsEnd, NamesAudit, NamesCluster, NamesDraw, NamesNoFolder, NamesNoPage, NamesNoPageFile, NamesNoReasons, NamesNoRun, NamesNothing, NamesOption, NamesPage, NamesReasons, NamesRun, NamesShow, NamesSite, NamesSiteNumber, ReadsNoInput, TellsNumber};
 ghost use Rattle.cmh.specs.Serving.{ServesCluster, ServesSite, ServesSome};
 ghost use Rattle.cmh_frames.specs.Number.{IsNumber};
 ghost use Rattle.cmh_draw.specs.Kinds.{kind_word};
@@ -18,9 +19,9 @@ ghost use Rattle.cmh_console.specs.Status.{IsStatus};
 use clap::{ArgMatches, Error, error};
 use cmh_carriers::{Noted, Voice};
 use cmh_commands::{
-    AUDIT, BACKLOG, CLUSTER, DRAW, EXPLAIN, FileFault, Help, JOURNAL, JOURNALS, Listener, NOTES, OUT,
-    PATIENCE, PLAY, PORT, QUIET, SERVE, SHOW, SITE, TOPOLOGY, audit, cluster_files_of, command,
-    draw, explanation, play_into, read_file, show,
+    AUDIT, BACKLOG, CLUSTER, DRAW, EXPLAIN, FileFault, Help, JOURNAL, JOURNALS, Listener, NOTES,
+    OUT, PAGE, PATIENCE, PLAY, PORT, QUIET, SERVE, SHOW, SITE, TOPOLOGY, audit, cluster_files_of,
+    command, draw_or_page, explanation, play_into, play_page, read_file, show,
 };
 use cmh_console::{Ahead, Fault, Input, Output};
 use cmh_frames::SiteId;
@@ -209,8 +210,11 @@ where
     ensures status { IsStatus result }
 
     // Where no command but `play` is named, a script is played.
-    ensures plays { NamesNothing matches.now → PlaysScript input.old input.new out.old out.new err.old err.new result }
-    ensures plays_alone { NamesNothing matches.now → NamesNoFolder matches.now
+    ensures plays { NamesNothing matches.now → NamesNoPageFile matches.now
+        → PlaysScript input.old input.new out.old out.new err.old err.new result }
+    ensures plays_to_page { NamesNothing matches.now
+        → PlaysToPage input.old input.new out.old out.new err.old err.new result }
+    ensures plays_alone { NamesNothing matches.now → NamesNoFolder matches.now → NamesNoPageFile matches.now
         → PlaysAlone input.old input.new out.old out.new err.old err.new result }
 
     // Where an audit is named, files are audited; the reasons for stops, or a run, are told where they are asked for.
@@ -222,13 +226,17 @@ where
         → ListsFiles out.old out.new err.old err.new result }
     ensures audits_some { NamesAudit matches.now → AuditsSomehow out.old out.new err.old err.new result }
 
-    // Where `show` or `draw` is named, lines of journals are written, or a picture of the kind and the format asked for.
+    // Where `show` or `draw` is named, lines of journals are written, or a picture of the kind and the format asked for, or
+    // a page.
     ensures shows { NamesShow matches.now → ShowsFiles out.old out.new err.old err.new result }
-    ensures draws { NamesDraw matches.now → (kind : kinds.Kind) → (format : formats.Format)
+    ensures draws { NamesDraw matches.now → NamesNoPage matches.now → (kind : kinds.Kind) → (format : formats.Format)
         → NamesOption matches.now (codes "kind") (kind_word kind)
         → NamesOption matches.now (codes "format") (format_word format)
         → DrawsFiles kind format out.old out.new err.old err.new result }
-    ensures draws_some { NamesDraw matches.now → DrawsSome out.old out.new err.old err.new result }
+    ensures draws_some { NamesDraw matches.now → NamesNoPage matches.now
+        → DrawsSome out.old out.new err.old err.new result }
+    ensures pages { NamesDraw matches.now → NamesPage matches.now
+        → PagesFiles out.old out.new err.old err.new result }
 
     // Where `site` is named, that site is served, and where `cluster` is named, all sites.
     ensures serves { NamesSite matches.now → (site : ℕ) → NamesSiteNumber matches.now site
@@ -242,7 +250,7 @@ where
         return audit(rt, words, out, err);
     }
     if let Some(words) = matches.subcommand_matches(DRAW) {
-        return draw(rt, words, out, err);
+        return draw_or_page(rt, words, out, err);
     }
     if let Some(words) = matches.subcommand_matches(SHOW) {
         return show(rt, words, out, err);
@@ -259,6 +267,9 @@ where
     if let Some(words) = matches.subcommand_matches(PLAY) {
         if let Some(path) = words.get_str(JOURNALS) {
             return play_into(rt, path, input, out, err);
+        }
+        if let Some(path) = words.get_str(PAGE) {
+            return play_page(rt, path, input, out, err);
         }
     }
     run_play(rt.alloc(), input, out, err)

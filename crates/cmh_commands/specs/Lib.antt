@@ -2,3 +2,4 @@ pub mod FileFaults
 pub mod Files
 pub mod Drawing
 pub mod Playing
+pub mod Paging

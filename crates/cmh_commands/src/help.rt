@@ -20,10 +20,12 @@ Lines of a script, by words; a line that fits none is answered `bad line`:
 ";
 
 const PLAY_STATUSES: &str = "\
-With --journals DIR the journal of each site N is written to DIR/site-N.cmhj, at each report and at the end.
+With --journals DIR the journal of each site N is written to DIR/site-N.cmhj, at each report and at the end. With
+--page FILE a page is written at the end that steps through the run in a browser, as by `cmh draw --page`.
 
 Statuses: 0 at the script's end, 1 where memory ran out, 2 for a command line that isn't understood, 3 at another
-fault, which is named on standard error: `fault input`, `fault output`, `fault file out` (a journal can't be written).
+fault, which is named on standard error: `fault input`, `fault output`, `fault file out` (a journal or the page can't be
+written), `fault page` (more than 20000 events).
 
 Example: printf 'site 1 1 2\\nask 1 2\\nask 2 1\\nstart 1\\nreport\\n' | cmh play
 ";
@@ -209,10 +211,15 @@ entries, and an arrow for each frame from the entry that sent it to the one that
 nobody got has an open end: it was lost, or waits on its link. Where the journals are refused, the entry at which a site
 stops is marked.
 
-Statuses: 0 where a picture was written, 1 where memory ran out, 2 for a command line that isn't understood, 3 at a
-fault, which is named on standard error as in `cmh audit --help`.
+With --page it writes a page in place of a picture: one HTML file that steps through the run in a browser, forward and
+back, with who waits for whom, what each controller knows and why each probe acted or was ignored. A page has at most
+20000 events; of more the fault is `fault page`.
+
+Statuses: 0 where a picture or a page was written, 1 where memory ran out, 2 for a command line that isn't understood, 3
+at a fault, which is named on standard error as in `cmh audit --help`.
 
 Example: cmh draw --topology world.json --kind run one.cmhj two.cmhj > run.svg
+Example: cmh draw --topology world.json --page one.cmhj two.cmhj > run.html
 Example: cmh draw --topology world.json --format dot one.cmhj two.cmhj | dot -Tpng > waits.png
 ";
 

@@ -1,5 +1,5 @@
 //! The command line: its commands, their options and the long help. The commands that only need files: `audit`, `show`,
-//! `draw`, and `play` into a folder, as the words of the command line name them.
+//! `draw`, and `play` into a folder or a page, as the words of the command line name them.
 #![tactic(auto)]
 
 mod auditing;
@@ -8,8 +8,10 @@ mod explaining;
 mod file_fault;
 mod files;
 mod help;
+mod kept_files;
 mod listener;
 mod options;
+mod paging;
 mod playing;
 mod topology_trouble;
 
@@ -23,7 +25,8 @@ pub use crate::files::{
 pub use crate::help::Help;
 pub use crate::listener::Listener;
 pub use crate::options::{
-    AUDIT, BACKLOG, CLUSTER, DRAW, EXPLAIN, FORMAT, JOURNAL, JOURNALS, KIND, NOTES, OUT, PATIENCE, PLAY,
-    PORT, QUIET, RUN, SCRIPT, SERVE, SHOW, SITE, TOPOLOGY, WHY, command,
+    AUDIT, BACKLOG, CLUSTER, DRAW, EXPLAIN, FORMAT, JOURNAL, JOURNALS, KIND, NOTES, OUT, PAGE,
+    PATIENCE, PLAY, PORT, QUIET, RUN, SCRIPT, SERVE, SHOW, SITE, TOPOLOGY, WHY, command,
 };
+pub use crate::paging::{draw_or_page, play_page};
 pub use crate::playing::play_into;

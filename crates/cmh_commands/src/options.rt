@@ -48,6 +48,8 @@ pub const FORMAT: &str = "format";
 
 pub const EXPLAIN: &str = "explain";
 
+pub const PAGE: &str = "page";
+
 const KINDS: &[&str] = &["waits", "run"];
 
 const FORMATS: &[&str] = &["dot", "svg"];
@@ -78,13 +80,15 @@ fn with<'a>(line: Command<'a>, command: Result<Command<'a>, Error>) -> Result<Co
 }
 
 fn play_command<'a>(alloc: Global, help: &'a Help) -> Result<Command<'a>, Error> {
+    let page = page_file_arg(alloc)?;
     let play = Command::new(alloc, PLAY)
         .about(
             "Plays a script from standard input on a world of sites in memory, and answers each line",
         )
-        .override_usage("cmh play < FILE [--journals DIR] [--explain]")
+        .override_usage("cmh play < FILE [--journals DIR | --page FILE] [--explain]")
         .after_help(help.play.as_str())
         .arg(folder_arg(alloc))?
+        .arg(page)?
         .arg(explain_arg(alloc))?;
     Ok(play)
 }
@@ -114,12 +118,14 @@ fn audit_command<'a>(alloc: Global, help: &'a Help) -> Result<Command<'a>, Error
 }
 
 fn draw_command<'a>(alloc: Global, help: &'a Help) -> Result<Command<'a>, Error> {
+    let page = page_arg(alloc)?;
     let draw = Command::new(alloc, DRAW)
         .about("Draws the journals of all sites: who waits for whom at their end, or what happened")
         .after_help(help.draw.as_str())
         .arg(topology_arg(alloc))?
         .arg(kind_arg(alloc))?
         .arg(format_arg(alloc))?
+        .arg(page)?
         .arg(explain_arg(alloc))?
         .arg(journals_arg(alloc).help("The journal files of all sites, in any order"))?;
     Ok(draw)
@@ -227,6 +233,28 @@ fn format_arg<'a>(alloc: Global) -> Arg<'a> {
     word_arg(alloc, FORMAT, FORMATS)
         .default_value("svg")
         .help("A picture that a browser opens, or text for Graphviz")
+}
+
+/// Whether a page is made in place of a picture.
+fn page_arg<'a>(alloc: Global) -> Result<Arg<'a>, Error> {
+    let page = Arg::new(alloc, PAGE)
+        .long(PAGE)
+        .help("A page that steps through the run in a browser, in place of a picture")
+        .action(ArgAction::SetTrue)
+        .conflicts_with(KIND)?
+        .conflicts_with(FORMAT)?;
+    Ok(page)
+}
+
+/// The page of a script that is played.
+fn page_file_arg<'a>(alloc: Global) -> Result<Arg<'a>, Error> {
+    let page = Arg::new(alloc, PAGE)
+        .long(PAGE)
+        .value_name("FILE")
+        .help("A page, made at the script's end, that steps through the run in a browser")
+        .action(ArgAction::Set)
+        .conflicts_with(JOURNALS)?;
+    Ok(page)
 }
 
 fn port_arg<'a>(alloc: Global) -> Arg<'a> {

@@ -200,10 +200,10 @@ impl PlayState {
         ensures fault { IfErr result (λ fault. (fault ≡ NoFile.Memory) ⊎ K.fails fault) }
     {
         match self {
-            PlayState::Played(world) => keeper.keep(alloc, world.journals()),
+            PlayState::Played(world) => keeper.keep(alloc, world.topology(), world.journals()),
             PlayState::Named(draft) => {
                 let world = Playground::new(alloc, draft.topology(), true)?;
-                keeper.keep(alloc, world.journals())
+                keeper.keep(alloc, draft.topology(), world.journals())
             }
         }
     }

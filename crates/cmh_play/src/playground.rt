@@ -76,6 +76,13 @@ impl Playground {
         self.topology.edition()
     }
 
+    /// The topology of the world.
+    pub fn topology(&self) -> &Topology
+        ensures { result.now ≡ self.now.topology }
+    {
+        &self.topology
+    }
+
     /// The journals of all sites, in the order of the topology, where they are kept.
     pub fn journals(&self) -> &[Journal]
         ensures { result.now ≡ self.now.history.journals }

@@ -6,6 +6,16 @@ returns-in-Some-clause-audits g c = λ named silent unasked.
 
 pub returns-in-Some-subcommand_matches-clause-draws :
     goal.returns-in-Some-subcommand_matches-clause-draws
-returns-in-Some-subcommand_matches-clause-draws g c = λ named kind format told how.
-    c.draw.ensures.draws kind format (told _ c.in-Some-subcommand_matches.ensures.rows)
-    (how _ c.in-Some-subcommand_matches.ensures.rows)
+returns-in-Some-subcommand_matches-clause-draws g c = λ named none kind format told how.
+    let rows = c.in-Some-subcommand_matches.ensures.rows in
+    c.draw_or_page.ensures.draws (none _ rows) kind format (told _ rows) (how _ rows)
+
+pub returns-in-Some-subcommand_matches-clause-draws_some :
+    goal.returns-in-Some-subcommand_matches-clause-draws_some
+returns-in-Some-subcommand_matches-clause-draws_some g c = λ named none.
+    c.draw_or_page.ensures.draws_some (none _ c.in-Some-subcommand_matches.ensures.rows)
+
+pub returns-in-Some-subcommand_matches-clause-pages :
+    goal.returns-in-Some-subcommand_matches-clause-pages
+returns-in-Some-subcommand_matches-clause-pages g c = λ named asked.
+    c.draw_or_page.ensures.pages (asked _ c.in-Some-subcommand_matches.ensures.rows)

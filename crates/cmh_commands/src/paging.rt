@@ -1,0 +1,120 @@
+//! Pages that step through a run: `draw --page` and `play --page`.
+
+ghost use Rattle.std.specs.Prelude.{◌≡◌, Some, codes};
+ghost use Rattle.clap.specs.Matches.{found_of, one_text};
+ghost use Rattle.cmh_draw.specs.Kinds.{kind_word};
+ghost use Rattle.cmh_draw.specs.declared.picture.Kind as kinds;
+ghost use Rattle.cmh_console.specs.Status.{IsStatus};
+ghost use Rattle.cmh_picture.specs.Formats.{format_word};
+ghost use Rattle.cmh_picture.specs.declared.format.Format as formats;
+ghost use Rattle.cmh_commands.specs.Drawing.{DrawsFiles, DrawsSome};
+ghost use Rattle.cmh_commands.specs.Files.{IsUnset};
+ghost use Rattle.cmh_commands.specs.Paging.{IsWritten, PagesFiles, PlaysToPage};
+ghost use Rattle.cmh_commands.specs.Playing.{PlaysScript};
+
+use crate::drawing::draw;
+use crate::files::files_of;
+use crate::kept_files::KeptFiles;
+use crate::options::PAGE;
+use clap::ArgMatches;
+use cmh_console::{Ahead, Fault, Input, Output};
+use cmh_page::{page_text, run_page};
+use cmh_play::run_play_keeping;
+use std::alloc::Global;
+use std::fs;
+use std::fs::File;
+use std::io::{BufRead, ErrorKind, Write};
+use std::rt::Files;
+
+/// Draws the journals that the words name, or writes a page of them where the words ask for one.
+pub fn draw_or_page<R: AllocGlobal + Files, W: Write, E: Write>(
+    rt: &R,
+    words: &ArgMatches<'_>,
+    out: &mut Output<W>,
+    err: &mut Output<E>,
+) -> u8
+    ensures status { IsStatus result }
+    ensures draws { IsUnset (one_text (found_of words.now) (codes "page")) → (kind : kinds.Kind) → (format : formats.Format)
+        → one_text (found_of words.now) (codes "kind") ≡ Some (kind_word kind)
+        → one_text (found_of words.now) (codes "format") ≡ Some (format_word format)
+        → DrawsFiles kind format out.old out.new err.old err.new result }
+    ensures draws_some { IsUnset (one_text (found_of words.now) (codes "page"))
+        → DrawsSome out.old out.new err.old err.new result }
+    ensures pages { one_text (found_of words.now) (codes "page") ≡ Some (codes "true")
+        → PagesFiles out.old out.new err.old err.new result }
+{
+    if words.get_flag(PAGE) {
+        return page(rt, words, out, err);
+    }
+    draw(rt, words, out, err)
+}
+
+/// Writes a page of the journals that the words name.
+fn page<R: AllocGlobal + Files, W: Write, E: Write>(
+    rt: &R,
+    words: &ArgMatches<'_>,
+    out: &mut Output<W>,
+    err: &mut Output<E>,
+) -> u8
+    ensures status { IsStatus result }
+    ensures pages { PagesFiles out.old out.new err.old err.new result }
+{
+    match files_of(rt, words) {
+        Ok(files) => run_page(rt.alloc(), &files.topology, &files.journals, out, err),
+        Err(fault) => Fault::from(fault).name_on(err),
+    }
+}
+
+/// Plays a script, and once its answers are flushed writes a page of its run to the file at a path.
+pub fn play_page<R: AllocGlobal + Files<File = File>, I: BufRead + Ahead, W: Write, E: Write>(
+    rt: &R,
+    path: &str,
+    input: &mut Input<I>,
+    out: &mut Output<W>,
+    err: &mut Output<E>,
+) -> u8
+    ensures status { IsStatus result }
+    ensures plays { PlaysToPage input.old input.new out.old out.new err.old err.new result }
+{
+    let alloc = rt.alloc();
+    let mut kept = KeptFiles::new(alloc);
+    let played = play_keeping(alloc, input, out, err, &mut kept);
+    if played != 0 {
+        return played;
+    }
+    match page_text(alloc, &kept.topology, &kept.journals) {
+        Ok(page) => write_page(rt, path, page.as_str(), err),
+        Err(fault) => fault.name_on(err),
+    }
+}
+
+/// Plays a script, and keeps the files of its world.
+fn play_keeping<I: BufRead + Ahead, W: Write, E: Write>(
+    alloc: Global,
+    input: &mut Input<I>,
+    out: &mut Output<W>,
+    err: &mut Output<E>,
+    kept: &mut KeptFiles,
+) -> u8
+    ensures status { IsStatus result }
+    ensures plays { PlaysScript input.old input.new out.old out.new err.old err.new result }
+{
+    run_play_keeping(alloc, input, out, err, kept)
+}
+
+/// Writes a page to the file at a path, in place of what stands there.
+fn write_page<R: Files<File = File>, E: Write>(
+    rt: &R,
+    path: &str,
+    page: &str,
+    err: &mut Output<E>,
+) -> u8
+    ensures status { IsStatus result }
+    ensures ends { IsWritten err.old err.new result }
+{
+    match fs::write(rt, path, page) {
+        Ok(()) => 0,
+        Err(error) if error.kind() == ErrorKind::OutOfMemory => Fault::Memory.name_on(err),
+        Err(_) => Fault::OutFile.name_on(err),
+    }
+}
