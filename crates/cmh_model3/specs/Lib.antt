@@ -1,0 +1,14 @@
+pub mod Lists
+pub mod Entries
+pub mod State
+pub mod Paths
+pub mod Rules
+pub mod Journals
+pub mod Runs
+pub mod Waits
+pub mod Stops
+pub mod Frames
+pub mod Laws
+pub mod Endings
+pub mod Victims
+pub mod Rest
