@@ -6,18 +6,9 @@
 //! entries, as the C library does, and prints how many were accepted: WHAT is `starts` (of a process that waits) or `asks`
 //! (a reply and the next ask). `cmh_bench link N` sends at least N frames of a station over a socket of
 //! 127.0.0.1, and prints how many came and how many that is a second.
-//!
-//! Its tests are what only threads of one program show: a station that is locked while others take and read, links that
-//! are served at the same time, and connections that are turned away.
 #![tactic(auto)]
 
-#[cfg(test)]
-mod busy_links;
-#[cfg(test)]
-mod fixture;
 mod link;
-#[cfg(test)]
-mod locking;
 mod seats;
 mod steps;
 mod world;

@@ -1,14 +1,16 @@
-//! Links of a site over carriers of a test's own: they wait for each other, fail, or are too many.
+//! Two links of a site that wait for each other.
 
 ghost use Rattle.std.specs.Prelude.{◌≡◌, None};
 
-use crate::fixture::{Member, Running, Shared, Watch, site, sites, start, wait_until};
-use cmh_carriers::{Gate, Incoming, IoFault, Line, Listen, TcpListen};
-use cmh_frames::{Entry, Event, SiteId};
-use cmh_links::{LinkFault, LinkState};
+use crate::fixture::{site, sites};
+use cmh_carriers::{Gate, Incoming, IoFault, Line, Listen, TcpDial};
+use cmh_frames::{Entry, Event};
+use cmh_journal::{Sink, SinkFault};
+use cmh_links::SiteThreads;
+use cmh_station::{KeptBoard, SharedStation, Station};
 use std::alloc::{AllocError, Global};
 use std::net::{Net, TcpStream};
-use std::sync::atomic::Ordering;
+use std::sync::atomic::{AtomicBool, AtomicU64, Ordering};
 use std::sync::{Arc, Wait};
 use std::test::Fail;
 use std::thread;
@@ -27,25 +29,48 @@ const SECOND: [u8; 11] = [0x43, 0x4D, 0x48, 1, 0, 2, 1, 0, 201, 1, 45];
 /// Request 202 301.
 const THIRD: [u8; 5] = [1, 0, 202, 1, 45];
 
-/// Bytes that are given once the site's journal has had so many syncs, or, too, once it accepts no more connections.
+/// What the sink and the carriers of a site tell a test.
+#[derive(Drop)]
+struct Watch {
+    /// How many syncs its journal had. The first is that of the header.
+    syncs: AtomicU64,
+    /// Whether it accepts no more connections.
+    has_shut: AtomicBool,
+}
+
+/// A sink that takes all, keeps nothing, and counts its syncs.
+#[derive(Drop)]
+struct Counting {
+    watch: Arc<Watch>,
+}
+
+impl Sink for Counting {
+    ghost failures = { λ _. 0 };
+
+    ghost known = { λ _. None };
+
+    ghost synced = { λ _. 0 };
+
+    fn write(&mut self, bytes: &[u8]) -> Result<usize, SinkFault> {
+        Ok(bytes.len())
+    }
+
+    fn sync(&mut self) -> Result<(), SinkFault> {
+        self.watch.syncs.fetch_add(1, Ordering::SeqCst);
+        Ok(())
+    }
+
+    fn faults(&self) -> u64 {
+        0
+    }
+}
+
+/// Bytes that are given once the site's journal has had so many syncs.
 #[derive(Clone, Copy)]
 struct Part {
     bytes: &'static [u8],
     syncs: u64,
-    is_late: bool,
 }
-
-const END: Part = Part {
-    bytes: &[],
-    syncs: 0,
-    is_late: false,
-};
-
-const LATE_END: Part = Part {
-    bytes: &[],
-    syncs: 0,
-    is_late: true,
-};
 
 /// A connection that gives its parts, the last one first, and then its end.
 #[derive(Drop)]
@@ -58,27 +83,10 @@ struct Gated<R: Clock + Drop> {
 }
 
 impl<R: Clock + Drop> Gated<R> {
-    fn new(
-        rt: R,
-        alloc: Global,
-        parts: &[Part],
-        watch: &Arc<Watch>,
-    ) -> Result<Gated<R>, AllocError> {
-        Ok(Gated {
-            rt,
-            parts: parts.to_vec(alloc)?,
-            watch: Arc::try_clone(watch)?,
-            over: false,
-            faults: 0,
-        })
-    }
-
     /// Whether the time of a part has come, within so many turns.
     fn has_come(&self, part: Part) -> bool {
         for _ in 0..TURNS {
-            let syncs = self.watch.syncs.load(Ordering::SeqCst);
-            let is_late = self.watch.has_shut.load(Ordering::SeqCst);
-            if syncs >= part.syncs && (is_late || !part.is_late) {
+            if self.watch.syncs.load(Ordering::SeqCst) >= part.syncs {
                 return true;
             }
             thread::sleep(&self.rt, Duration::from_millis(1));
@@ -95,8 +103,10 @@ impl<R: Clock + Drop> Incoming for Gated<R> {
     ghost is_over = { λ s. s.over };
 
     fn read(&mut self, buffer: &mut [u8]) -> Result<usize, IoFault> {
-        self.watch.reads.fetch_add(1, Ordering::SeqCst);
-        let part = self.parts.pop().unwrap_or(END);
+        let Some(part) = self.parts.pop() else {
+            self.over = true;
+            return Ok(0);
+        };
         let count = part.bytes.len();
         if count > buffer.len() || !self.has_come(part) {
             self.faults += 1;
@@ -167,29 +177,42 @@ impl<R: Clock + Send + Drop + 'static> Listen for Arrivals<R> {
     }
 }
 
-/// Site 3 of three, to which these connections come, the last one first. It reaches these sites at their ports.
+type Shared<R> = SharedStation<Counting, KeptBoard<R>>;
+
+type Running<R> = SiteThreads<R, Counting, KeptBoard<R>, TcpDial<R>>;
+
+/// Starts the threads of site 3 of three, to which these connections come, the last one first.
 fn start_3<R>(
     rt: R,
     alloc: Global,
     watch: &Arc<Watch>,
     waiting: Vec<Gated<R>>,
-    ports: &[(SiteId, u16)],
 ) -> Result<(Running<R>, Arc<Shared<R>>), Fail>
 where
     R: Wait + Threads + Clock + Net<Stream = TcpStream> + Copy + Send + Drop + 'static,
 {
-    let topology = sites(alloc, 3, 2)?;
+    let (topology, here) = (sites(alloc, 3)?, site(3)?);
+    let sink = Counting {
+        watch: Arc::try_clone(watch)?,
+    };
+    let Ok((station, taps, _)) = Station::new(rt, alloc, &topology, here, sink, 0) else {
+        return Err(Fail::from("no station"));
+    };
+    let Ok((shared, taps)) = SharedStation::new(alloc, station, taps) else {
+        return Err(Fail::from("no memory"));
+    };
+    let station = Arc::new(alloc, shared)?;
+    let theirs = Arc::try_clone(&station)?;
     let arrivals = Arrivals {
         waiting,
         watch: Arc::try_clone(watch)?,
         faults: 0,
     };
-    let third = Member {
-        topology: &topology,
-        site: site(3)?,
-        watch,
-    };
-    Ok(start(rt, alloc, &third, arrivals, ports)?)
+    let dial = TcpDial::new(rt, Vec::new(alloc));
+    match SiteThreads::start(rt, alloc, &topology, here, theirs, taps, arrivals, dial) {
+        Ok(threads) => Ok((threads, station)),
+        Err(_) => Err(Fail::from("no threads")),
+    }
 }
 
 /// The receipts of a journal.
@@ -203,66 +226,45 @@ fn tell_receipts(alloc: Global, journal: &[Entry]) -> Result<String, AllocError>
     Ok(got)
 }
 
+/// Looks each millisecond until the site accepts no more connections, for some seconds at most.
+fn await_shut<R: Clock>(rt: &R, watch: &Watch) {
+    for _ in 0..TURNS {
+        if watch.has_shut.load(Ordering::SeqCst) {
+            return;
+        }
+        thread::sleep(rt, Duration::from_millis(1));
+    }
+}
+
 /// The first link gives its frame once the station has taken one of the second, which gives another once the station has
 /// taken that of the first. (The first sync is that of the journal's header.)
 #[test]
 fn two_links_at_once(rt: HostRuntime) -> Result<(), Fail> {
     let alloc = rt.alloc();
-    let watch = Watch::new(alloc)?;
-    let part = |bytes, syncs| Part {
-        bytes,
-        syncs,
-        is_late: false,
+    let watch = Watch {
+        syncs: AtomicU64::new(0),
+        has_shut: AtomicBool::new(false),
     };
-    let first = Gated::new(rt, alloc, &[part(&FIRST, 2)], &watch)?;
-    let second = Gated::new(rt, alloc, &[part(&THIRD, 3), part(&SECOND, 0)], &watch)?;
-    let (site_3, station) = start_3(rt, alloc, &watch, vec![in alloc; second, first]?, &[])?;
-    wait_until(&rt, || watch.has_shut.load(Ordering::SeqCst));
+    let watch = Arc::new(alloc, watch)?;
+    let gated = |parts| -> Result<Gated<HostRuntime>, AllocError> {
+        Ok(Gated {
+            rt,
+            parts,
+            watch: Arc::try_clone(&watch)?,
+            over: false,
+            faults: 0,
+        })
+    };
+    let part = |bytes, syncs| Part { bytes, syncs };
+    let first = gated(vec![in alloc; part(&FIRST, 2)]?)?;
+    let second = gated(vec![in alloc; part(&THIRD, 3), part(&SECOND, 0)]?)?;
+    let (site_3, station) = start_3(rt, alloc, &watch, vec![in alloc; second, first]?)?;
+    await_shut(&rt, &watch);
     let _ = site_3.stop();
     let got = tell_receipts(alloc, station.lock(&rt).journal())?;
     assert_eq!(rt;
         got.as_str(),
         "request 201 301 from 2; request 101 301 from 1; request 202 301 from 2; "
     );
-    Ok(())
-}
-
-/// Each connection that is read is read to its end by one read, and stands until no more are accepted.
-#[test]
-fn while_256_connections_stand_no_other_is_read(rt: HostRuntime) -> Result<(), Fail> {
-    let alloc = rt.alloc();
-    let watch = Watch::new(alloc)?;
-    let mut waiting = Vec::with_capacity(alloc, 300)?;
-    for _ in 0..300 {
-        waiting.push(Gated::new(rt, alloc, &[LATE_END], &watch)?)?;
-    }
-    let (site_3, _) = start_3(rt, alloc, &watch, waiting, &[])?;
-    wait_until(&rt, || watch.has_shut.load(Ordering::SeqCst));
-    let _ = site_3.stop();
-    assert_eq!(rt; watch.reads.load(Ordering::SeqCst), 256);
-    Ok(())
-}
-
-/// Nobody connects to the site either: that accepting fails closes no link.
-#[test]
-fn a_failed_connect_closes_its_link_alone(rt: HostRuntime) -> Result<(), Fail> {
-    let alloc = rt.alloc();
-    let (one, two) = (site(1)?, site(2)?);
-    let watch = Watch::new(alloc)?;
-    let there = TcpListen::bind(&rt, alloc, 0)?;
-    let ports = [(two, there.port()?)];
-    let (mut site_3, _) = start_3(rt, alloc, &watch, Vec::new(alloc), &ports)?;
-    let counts = [site_3.connect(), site_3.connect()];
-    let links = site_3.links().lock(&rt);
-    let out = [links.state_out(one), links.state_out(two)];
-    let into = [links.state_in(one), links.state_in(two)];
-    drop(links);
-    let taps = site_3.stop();
-    assert_eq!(rt; counts, [(1, 1), (0, 0)]);
-    let failed = LinkState::Closed(LinkFault::Connect);
-    assert_eq!(rt; out, [Some(failed), Some(LinkState::Running)]);
-    assert_eq!(rt; into, [Some(LinkState::Fresh), Some(LinkState::Fresh)]);
-    assert_eq!(rt; taps.len(), 2);
-    assert_eq!(rt; [taps[0].to(), taps[1].to()], [one, two]);
     Ok(())
 }

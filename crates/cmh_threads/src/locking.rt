@@ -1,9 +1,10 @@
-//! Taps and readers of a station that is locked, and threads that sleep.
+//! A station that is locked while other threads take its frames and read its board.
 
-use crate::fixture::{Member, Shared, Watch, process, share, site, sites};
-use cmh_frames::{Event, Frame, ProcId, Request, Targets};
-use cmh_station::{BoardReader, ParkingTap};
-use std::alloc::{AllocError, Global};
+use crate::fixture::{process, site, sites};
+use cmh_frames::{Event, Frame, Request, Targets};
+use cmh_journal::MemSink;
+use cmh_station::{BoardReader, KeptBoard, ParkingTap, SharedStation, Station};
+use std::alloc::Global;
 use std::sync::Wait;
 use std::test::Fail;
 use std::thread::Threads;
@@ -33,29 +34,7 @@ fn read_soon(mut reader: BoardReader) -> Option<usize> {
     None
 }
 
-/// The first frame, for which the thread sleeps.
-fn take_woken<R: Wait>(rt: &R, mut tap: ParkingTap) -> Option<Frame> {
-    for _ in 0..TURNS {
-        let frame = tap.take();
-        if frame.is_some() {
-            return frame;
-        }
-        tap.park(rt);
-    }
-    None
-}
-
-fn ask(alloc: Global, asker: ProcId, holder: ProcId) -> Result<Event, AllocError> {
-    let targets = Targets::new(vec![in alloc; holder]?);
-    Ok(Event::Ask { asker, targets })
-}
-
-fn request(asker: ProcId, holder: ProcId) -> Result<Frame, Fail> {
-    if asker == holder {
-        return Err(Fail::from("a process asks for itself"));
-    }
-    Ok(Frame::Request(Request { asker, holder }))
-}
+type Shared<R> = SharedStation<MemSink, KeptBoard<R>>;
 
 /// What a locked station and two threads beside it came to.
 #[derive(Clone, Copy, Debug, PartialEq, Eq)]
@@ -89,48 +68,35 @@ fn first_of_two<R: Wait + Copy + Drop>(
     rt: R,
     alloc: Global,
 ) -> Result<(Shared<R>, Vec<ParkingTap>, Vec<BoardReader>), Fail> {
-    let topology = sites(alloc, 2, 1)?;
-    let watch = Watch::new(alloc)?;
-    let first = Member {
-        topology: &topology,
-        site: site(1)?,
-        watch: &watch,
+    let topology = sites(alloc, 2)?;
+    let sink = MemSink::new(alloc, None);
+    let Ok((station, taps, readers)) = Station::new(rt, alloc, &topology, site(1)?, sink, 1) else {
+        return Err(Fail::from("no station"));
     };
-    Ok(share(rt, alloc, &first, 1)?)
+    match SharedStation::new(alloc, station, taps) {
+        Ok((shared, taps)) => Ok((shared, taps, readers)),
+        Err(_) => Err(Fail::from("no memory")),
+    }
 }
 
 #[test]
 fn take_while_locked(rt: HostRuntime) -> Result<(), Fail> {
     let (asker, holder) = (process(101)?, process(201)?);
-    let wanted = request(asker, holder)?;
-    let event = ask(rt.alloc(), asker, holder)?;
+    if asker == holder {
+        return Err(Fail::from("a process asks for itself"));
+    }
+    let targets = Targets::new(vec![in rt.alloc(); holder]?);
     let (shared, mut taps, mut readers) = first_of_two(rt, rt.alloc())?;
     let (Some(tap), Some(reader)) = (taps.pop(), readers.pop()) else {
         return Err(Fail::from("no tap or no reader"));
     };
-    let came = step_locked(rt, &shared, &event, tap, reader)?;
+    let came = step_locked(rt, &shared, &Event::Ask { asker, targets }, tap, reader)?;
     let wanted = Came {
         stepped: true,
-        taken: Some(wanted),
+        taken: Some(Frame::Request(Request { asker, holder })),
         read: Some(0),
     };
     assert_eq!(rt; came, wanted);
     assert_eq!(rt; shared.into_station().journal().len(), 1);
-    Ok(())
-}
-
-#[test]
-fn a_thread_that_sleeps_is_woken(rt: HostRuntime) -> Result<(), Fail> {
-    let (asker, holder) = (process(101)?, process(201)?);
-    let event = ask(rt.alloc(), asker, holder)?;
-    let wanted = request(asker, holder)?;
-    let (shared, mut taps, _) = first_of_two(rt, rt.alloc())?;
-    let tap = taps.pop().ok_or("no tap")?;
-    let taking = thread::spawn(&rt, move || take_woken(&rt, tap))?;
-    let stepped = shared.lock(&rt).step(&rt, &event).is_ok();
-    shared.wake();
-    let taken = taking.join(&rt);
-    assert!(rt; stepped);
-    assert_eq!(rt; taken, Some(wanted));
     Ok(())
 }
