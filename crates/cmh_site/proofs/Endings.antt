@@ -1,15 +1,22 @@
 -- How a running site ends.
 use Rattle.std.proofs.Common.{◌≡◌, ℕ, Bool, true, false, List, [], ◌++◌, Option, sym, subst, inl, inr, true≢false}
-use Rattle.std.specs.Prelude.{IfSome, IsErr, MatchResult, Result, Ok, Err, codes}
+use Rattle.std.specs.Prelude.{◌⊎◌, IfErr, IfSome, IsErr, IsErrAnd, MatchResult, Result, Ok, Err, codes}
 use Rattle.std.specs.Io.KnownBytes.{Appends, Keeps}
 use Rattle.cmh_console.proofs.LinesSeen.{if_some}
 use Rattle.std.proofs.KnownBytes.{Appends-kept, Appends-trans}
 use Rattle.cmh_console.specs.declared.dialogue.DialogueFault.{DialogueFault}
+use Rattle.cmh_console.specs.declared.dialogue.DialogueFault.TheVariants as dialogue
 use Rattle.cmh_console.proofs.LineLemmas.{at_some}
 use Rattle.cmh_console.specs.Device.{Tells}
-use Rattle.cmh_console.specs.Dialogue.{Conversed, begin}
+use Rattle.cmh_console.specs.Dialogue.{Conversed, IsDialogueFault, begin}
 use Rattle.cmh_console.specs.declared.dialogue.Flow.{Flow}
-use Rattle.cmh_site.specs.Endings.{Served, Welcomed}
+use Rattle.cmh_host.specs.Setting.{IsSettingFault}
+use Rattle.cmh_host.specs.SiteFaults.{of_dialogue, of_setting}
+use Rattle.cmh_host.specs.declared.setting.SettingFault.{SettingFault}
+use Rattle.cmh_host.specs.declared.setting.SettingFault.TheVariants as setting
+use Rattle.cmh_host.specs.declared.site_fault.SiteFault.{SiteFault}
+use Rattle.cmh_host.specs.declared.site_fault.SiteFault.TheVariants.{JournalDisk, Listen, Output, Memory}
+use Rattle.cmh_site.specs.Endings.{IsSiteFault, Knows, Served, Welcomed}
 use Rattle.cmh_site.specs.SiteTalk.{IsTurnOfSite}
 
 -- a text, and then what was written of another
@@ -55,3 +62,49 @@ module _ (site : ℕ) (start : Option (List ℕ)) (old : Option (List ℕ)) wher
       let here = subst (λ (s : ℕ). IfSome start (λ bytes. Welcomed s was bytes old said has_failed r)) same talked in
       let fresh = subst (λ (w : Bool). IfSome start (λ bytes. Welcomed site w bytes old said has_failed r)) unconnected here in
       served said stopped kept has_failed r flow is fresh last flushed
+
+-- ---- why a site ends early
+
+module _ (topology : List ℕ) (site : ℕ) (bytes : Option (List ℕ)) (read_failed write_failed : Bool) {X : Type 0} (r : Result X SiteFault) where
+  caused : (fault : SiteFault) → IsErrAnd r (λ named. named ≡ fault) → IsSiteFault topology site bytes read_failed write_failed fault
+      → IfErr r (IsSiteFault topology site bytes read_failed write_failed)
+  caused fault is cause = of_result r is
+    where
+      of_result : (x : Result X SiteFault) → IsErrAnd x (λ named. named ≡ fault) → IfErr x (IsSiteFault topology site bytes read_failed write_failed)
+      of_result (Ok y) same = tt
+      of_result (Err named) same = subst (IsSiteFault topology site bytes read_failed write_failed) (sym same) cause
+
+  -- the topology file is that of no sites with ports
+  pub setting_err : (lower : SettingFault) → IsErrAnd r (λ fault. fault ≡ of_setting lower) → IsSettingFault topology lower
+      → IfErr r (IsSiteFault topology site bytes read_failed write_failed)
+  setting_err lower is cause = caused (of_setting lower) is (of_lower lower cause)
+    where
+      of_lower : (fault : SettingFault) → IsSettingFault topology fault → IsSiteFault topology site bytes read_failed write_failed (of_setting fault)
+      of_lower setting.Json h = h
+      of_lower (setting.Topology fault) h = h
+      of_lower setting.Memory h = tt
+
+  -- the site does not start
+  pub start_err : (lower : SiteFault) → IsErrAnd r (λ fault. fault ≡ lower) → (lower ≡ Listen) ⊎ (lower ≡ JournalDisk) ⊎ (lower ≡ Memory)
+      → Knows topology site true → IfErr r (IsSiteFault topology site bytes read_failed write_failed)
+  start_err lower is which known = caused lower is (of_lower which)
+    where
+      of_lower : (lower ≡ Listen) ⊎ (lower ≡ JournalDisk) ⊎ (lower ≡ Memory) → IsSiteFault topology site bytes read_failed write_failed lower
+      of_lower (inl listen) = subst (IsSiteFault topology site bytes read_failed write_failed) (sym listen) known
+      of_lower (inr (inl disk)) = subst (IsSiteFault topology site bytes read_failed write_failed) (sym disk) known
+      of_lower (inr (inr memory)) = subst (IsSiteFault topology site bytes read_failed write_failed) (sym memory) tt
+
+  -- a line is not read or not answered
+  pub dialogue_err : (lower : DialogueFault) → IsErrAnd r (λ fault. fault ≡ of_dialogue lower) → IsDialogueFault bytes read_failed write_failed lower
+      → IfErr r (IsSiteFault topology site bytes read_failed write_failed)
+  dialogue_err lower is cause = caused (of_dialogue lower) is (of_lower lower cause)
+    where
+      of_lower : (fault : DialogueFault) → IsDialogueFault bytes read_failed write_failed fault
+          → IsSiteFault topology site bytes read_failed write_failed (of_dialogue fault)
+      of_lower dialogue.Input h = h
+      of_lower dialogue.Output h = h
+      of_lower dialogue.Memory h = tt
+
+  -- the last line is not written
+  pub write_err : IsErrAnd r (λ fault. fault ≡ Output) → write_failed ≡ true → IfErr r (IsSiteFault topology site bytes read_failed write_failed)
+  write_err is failed = caused Output is failed

@@ -19,7 +19,7 @@ use cmh_console::{
 };
 use cmh_frames::{Event, SiteId, Topology};
 use cmh_host::{
-    JournalSink, Order, Running, RunningSite, Setting, SiteFault, SiteHandle, SiteLine, SiteReply,
+    JournalSink, Order, Running, RunningSite, SiteFault, SiteHandle, SiteLine, SiteReply,
     SiteSetup, SiteStart, System, answer_events, link_ends, parse_for_site, read_setting,
     start_site,
 };
@@ -108,13 +108,13 @@ where
     ensures fault { IfErr result
         (IsSiteFault start.now.topology.now start.now.site input.old.left input.new.has_failed out.new.has_failed) }
 {
-    let Setting { world, ports } = read_setting(rt.alloc(), start.topology)?;
-    if !world.has_site(start.site) {
+    let setting = read_setting(rt.alloc(), start.topology)?;
+    if !setting.world.has_site(start.site) {
         return Err(SiteFault::Site);
     }
     let setup = SiteSetup {
-        topology: &world,
-        ports: &ports,
+        topology: &setting.world,
+        ports: &setting.ports,
         site: start.site,
         journal: start.journal,
         patience: start.patience,
