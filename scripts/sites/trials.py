@@ -396,8 +396,8 @@ def many_connections(program):
     def trial(world, site):
         threads = site.threads()
         peers = [dial(world) for _ in range(300)]
-        yield 'the first ones make room for the last', all(is_closed(peer) for peer in peers[:44])
-        yield '256 stay', not any(is_readable(peer) for peer in peers[44:])
+        yield 'from the 257th on they are closed', all(is_closed(peer) for peer in peers[256:])
+        yield 'those before stay', not any(is_readable(peer) for peer in peers[:256])
         wait_until(lambda: site.threads() <= threads + 256, 'threads')
         for peer in peers:
             peer.close()

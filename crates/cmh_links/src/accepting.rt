@@ -20,6 +20,9 @@ use std::thread;
 use std::thread::{JoinHandle, Threads};
 use std::time::{Clock, Duration};
 
+/// A connection that told no hello by then gives its place to another, where as many stand as may.
+const SILENT_SECONDS: u64 = 5;
+
 /// A reading thread, and its connection.
 type Reading<L> = (JoinHandle<()>, Arc<Seat<L>>);
 
@@ -165,9 +168,9 @@ where
         }
     }
 
-    /// Where as many connections stand as may, ends the one that has told no hello for the longest time, so that those who
-    /// say nothing keep nobody away.
-    fn make_room<R: Wait + Threads>(&self, rt: &R, readers: &mut Vec<Reading<L::Line>>)
+    /// Where as many connections stand as may, ends the one that has told no hello for the longest time, if that is long
+    /// enough, so that those who say nothing keep nobody away.
+    fn make_room<R: Wait + Threads + Clock>(&self, rt: &R, readers: &mut Vec<Reading<L::Line>>)
         ensures fewer { vec_len readers.new ≤ vec_len readers.old }
     {
         if !turns_away(readers.len()) {
@@ -176,6 +179,12 @@ where
         let Some(place) = longest_silent(readers) else {
             return;
         };
+        if !readers[place]
+            .1
+            .is_silent_for(rt, Duration::from_secs(SILENT_SECONDS))
+        {
+            return;
+        }
         if readers[place].1.shut_if_silent(rt) {
             let (reader, _) = readers.swap_remove(place);
             reader.join(rt);

@@ -73,6 +73,14 @@ impl<L: Line + Drop> Seat<L> {
         }
     }
 
+    /// Whether it has told no good hello for this long.
+    pub fn is_silent_for<R: Clock>(&self, rt: &R, least: Duration) -> bool {
+        match (self.silent_since(), rt.monotonic()) {
+            (Some(since), Ok(now)) => now.saturating_sub(since) >= least,
+            _ => false,
+        }
+    }
+
     /// Ends it, if it is still to tell a good hello, and says whether it did.
     pub fn shut_if_silent<R: Wait>(&self, rt: &R) -> bool {
         if !self.is_awaited.swap(false, Ordering::SeqCst) {
