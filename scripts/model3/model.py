@@ -3,9 +3,10 @@
 
     scripts/model3/model.py [--wrong RULE] < SCRIPT
 
-It was written from docs/rules.md (section 8) and docs/formats.md alone and shares nothing with the program. Nothing here is
-clever: a report searches all paths of waits, over all entries. With --wrong one of the rules of WRONG takes the place of the
-right one, to show what goes wrong then; scripts/model3/run says what else is here. It needs python3 alone.
+It was written from docs/rules.md (section 8), docs/formats.md and the lines of tests/edition3/README.md, and shares nothing
+with the program. Nothing here is clever: a report searches all paths of waits, over all entries. With --wrong one of the rules
+of WRONG takes the place of the right one, to show what goes wrong then; scripts/model3/run says what else is here. It needs
+python3 alone.
 """
 import argparse
 import re
@@ -132,9 +133,8 @@ class Site:
         return reached
 
     def depends_on_itself(self, i, n):
-        return any(
-            self.is_here(k) and self.counts((i, k), i, n) and i in self.reach(k, i, n) for _, k in self.waits_of(i)
-        )
+        nexts = [k for _, k in self.waits_of(i) if self.is_here(k) and self.counts((i, k), i, n)]
+        return any(i in self.reach(k, i, n) for k in nexts)
 
     # ---- what an event changes and sends
 
