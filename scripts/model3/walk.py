@@ -82,6 +82,8 @@ class Walk:
             waits = laws.waits_after(self.world.entries)
             self.figures["drained"] += 1
             self.figures["cycles of drained runs"] += sum(1 for _ in laws.cycles(waits))
+            if self.random.random() < 0.3:
+                self.start_again()
             if self.random.random() < 0.7:
                 self.resolve()
 
@@ -93,6 +95,14 @@ class Walk:
         if any(self.world.links.values()):
             self.broken.append("deliveries go on")
         self.say(b"report")
+
+    def start_again(self):
+        """Some declared processes start again, and all frames come."""
+        for i in [i for site in self.world.sites.values() for i in site.declared]:
+            if self.random.random() < 0.7:
+                self.tell("start", i)
+        self.drain()
+        self.check()
 
     def resolve(self):
         """Each declared process that lies on a cycle withdraws all its waits, and all frames come."""
