@@ -1,0 +1,5 @@
+pub mod Takings
+pub mod WalkLists
+pub mod SiteLists
+pub mod Going
+pub mod Confluence

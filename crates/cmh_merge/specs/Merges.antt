@@ -1,0 +1,40 @@
+-- The merge of the journals of all sites.
+use Rattle.std.specs.Prelude.{◌≡◌, ℕ, ◌<◌, List, [], ◌∷◌, ◌++◌, ◌==◌, if◌then◌else◌, length, map, slice_index_or}
+use Rattle.cmh_runs.specs.declared.entry.Entry.{Entry}
+use Rattle.cmh_runs.specs.declared.entry.WorldEvent.{WorldEvent}
+use Rattle.cmh_runs.specs.Journals.{receipts_of}
+use Rattle.cmh_runs.specs.Runs.{IsBeginningOf, entries_of, receipts, sendings}
+
+-- no two are of one site
+abbrev pub AreDistinct : List ℕ → Type 0
+AreDistinct sites =
+    (j k : ℕ) → j < length sites → k < length sites → slice_index_or sites j 0 ≡ slice_index_or sites k 0 → j ≡ k
+
+module _ {E F : Type 0} where
+  -- what stands beside the site where it comes first; nothing where it is not among these
+  abbrev pub journal_of : List ℕ → List (List (Entry E F)) → ℕ → List (Entry E F)
+  journal_of [] journals s = []
+  journal_of (site ∷ sites) [] s = []
+  journal_of (site ∷ sites) (journal ∷ journals) s = if site == s then journal else journal_of sites journals s
+
+module _ {E F : Type 0} (got : ℕ → E → List F) where
+  -- at every moment of the list what came on a link is a beginning of what was sent on it
+  abbrev pub IsInOrder : List (WorldEvent E F) → Type 0
+  IsInOrder events =
+      (so_far : List (WorldEvent E F)) → IsBeginningOf so_far events
+      → (a b : ℕ) → IsBeginningOf (receipts got a b so_far) (sendings a b so_far)
+
+  -- no site got a frame of its own
+  abbrev pub NoneFromItself : (ℕ → List (Entry E F)) → Type 0
+  NoneFromItself journals = (s : ℕ) → receipts_of got s (journals s) ≡ []
+
+  -- The journals of these sites, of which `left` was not taken: what was taken comes from a list in order, whose sites
+  -- are these in turn; and no such list of beginnings of the journals has more.
+  pub record IsMerge (sites : List ℕ) (journals left : List (List (Entry E F))) (order : List ℕ) : Type 0 where
+    pub events : List (WorldEvent E F)
+    pub in_turn : map (λ (e : WorldEvent E F). e.site) events ≡ order
+    pub in_order : IsInOrder events
+    pub rest : (s : ℕ) → entries_of s events ++ journal_of sites left s ≡ journal_of sites journals s
+    pub most : NoneFromItself (journal_of sites journals) → (others : List (WorldEvent E F)) → IsInOrder others
+        → ((s : ℕ) → IsBeginningOf (entries_of s others) (journal_of sites journals s))
+        → (s : ℕ) → IsBeginningOf (entries_of s others) (entries_of s events)
