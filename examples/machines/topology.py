@@ -5,7 +5,7 @@ import json
 from dataclasses import dataclass
 from pathlib import Path
 
-DOORS = 22000    # on each machine the carrier of site S comes in by the port DOORS + S
+DOORS = 22000    # on each machine the tunnel of site S comes in by the port DOORS + S
 
 
 @dataclass(frozen=True)

@@ -1,4 +1,4 @@
-"""A running world: a machine for each place of a topology, with a site and its carrier on it."""
+"""A running world: a machine for each place of a topology, with a site and its tunnel on it."""
 from __future__ import annotations
 
 import os
@@ -57,7 +57,7 @@ class World:
         self.path = folder / 'machines.json'
         self.machines: dict[int, Machine] = {}
         self.sites: dict[int, Site] = {}
-        self.carriers: dict[int, Popen] = {}
+        self.tunnels: dict[int, Popen] = {}
 
     def __enter__(self) -> World:
         with ExitStack() as stack:
@@ -95,7 +95,7 @@ class World:
         shutil.copy(self.folder / 'certificates' / 'authority.pem', self.own_folder(site))
         shutil.copy(source / f'{name or own}.pem', self.own_folder(site) / f'{own}.pem')
 
-    # ---- sites and carriers
+    # ---- sites and tunnels
 
     def start_site(self, site: int) -> None:
         words = [needs.program(), 'site', '--topology', self.path, '--site', site, '--journal', self.journal(site)]
@@ -103,23 +103,26 @@ class World:
         self.sites[site] = Site(child, child.stdout.fileno(), child.stdin.fileno(), PATIENCE)
         self.sites[site].receive()    # `listening`; else Ended, with the site's fault
 
-    def start_carrier(self, site: int) -> None:
+    def configuration(self, site: int) -> str:
+        words = [HERE / 'tunnel', self.path, str(site), self.own_folder(site)]
+        return subprocess.run(words, check=True, capture_output=True, text=True).stdout
+
+    def start_tunnel(self, site: int) -> None:
         folder = self.own_folder(site)
-        made = subprocess.run([HERE / 'carrier', self.path, str(site), folder], check=True, capture_output=True, text=True)
-        (folder / 'carrier.conf').write_text(made.stdout)
-        with open(folder / 'carrier.log', 'w') as log:
-            carrier = self.machines[site].start('stunnel', folder / 'carrier.conf', stdin=DEVNULL, stdout=log, stderr=STDOUT)
-        self.carriers[site] = carrier
+        (folder / 'tunnel.conf').write_text(self.configuration(site))
+        with open(folder / 'tunnel.log', 'w') as log:
+            tunnel = self.machines[site].start('stunnel', folder / 'tunnel.conf', stdin=DEVNULL, stdout=log, stderr=STDOUT)
+        self.tunnels[site] = tunnel
         doors = len(self.topology.others(site))
-        wait_until(lambda: carrier.poll() is not None or len(self.listening(site)) >= 2 * doors, f'the carrier of site {site}')
-        if carrier.poll() is not None:
-            raise Missed(f'the carrier of site {site}: ' + (folder / 'carrier.log').read_text())
+        wait_until(lambda: tunnel.poll() is not None or len(self.listening(site)) >= 2 * doors, f'the tunnel of site {site}')
+        if tunnel.poll() is not None:
+            raise Missed(f'the tunnel of site {site}: ' + (folder / 'tunnel.log').read_text())
 
     def start(self) -> None:
         for site in self.topology.places:
             self.start_site(site)
         for site in self.topology.places:
-            self.start_carrier(site)
+            self.start_tunnel(site)
 
     def connect(self) -> bool:
         """Each site calls each other one: whether all links are open at both ends."""
