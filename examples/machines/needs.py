@@ -8,8 +8,8 @@ from pathlib import Path
 
 TOP = Path(__file__).resolve().parents[2]
 LEFT_OUT = 77  # the exit status where something is missing, by the custom of test programs
-PACKAGES = {'ip': 'iproute2', 'unshare': 'util-linux', 'nsenter': 'util-linux', 'setpriv': 'util-linux',
-            'stunnel': 'stunnel4', 'openssl': 'openssl'}
+PACKAGES = {'ip': 'iproute2', 'ss': 'iproute2', 'unshare': 'util-linux', 'nsenter': 'util-linux', 'setpriv': 'util-linux',
+            'stunnel': 'stunnel4', 'openssl': 'openssl', 'pgrep': 'procps'}
 
 
 def program() -> str | None:
@@ -24,18 +24,19 @@ def has_namespaces() -> bool:
     return subprocess.run(words, capture_output=True).returncode == 0
 
 
-def missing() -> list[str]:
-    """What is missing, and how to get it."""
+def missing(*files: str) -> list[str]:
+    """What is missing, these files among it, and how to get it."""
     lines = [f'{name} (apt-get install {package})' for name, package in PACKAGES.items() if shutil.which(name) is None]
     if program() is None:
         lines.append('the program cmh (cd crates/cmh && rt run < stdin, or PROGRAM=its path)')
+    lines += [f'{file} of the kernel' for file in files if not os.path.exists(file)]
     if not lines and not has_namespaces():
         lines.append('network namespaces (root, or a user who may make them: unshare --user --map-root-user COMMAND)')
     return lines
 
 
-def or_leave() -> None:
+def or_leave(*files: str) -> None:
     """Ends the program with `left out` and what is missing, if anything is."""
-    if lines := missing():
+    if lines := missing(*files):
         print('left out: needs ' + '; '.join(lines))
         raise SystemExit(LEFT_OUT)
