@@ -10,7 +10,7 @@ import time
 from collections.abc import Callable
 from contextlib import ExitStack
 from pathlib import Path
-from subprocess import DEVNULL, PIPE, STDOUT, Popen
+from subprocess import DEVNULL, PIPE, STDOUT
 from typing import Any
 
 sys.path.append(str(Path(__file__).resolve().parents[2] / 'clients' / 'python'))
@@ -57,7 +57,6 @@ class World:
         self.path = folder / 'machines.json'
         self.machines: dict[int, Machine] = {}
         self.sites: dict[int, Site] = {}
-        self.tunnels: dict[int, Popen] = {}
 
     def __enter__(self) -> World:
         with ExitStack() as stack:
@@ -103,20 +102,20 @@ class World:
         self.sites[site] = Site(child, child.stdout.fileno(), child.stdin.fileno(), PATIENCE)
         self.sites[site].receive()    # `listening`; else Ended, with the site's fault
 
-    def configuration(self, site: int) -> str:
-        words = [HERE / 'tunnel', self.path, str(site), self.own_folder(site)]
+    def configuration(self, site: int, *parts: str) -> str:
+        words = [HERE / 'tunnel', self.path, str(site), self.own_folder(site), *parts]
         return subprocess.run(words, check=True, capture_output=True, text=True).stdout
 
-    def start_tunnel(self, site: int) -> None:
-        folder = self.own_folder(site)
-        (folder / 'tunnel.conf').write_text(self.configuration(site))
-        with open(folder / 'tunnel.log', 'w') as log:
-            tunnel = self.machines[site].start('stunnel', folder / 'tunnel.conf', stdin=DEVNULL, stdout=log, stderr=STDOUT)
-        self.tunnels[site] = tunnel
-        doors = len(self.topology.others(site))
-        wait_until(lambda: tunnel.poll() is not None or len(self.listening(site)) >= 2 * doors, f'the tunnel of site {site}')
+    def start_tunnel(self, site: int, *parts: str) -> None:
+        """The ways out and the doors, or one part alone."""
+        file, log = (self.own_folder(site) / f'{"-".join(parts) or "tunnel"}.{ending}' for ending in ('conf', 'log'))
+        file.write_text(self.configuration(site, *parts))
+        awaited = len(self.listening(site)) + file.read_text().count('\naccept = ')
+        with open(log, 'w') as said:
+            tunnel = self.machines[site].start('stunnel', file, stdin=DEVNULL, stdout=said, stderr=STDOUT)
+        wait_until(lambda: tunnel.poll() is not None or len(self.listening(site)) >= awaited, f'the tunnel of site {site}')
         if tunnel.poll() is not None:
-            raise Missed(f'the tunnel of site {site}: ' + (folder / 'tunnel.log').read_text())
+            raise Missed(f'the tunnel of site {site}: {log.read_text()}')
 
     def start(self) -> None:
         for site in self.topology.places:
