@@ -147,9 +147,9 @@ class World:
     def is_declared(self, process: int) -> bool:
         return process in self.sites[self.site_of(process)].declared()
 
-    def audit(self) -> list[str]:
+    def audit(self, *options: str) -> list[str]:
         """The lines of an audit of all journals, of sites that run, too."""
-        words = [needs.program(), 'audit', '--topology', self.path, *map(self.journal, self.topology.places)]
+        words = [needs.program(), 'audit', *options, '--topology', self.path, *map(self.journal, self.topology.places)]
         done = subprocess.run(words, capture_output=True, text=True, timeout=PATIENCE)
         return (done.stdout + done.stderr).splitlines()
 
