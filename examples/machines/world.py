@@ -28,6 +28,9 @@ class Missed(Exception):
     """What was awaited did not come."""
 
 
+FAILURES = (Missed, Ended, RuntimeError, OSError, subprocess.SubprocessError)    # of what was started, or of the system
+
+
 def wait_until(holds: Callable[[], Any], what: str, patience: float = PATIENCE) -> Any:
     """Looks until it holds; answers what it was."""
     end = time.monotonic() + patience
