@@ -1,7 +1,6 @@
 """A running world: a machine for each place of a topology, with a site and its tunnel on it."""
 from __future__ import annotations
 
-import os
 import shutil
 import signal
 import subprocess
