@@ -401,6 +401,8 @@ def main():
         trials.check("20,001 events", (more.status, more.fault, os.path.exists(more.page)), (3, "fault page\n", False))
         drawn = trials.cmh("draw", "--page", "--topology", more.topology, *more.journals)
         trials.check("20,001 events, drawn", (drawn.returncode, drawn.stderr, drawn.stdout), (3, b"fault page\n", b""))
+        drawn = trials.cmh("draw", "--page", "--explain", "--topology", more.topology, *more.journals)
+        trials.check("20,001 events, explained", drawn.stderr, b"fault page\ncmh: a page tells at most 20,000 events\n")
         wide = Played(trials, "64 sites", wide_script())
         trial_of_text(trials, wide)
         driver, missing = browser()

@@ -1,11 +1,11 @@
 -- A script that is played, and then has a page or none.
-use Rattle.std.proofs.Common.{◌≡◌, ◌⊎◌, ℕ, List, inl, inr, refl, sym, subst, ◌∙◌}
+use Rattle.std.proofs.Common.{◌≡◌, ℕ, List, inl, inr, refl, sym, subst, ◌∙◌}
 use Rattle.cmh_console.specs.Device.{Reading, Writing}
 use Rattle.cmh_console.specs.Faults.{NamesFault}
 use Rattle.cmh_page.specs.PageFaults.{NamesPageFault}
 use Rattle.cmh_page.specs.Pages.{IsPageFault}
 use Rattle.cmh_play.specs.PlayFaults.{as_fault as of_play}
-use Rattle.cmh_commands.specs.Paging.{HasNoFile, IsWritten, NamesNoPage, PlaysToPage}
+use Rattle.cmh_commands.specs.Paging.{HasNoFile, IsWritten, PlaysToPage}
 use Rattle.cmh_commands.specs.Playing.{PlaysScript}
 
 module _ {R W E : Type 0} (was read : Reading R) (old new : Writing W) (err_old err_mid err_new : Writing E) (status end : ℕ)

@@ -1,5 +1,5 @@
 -- Why a file that the command line names is not read.
-use Rattle.std.specs.Prelude.{ℕ, ◌≤◌, ⊤}
+use Rattle.std.specs.Prelude.{◌≤◌, ⊤}
 use Rattle.cmh_console.specs.declared.faults.Fault.{Fault}
 use Rattle.cmh_console.specs.declared.faults.Fault.TheVariants as lines
 use Rattle.cmh_commands.specs.declared.file_fault.FileFault.{FileFault}

@@ -3,7 +3,7 @@
 
 use crate::file_fault::FileFault;
 use crate::files::{LONGEST_TOPOLOGY, read_file};
-use crate::options::{JOURNAL, JOURNALS, OUT, PORT, SCRIPT, SITE, TOPOLOGY};
+use crate::options::{JOURNAL, JOURNALS, OUT, PAGE, PORT, SCRIPT, SITE, TOPOLOGY};
 use crate::topology_trouble::{trouble_of_members, trouble_of_rows};
 use clap::ArgMatches;
 use cmh_console::{TopologyFile, Words, read_topology_file, read_topology_file_with_ports};
@@ -14,6 +14,80 @@ use std::alloc::{AllocError, Global};
 use std::fs;
 use std::io::ErrorKind;
 use std::rt::Files;
+
+/// What the line of a fault speaks of.
+#[derive(Clone, Copy)]
+enum Subject {
+    File,
+    Topology,
+    Journal,
+    Set,
+    Site,
+    Listen,
+    Input,
+    Output,
+    Page,
+    Memory,
+}
+
+/// A word behind `fault`, and what a line speaks of that has it.
+struct FaultWord {
+    word: &'static str,
+    subject: Subject,
+}
+
+const SUBJECTS: &[FaultWord] = &[
+    FaultWord {
+        word: "file",
+        subject: Subject::File,
+    },
+    FaultWord {
+        word: "json",
+        subject: Subject::Topology,
+    },
+    FaultWord {
+        word: "topology",
+        subject: Subject::Topology,
+    },
+    FaultWord {
+        word: "journal",
+        subject: Subject::Journal,
+    },
+    FaultWord {
+        word: "set",
+        subject: Subject::Set,
+    },
+    FaultWord {
+        word: "site",
+        subject: Subject::Site,
+    },
+    FaultWord {
+        word: "listen",
+        subject: Subject::Listen,
+    },
+    FaultWord {
+        word: "input",
+        subject: Subject::Input,
+    },
+    FaultWord {
+        word: "output",
+        subject: Subject::Output,
+    },
+    FaultWord {
+        word: "page",
+        subject: Subject::Page,
+    },
+];
+
+/// What a line with this word speaks of; of memory, where it is no other.
+fn subject_of(word: &[u8]) -> Subject {
+    for each in SUBJECTS {
+        if each.word.as_bytes() == word {
+            return each.subject;
+        }
+    }
+    Subject::Memory
+}
 
 /// The line that explains the line of a fault; the words are those of the command that ended with it.
 ///
@@ -30,25 +104,30 @@ pub fn explanation<R: AllocGlobal + Files>(
     };
     let mut fault = Words::new(line);
     let _ = fault.next_word();
-    match fault.next_word() {
-        Some(b"file") => explain_file(rt, words, &mut fault, &mut text)?,
-        Some(b"json" | b"topology") => explain_topology(rt, words, &mut text)?,
-        Some(b"journal") => explain_journal(words, &mut fault, &mut text)?,
-        Some(b"set") => explain_set(rt, words, &mut fault, &mut text)?,
-        Some(b"site") => {
-            let path = words.get_str(TOPOLOGY).unwrap_or("");
-            let site = words.get_str(SITE).unwrap_or("");
-            write!(text, "{path}: there is no site {site}")?;
-        }
-        Some(b"listen") => explain_ports(rt, words, &mut text)?,
-        Some(b"input") => write!(text, "standard input can't be read")?,
-        Some(b"output") => write!(text, "standard output can't be written, or nobody reads it")?,
-        _ => write!(text, "memory was refused")?,
+    match subject_of(fault.next_word().unwrap_or(b"")) {
+        Subject::File => explain_file(rt, words, &mut fault, &mut text)?,
+        Subject::Topology => explain_topology(rt, words, &mut text)?,
+        Subject::Journal => explain_journal(words, &mut fault, &mut text)?,
+        Subject::Set => explain_set(rt, words, &mut fault, &mut text)?,
+        Subject::Site => explain_site(words, &mut text)?,
+        Subject::Listen => explain_ports(rt, words, &mut text)?,
+        Subject::Input => write!(text, "standard input can't be read")?,
+        Subject::Output => write!(text, "standard output can't be written, or nobody reads it")?,
+        Subject::Page => write!(text, "a page tells at most 20,000 events")?,
+        Subject::Memory => write!(text, "memory was refused")?,
     }
     Ok(text)
 }
 
-/// Of a file that was not read, or a folder whose files can't be written.
+/// Of a site that the topology does not have.
+fn explain_site(words: &ArgMatches<'_>, text: &mut String) -> Result<(), AllocError> {
+    let path = words.get_str(TOPOLOGY).unwrap_or("");
+    let site = words.get_str(SITE).unwrap_or("");
+    write!(text, "{path}: there is no site {site}")?;
+    Ok(())
+}
+
+/// Of a file that was not read, or one that can't be written.
 fn explain_file<R: AllocGlobal + Files>(
     rt: &R,
     words: &ArgMatches<'_>,
@@ -56,14 +135,38 @@ fn explain_file<R: AllocGlobal + Files>(
     text: &mut String,
 ) -> Result<(), AllocError> {
     let place = fault.next_word().unwrap_or(b"");
-    let path = match place {
-        b"topology" => words.get_str(TOPOLOGY),
-        b"script" => words.get_str(SCRIPT),
-        b"out" => words.get_str(OUT).or(words.get_str(JOURNALS)),
-        place => journal_at(words, Words::new(place).number()),
-    };
-    let path = path.unwrap_or("");
-    let cause = cause_of(rt, path, place == b"out".as_slice());
+    if place == OUT.as_bytes() {
+        return explain_out(rt, words, text);
+    }
+    let path = path_at(words, place).unwrap_or("");
+    let cause = cause_of(rt, path, false);
+    write!(text, "{path}: {cause}")?;
+    Ok(())
+}
+
+/// The file that a fault names by this word.
+fn path_at<'a>(words: &ArgMatches<'a>, place: &[u8]) -> Option<&'a str> {
+    if place == TOPOLOGY.as_bytes() {
+        return words.get_str(TOPOLOGY);
+    }
+    if place == SCRIPT.as_bytes() {
+        return words.get_str(SCRIPT);
+    }
+    journal_at(words, Words::new(place).number())
+}
+
+/// Of a page that can't be written, or a folder whose files can't be.
+fn explain_out<R: AllocGlobal + Files>(
+    rt: &R,
+    words: &ArgMatches<'_>,
+    text: &mut String,
+) -> Result<(), AllocError> {
+    if let Some(path) = words.get_str(PAGE) {
+        write!(text, "{path}: no page can be written there")?;
+        return Ok(());
+    }
+    let path = words.get_str(OUT).or(words.get_str(JOURNALS)).unwrap_or("");
+    let cause = cause_of(rt, path, true);
     write!(text, "{path}: {cause}")?;
     Ok(())
 }
