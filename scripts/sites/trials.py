@@ -369,6 +369,23 @@ def second_connection(program):
     yield from alone(program, trial)
 
 
+def two_links_at_once(program):
+    """Two links of a site that wait for each other: each gives a frame only once one of the other is in the journal."""
+    with World(program, {1: [101], 2: [201, 202], 3: [301]}) as world:
+        site = world.start(3)
+        site.await_listening()
+        first, second = dial(world, 3), dial(world, 3)
+        first.sendall(HELLO)
+        site.await_link('in 1', 'open')
+        wanted = ['request 201 301 from 2', 'request 101 301 from 1', 'request 202 301 from 2']
+        for count, (peer, data) in enumerate(((second, '434D4801000201 00C9 012D'), (first, '01 0065 012D'), (second, '01 00CA 012D')), 1):
+            peer.sendall(bytes.fromhex(data))
+            wait_until(lambda: len(world.entries(3)) == count, '%d requests' % count)
+        shown = subprocess.run([program, 'show', world.journal(3)], capture_output=True, text=True, timeout=patience()).stdout
+        yield 'each has its turn', [line.split(' got ')[1] for line in shown.splitlines()[1:]] == wanted
+        yield 'it ends', site.end()
+
+
 def own_hello(program):
     def trial(world, site):
         for hello in ('434D48010002', '434D48020001', '434D48010003', '434D4A010001'):
@@ -558,7 +575,7 @@ def few_files(program):
 # ---- all trials
 
 TRIALS = [two_sites, three_sites, storm, late_peer, lines_ahead, killed_peer, full_disk, kept_journals, started_twice, silent_peers, slow_hello, noise, cut_frame,
-          second_connection, own_hello, resets, many_connections, held_by_silent_peers, closed_output, clusters,
+          second_connection, two_links_at_once, own_hello, resets, many_connections, held_by_silent_peers, closed_output, clusters,
           full_disk_of_a_cluster, two_clusters, few_files, python_client, lost_sites, ends_by_signal, kills, *SERVICES, *CROWDS, *UNINVITED, *LISTENING]
 
 OPERATION_SECONDS = 40.0  # that a trial of operation may take
