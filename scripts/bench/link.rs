@@ -1,4 +1,4 @@
-//! What `cmh_bench link N` does, in plain Rust: a thread that makes frames, a bounded channel, a writing thread, a
+//! A link in plain Rust, to hold one of a site against: a thread that makes frames, a bounded channel, a writing thread, a
 //! connection on 127.0.0.1, and a reading thread that takes the bytes apart and counts the frames. It keeps no journal.
 //!
 //! `rustc -O scripts/bench/link.rs -o link && ./link N` has the sizes of the links: a channel of 64 places, writes of

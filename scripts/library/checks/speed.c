@@ -1,5 +1,5 @@
-/* How long calls take, in nanoseconds of processor time. `starts` and `asks` are the events of `cmh_bench seat`: starts of
- * a process that waits; a reply to it and its next ask.
+/* How long calls take, in nanoseconds of processor time. `starts` are starts of a process that waits, `asks` a reply to it and
+ * its next ask.
  */
 #define _POSIX_C_SOURCE 200809L
 #include "spell.h"
