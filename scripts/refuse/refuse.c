@@ -1,6 +1,7 @@
 /* Preloaded into a program, this refuses the Nth call of one kind, once, or lets each read and write move one byte.
 
-   REFUSE=KIND:N         KIND is memory, read, write, sync or thread; the Nth call of it, counted from 1, fails
+   REFUSE=KIND:N         KIND is memory, read, write, sync or thread; the Nth call of it, counted from 1, fails. Of the kinds
+                         interrupted-read and interrupted-write a signal interrupts it; of empty-write it takes nothing
    REFUSE=short          each read and each write moves at most one byte
    REFUSE=short KIND:N   both
    EARLIER=1             where a file has one beside it with the ending .earlier, that one is read the first time
@@ -22,14 +23,15 @@ extern void *__libc_malloc(size_t);
 extern void *__libc_calloc(size_t, size_t);
 extern void *__libc_realloc(void *, size_t);
 
-enum kind { NONE, MEMORY, READ, WRITE, SYNC, THREAD };
+enum kind { NONE, MEMORY, READ, WRITE, SYNC, THREAD, INTERRUPTED_READ, INTERRUPTED_WRITE, EMPTY_WRITE };
 static enum kind wanted;
 static int moves_one;
 static long place, calls, allocations;
 
 __attribute__((constructor)) static void begin(void) {
     static const struct { const char *name; enum kind kind; } kinds[] = {
-        {"memory:", MEMORY}, {"read:", READ}, {"write:", WRITE}, {"sync:", SYNC}, {"thread:", THREAD}};
+        {"memory:", MEMORY}, {"read:", READ}, {"write:", WRITE}, {"sync:", SYNC}, {"thread:", THREAD},
+        {"interrupted-read:", INTERRUPTED_READ}, {"interrupted-write:", INTERRUPTED_WRITE}, {"empty-write:", EMPTY_WRITE}};
     const char *text = getenv("REFUSE");
     allocations = 0;
     if (text && strncmp(text, "short", 5) == 0) {
@@ -73,12 +75,13 @@ void *calloc(size_t count, size_t size) { return no_memory() ? NULL : __libc_cal
 void *realloc(void *block, size_t size) { return no_memory() ? NULL : __libc_realloc(block, size); }
 
 ssize_t read(int file, void *buffer, size_t size) {
-    if (refused(READ, EIO)) return -1;
+    if (refused(READ, EIO) || refused(INTERRUPTED_READ, EINTR)) return -1;
     return syscall(SYS_read, file, buffer, moves_one && size > 1 ? 1 : size);
 }
 
 ssize_t write(int file, const void *buffer, size_t size) {
-    if (refused(WRITE, EIO)) return -1;
+    if (refused(WRITE, EIO) || refused(INTERRUPTED_WRITE, EINTR)) return -1;
+    if (refused(EMPTY_WRITE, 0)) return 0;
     return syscall(SYS_write, file, buffer, moves_one && size > 1 ? 1 : size);
 }
 
