@@ -10,7 +10,7 @@ use Rattle.cmh_runs.proofs.Beginnings.{beginning_more, beginning_nil, beginning_
 use Rattle.cmh_runs.proofs.Journals.{entries_elsewhere, entries_here, entries_of-append, receipts_of-append, receipts_of-beginning, sendings_of-beginning}
 use Rattle.cmh_merge.specs.Queues.{Queues, waiting}
 use Rattle.cmh_merge.specs.Merges.{IsInOrder, IsMerge, NoneFromItself, journal_of}
-use Rattle.cmh_merge.specs.Merging.{IsMerging, StuckAt}
+use Rattle.cmh_merge.specs.Inner.Merging.{IsMerging, StuckAt}
 use Rattle.cmh_merge.proofs.SiteLists.{place_of_some}
 
 none_of : {X : Type 0} (xs ys : List X) → IsBeginningOf xs ys → ys ≡ [] → xs ≡ []

@@ -9,7 +9,7 @@ use Rattle.cmh_runs.proofs.Beginnings.{beginning_nil, beginning_push}
 use Rattle.cmh_runs.proofs.Journals.{entries_elsewhere, entries_here, entries_of-append, got_on, receipts-more, sendings-more, sent_on}
 use Rattle.cmh_merge.specs.Queues.{Queues, waiting}
 use Rattle.cmh_merge.specs.Merges.{AreDistinct, journal_of}
-use Rattle.cmh_merge.specs.Merging.{GoesOn, IsMerging, StuckAt, TakesAt, site_at, total}
+use Rattle.cmh_merge.specs.Inner.Merging.{GoesOn, IsMerging, StuckAt, TakesAt, site_at, total}
 use Rattle.cmh_merge.proofs.SiteLists.{journal_at, journal_elsewhere, map_push, total-set}
 
 module _ {E F : Type 0} (got : ℕ → E → List F) (sites : List ℕ) where

@@ -3,7 +3,7 @@ use Rattle.std.proofs.Common.{◌≡◌, ◌≢◌, ℕ, zero, suc, ◌+◌, ◌
 use Rattle.std.proofs.lemmas.Bool.{cases_eq, eq-eqb, ne_eqb}
 use Rattle.cmh_runs.specs.declared.entry.Entry.{Entry}
 use Rattle.cmh_merge.specs.Merges.{AreDistinct, journal_of}
-use Rattle.cmh_merge.specs.Merging.{site_at, total}
+use Rattle.cmh_merge.specs.Inner.Merging.{site_at, total}
 
 pub map_push : {X Y : Type 0} (f : X → Y) (xs : List X) (x : X) → map f (xs ++ x ∷ []) ≡ map f xs ++ f x ∷ []
 map_push f [] x = refl

@@ -7,7 +7,7 @@ use Rattle.cmh_runs.specs.Runs.{IsBeginningOf}
 use Rattle.cmh_runs.proofs.Sent.{to-append}
 use Rattle.cmh_merge.specs.Queues.{Queues, waiting, only_at}
 use Rattle.cmh_merge.specs.Walks.{GotFrom, GotNothing}
-use Rattle.cmh_merge.specs.Takings.{CanTake, IsStuck, MovesFrames, ReceivesFrame, SendsFrames}
+use Rattle.cmh_merge.specs.Inner.Takings.{CanTake, IsStuck, MovesFrames, ReceivesFrame, SendsFrames}
 
 if_none : {X : Type 0} (c : Bool) (xs : List X) → xs ≡ [] → (if c then xs else []) ≡ []
 if_none true xs h = h

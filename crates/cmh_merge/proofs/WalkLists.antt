@@ -4,7 +4,7 @@ use Rattle.std.specs.Prelude.{MatchBool}
 use Rattle.std.proofs.lemmas.List.{get_or-map, length-map, map-set}
 use Rattle.std.proofs.Math.Seq.{map-set_same}
 use Rattle.cmh_merge.specs.declared.walk.SiteWalk.{SiteWalk}
-use Rattle.cmh_merge.specs.Inner.{lefts_of, sites_of}
+use Rattle.cmh_merge.specs.Walks.{lefts_of, sites_of}
 
 module _ {W L : Type 0} (left : W → List L) (xs : List (SiteWalk W)) (k : ℕ) (w : SiteWalk W) (l : k < length xs) (is : get_or xs k w ≡ w) where
   pub site_is : get_or (sites_of xs) k 0 ≡ w.site

@@ -29,15 +29,3 @@ module _ {F : Type 0} where
   -- each queue is as it was
   abbrev pub SameQueues : Queues F → Queues F → Type 0
   SameQueues old new = (a b : ℕ) → waiting new a b ≡ waiting old a b
-
-  -- ---- the same in one row
-
-  abbrev pub only_to : ℕ → F → ℕ → List F
-  only_to to frame b = if to == b then frame ∷ [] else []
-
-  abbrev pub if_some_to : ℕ → Option F → ℕ → List F
-  if_some_to to None b = []
-  if_some_to to (Some frame) b = only_to to frame b
-
-  abbrev pub SameRow : List (List F) → List (List F) → Type 0
-  SameRow old new = (b : ℕ) → queue_at new b ≡ queue_at old b

@@ -3,8 +3,8 @@
 ghost use Rattle.std.specs.Prelude.{◌≡◌, ℕ, ◌<◌, false, List, length, IfOk, MatchBool, map};
 ghost use Rattle.cmh_runs.specs.declared.entry.Entry.{Entry};
 ghost use Rattle.cmh_merge.specs.Merges.{AreDistinct, IsMerge};
-ghost use Rattle.cmh_merge.specs.Merging.{GoesOn, StuckAt, TakesAt};
-ghost use Rattle.cmh_merge.specs.Inner.{lefts_of, sites_of};
+ghost use Rattle.cmh_merge.specs.Inner.Merging.{GoesOn, StuckAt, TakesAt};
+ghost use Rattle.cmh_merge.specs.Walks.{lefts_of, sites_of};
 
 use crate::queues::Queues;
 use crate::taking::take_next;

@@ -2,7 +2,8 @@
 
 ghost use Rattle.std.specs.Prelude.{◌≡◌, ◌++◌, ◌∷◌, [], ℕ, ◌<◌, length, slice_get, OnOk, OnErr};
 ghost use Rattle.std.specs.Option.{option_to_list};
-ghost use Rattle.cmh_merge.specs.Queues.{SameQueues, SameRow, if_some_at, if_some_to, only_at, only_to, queue_at, waiting};
+ghost use Rattle.cmh_merge.specs.Queues.{SameQueues, if_some_at, only_at, queue_at, waiting};
+ghost use Rattle.cmh_merge.specs.Inner.Rows.{SameRow, if_some_to, only_to};
 
 use cmh_runs::SiteId;
 use std::alloc::{AllocError, Global};

@@ -1,7 +1,7 @@
 //! One entry is taken.
 
 ghost use Rattle.std.specs.Prelude.{◌≡◌, IfOk, MatchBool, OnOk};
-ghost use Rattle.cmh_merge.specs.Takings.{CanTake, IsStuck, SendsFrames, Takes};
+ghost use Rattle.cmh_merge.specs.Inner.Takings.{CanTake, IsStuck, SendsFrames, Takes};
 
 use crate::queues::Queues;
 use crate::walk::{Next, Walk};

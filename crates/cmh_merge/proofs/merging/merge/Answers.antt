@@ -1,7 +1,7 @@
 use Rattle.std.proofs.Common.{◌≡◌, ℕ, ◌<◌, List, length, refl, ap, sym, subst, arith, ◌∙◌}
-use Rattle.cmh_merge.specs.Inner.{lefts_of, sites_of}
+use Rattle.cmh_merge.specs.Walks.{lefts_of, sites_of}
 use Rattle.cmh_merge.specs.Merges.{AreDistinct}
-use Rattle.cmh_merge.specs.Merging.{IsMerging, StuckAt}
+use Rattle.cmh_merge.specs.Inner.Merging.{IsMerging, StuckAt}
 use Rattle.cmh_merge.proofs.Confluence.{merged}
 use Rattle.cmh_merge.proofs.Going.{merging_start}
 use Rattle.cmh_merge.proofs.WalkLists.{length_lefts, length_sites}

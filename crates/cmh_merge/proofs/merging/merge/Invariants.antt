@@ -1,6 +1,6 @@
 use Rattle.std.proofs.Common.{◌≡◌, ℕ, ◌+◌, ◌*◌, ◌<◌, false, length, if◌then◌else◌}
-use Rattle.cmh_merge.specs.Inner.{lefts_of, sites_of}
-use Rattle.cmh_merge.specs.Merging.{IsMerging, StuckAt, total}
+use Rattle.cmh_merge.specs.Walks.{lefts_of, sites_of}
+use Rattle.cmh_merge.specs.Inner.Merging.{IsMerging, StuckAt, total}
 use Rattle.cmh_merge.proofs.merging.merge.Given as goal
 
 abbrev pub invariant-loop-moves : goal.invariant-loop-moves

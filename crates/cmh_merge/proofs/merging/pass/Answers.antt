@@ -1,6 +1,6 @@
 use Rattle.std.proofs.Common.{ℕ, List, length, refl, sym, ap, subst, arith, ◌∙◌}
-use Rattle.cmh_merge.specs.Inner.{lefts_of, sites_of}
-use Rattle.cmh_merge.specs.Merging.{GoesOn, StuckAt}
+use Rattle.cmh_merge.specs.Walks.{lefts_of, sites_of}
+use Rattle.cmh_merge.specs.Inner.Merging.{GoesOn, StuckAt}
 use Rattle.cmh_merge.proofs.Going.{goes_both, goes_first, stuck_both}
 use Rattle.cmh_merge.proofs.WalkLists.{length_sites}
 use Rattle.cmh_merge.proofs.merging.pass.Goals as goal

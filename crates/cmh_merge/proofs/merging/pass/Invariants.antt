@@ -1,6 +1,6 @@
 use Rattle.std.proofs.Common.{◌≡◌, ℕ, ◌<◌, false}
-use Rattle.cmh_merge.specs.Inner.{lefts_of, sites_of}
-use Rattle.cmh_merge.specs.Merging.{GoesOn, StuckAt}
+use Rattle.cmh_merge.specs.Walks.{lefts_of, sites_of}
+use Rattle.cmh_merge.specs.Inner.Merging.{GoesOn, StuckAt}
 use Rattle.cmh_merge.proofs.merging.pass.Given as goal
 
 abbrev pub invariant-loop-place : goal.invariant-loop-place

@@ -1,6 +1,6 @@
 use Rattle.std.proofs.Common.{ℕ, ◌<◌, List, true, length, sym, subst, subst₂, arith, ◌∙◌}
-use Rattle.cmh_merge.specs.Inner.{lefts_of, sites_of}
-use Rattle.cmh_merge.specs.Merging.{GoesOn, StuckAt}
+use Rattle.cmh_merge.specs.Walks.{lefts_of, sites_of}
+use Rattle.cmh_merge.specs.Inner.Merging.{GoesOn, StuckAt}
 use Rattle.cmh_merge.proofs.Going.{goes_on, goes_one}
 use Rattle.cmh_merge.proofs.WalkLists.{if_false, if_true, length_lefts}
 use Rattle.cmh_merge.proofs.merging.take_all_at.Goals as goal

@@ -1,6 +1,6 @@
 use Rattle.std.proofs.Common.{◌≡◌}
-use Rattle.cmh_merge.specs.Inner.{lefts_of, sites_of}
-use Rattle.cmh_merge.specs.Merging.{GoesOn, total}
+use Rattle.cmh_merge.specs.Walks.{lefts_of, sites_of}
+use Rattle.cmh_merge.specs.Inner.Merging.{GoesOn, total}
 use Rattle.cmh_merge.proofs.merging.take_all_at.Given as goal
 
 abbrev pub invariant-loop-moved : goal.invariant-loop-moved

@@ -1,6 +1,6 @@
 use Rattle.std.proofs.Common.{◌≡◌, Bool, [], ◌∷◌, ◌++◌, get_or, subst, subst₂, sym, ap, refl, ◌∙◌}
 use Rattle.std.specs.Prelude.{MatchBool}
-use Rattle.cmh_merge.specs.Takings.{IsStuck, Takes}
+use Rattle.cmh_merge.specs.Inner.Takings.{IsStuck, Takes}
 use Rattle.cmh_merge.proofs.WalkLists.{left_is, same_lefts, same_sites, set_left, site_is}
 use Rattle.cmh_merge.proofs.merging.take_at.Goals as goal
 

@@ -1,6 +1,6 @@
 use Rattle.std.proofs.Common.{ℕ, List, [], ◌∷◌, ◌++◌, take, subst, sym, ap, ◌∙◌}
 use Rattle.std.proofs.lemmas.List.{take_more}
-use Rattle.cmh_merge.specs.Takings.{SendsFrames}
+use Rattle.cmh_merge.specs.Inner.Takings.{SendsFrames}
 use Rattle.cmh_merge.proofs.Takings.{sends_more}
 use Rattle.cmh_merge.proofs.taking.send_all.Goals as goal
 

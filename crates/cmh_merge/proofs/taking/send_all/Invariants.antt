@@ -1,5 +1,5 @@
 use Rattle.std.proofs.Common.{take}
-use Rattle.cmh_merge.specs.Takings.{SendsFrames}
+use Rattle.cmh_merge.specs.Inner.Takings.{SendsFrames}
 use Rattle.cmh_merge.proofs.taking.send_all.Given as goal
 
 abbrev pub invariant-loop-to : goal.invariant-loop-to

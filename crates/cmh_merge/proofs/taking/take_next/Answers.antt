@@ -1,6 +1,6 @@
 use Rattle.std.proofs.Common.{◌≡◌, ℕ, List, ◌∷◌, Bool, subst, sym, ap, ◌∙◌}
 use Rattle.std.specs.Prelude.{MatchBool}
-use Rattle.cmh_merge.specs.Takings.{CanTake, IsStuck, SendsFrames}
+use Rattle.cmh_merge.specs.Inner.Takings.{CanTake, IsStuck, SendsFrames}
 use Rattle.cmh_merge.proofs.Takings.{moves_both}
 use Rattle.cmh_merge.proofs.taking.take_next.Goals as goal
 

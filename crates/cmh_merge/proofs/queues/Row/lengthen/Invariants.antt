@@ -1,5 +1,5 @@
 use Rattle.std.proofs.Common.{◌≤◌, length}
-use Rattle.cmh_merge.specs.Queues.{SameRow}
+use Rattle.cmh_merge.specs.Inner.Rows.{SameRow}
 use Rattle.cmh_merge.proofs.queues.Row.lengthen.Given as goal
 
 abbrev pub invariant-loop : goal.invariant-loop

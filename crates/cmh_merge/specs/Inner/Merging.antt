@@ -4,7 +4,7 @@ use Rattle.cmh_runs.specs.declared.entry.Entry.{Entry}
 use Rattle.cmh_runs.specs.declared.entry.WorldEvent.{WorldEvent}
 use Rattle.cmh_runs.specs.Runs.{entries_of, receipts, sendings}
 use Rattle.cmh_merge.specs.Queues.{Queues, waiting}
-use Rattle.cmh_merge.specs.Takings.{IsStuck, Takes}
+use Rattle.cmh_merge.specs.Inner.Takings.{IsStuck, Takes}
 use Rattle.cmh_merge.specs.Merges.{AreDistinct, IsInOrder, journal_of}
 
 -- how many entries are left
