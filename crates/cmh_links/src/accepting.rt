@@ -105,18 +105,88 @@ where
 {
     let gate = accepter.listen.gate()?;
     let unparker = accepter.parker.unparker().clone().ok()?;
-    let spawned = thread::spawn(
-        &rt,
-        move || -> ()
-            requires { L.failures accepter.listen ≡ 0 }
-        { accepter.accept_all(rt, alloc) },
-    );
-    let thread = spawned.ok()?;
+    let thread = spawn_accepter(rt, alloc, accepter)?;
     Some(Accepting {
         thread,
         unparker,
         gate,
     })
+}
+
+/// Starts the thread that accepts. It stands apart, so that a failure here has less to drop.
+fn spawn_accepter<R, S, B, L>(
+    rt: R,
+    alloc: Global,
+    accepter: Accepter<S, B, L>,
+) -> Option<JoinHandle<()>>
+where
+    R: Wait + Threads + Clock + Copy + Send + Drop + 'static,
+    S: Sink + Send + 'static,
+    B: Listing + Send + 'static,
+    L: Listen + Send + Drop + 'static,
+    requires { L.failures accepter.listen ≡ 0 }
+{
+    let accepter = NewAccepter { accepter };
+    thread::spawn(&rt, move || run_accepter(rt, alloc, accepter)).ok()
+}
+
+/// An accepter of which no call has failed yet. That stands in its type, since the closure of a thread takes no condition
+/// over from what it calls.
+#[derive(Drop)]
+struct NewAccepter<S: Sink, B: Listing, L: Listen> {
+    accepter: Accepter<S, B, L>,
+    ghost unfailed: { L.failures accepter.listen ≡ 0 },
+}
+
+/// Accepts connections and starts a reading thread for each, until accepting fails or the site is ending. Once it is
+/// ending it waits for these threads.
+fn run_accepter<R, S, B, L>(rt: R, alloc: Global, accepter: NewAccepter<S, B, L>)
+where
+    R: Wait + Threads + Clock + Copy + Send + Drop + 'static,
+    S: Sink + Send + 'static,
+    B: Listing + Send + 'static,
+    L: Listen + Drop,
+{
+    let NewAccepter { mut accepter } = accepter;
+    let mut readers: Vec<Reading<L::Line>> = Vec::new(alloc);
+    accepter.accept_all(rt, alloc, &mut readers);
+    accepter.shared.note(&rt, Note::AcceptingEnded);
+    let Accepter {
+        shared,
+        seats: _,
+        listen,
+        parker,
+    } = accepter;
+    listen.shut();
+    drop(listen);
+    await_end(&rt, &shared, &parker);
+    join_all(&rt, &shared, readers);
+}
+
+/// Waits until the site is ending.
+fn await_end<R: Wait, S: Sink, B: Listing>(rt: &R, shared: &Shared<S, B>, parker: &Parker) {
+    for _ in rt.forever() {
+        if shared.ending.load(Ordering::SeqCst) {
+            break;
+        }
+        parker.park(rt);
+    }
+}
+
+/// Waits for the reading threads. Where the site doesn't wait for its peers, their connections are ended first.
+fn join_all<R, S, B, L>(rt: &R, shared: &Shared<S, B>, readers: Vec<Reading<L>>)
+where
+    R: Wait + Threads,
+    S: Sink,
+    B: Listing,
+    L: Line + Drop,
+{
+    for (reader, seat) in readers {
+        if shared.cutting.load(Ordering::SeqCst) {
+            seat.shut(rt);
+        }
+        reader.join(rt);
+    }
 }
 
 impl<S, B, L> Accepter<S, B, L>
@@ -125,15 +195,12 @@ where
     B: Listing + Send + 'static,
     L: Listen,
 {
-    /// Accepts connections and starts a reading thread for each, until accepting fails or the site is ending. Once it is
-    /// ending it waits for these threads.
-    fn accept_all<R>(mut self, rt: R, alloc: Global)
+    /// Accepts connections and starts a reading thread for each, until accepting fails or the site is ending.
+    fn accept_all<R>(&mut self, rt: R, alloc: Global, readers: &mut Vec<Reading<L::Line>>)
     where
         R: Wait + Threads + Clock + Copy + Send + Drop + 'static,
-        L: Drop,
-        requires { L.failures self.listen ≡ 0 }
+        requires { L.failures self.old.listen ≡ 0 }
     {
-        let mut readers: Vec<Reading<L::Line>> = Vec::new(alloc);
         for _ in rt.forever() {
             let Ok(incoming) = self.listen.accept() else {
                 break;
@@ -141,30 +208,9 @@ where
             if self.shared.ending.load(Ordering::SeqCst) {
                 break;
             }
-            give_up(&rt, &mut readers);
-            self.make_room(&rt, &mut readers);
-            self.admit(rt, alloc, incoming, &mut readers);
-        }
-        self.shared.note(&rt, Note::AcceptingEnded);
-        let Accepter {
-            shared,
-            seats: _,
-            listen,
-            parker,
-        } = self;
-        listen.shut();
-        drop(listen);
-        for _ in rt.forever() {
-            if shared.ending.load(Ordering::SeqCst) {
-                break;
-            }
-            parker.park(&rt);
-        }
-        for (reader, seat) in readers {
-            if shared.cutting.load(Ordering::SeqCst) {
-                seat.shut(&rt);
-            }
-            reader.join(&rt);
+            give_up(&rt, readers);
+            self.make_room(&rt, readers);
+            self.admit(rt, alloc, incoming, readers);
         }
     }
 
@@ -296,12 +342,8 @@ where
     L: Line + Drop,
     requires { I.failures incoming ≡ 0 }
 {
-    if let (Ok(mine), Ok(taken), Ok(mut reader)) = (
-        Arc::try_clone(&shared),
-        Arc::try_clone(&seat),
-        reader_of(alloc, &shared),
-    ) {
-        let mut entrance = StationHandover::new(rt, mine, taken);
+    if let Ok(mut reader) = reader_of(alloc, &shared) {
+        let mut entrance = StationHandover::new(rt, &shared, &seat);
         let end = run_reader(
             &rt,
             &mut incoming,

@@ -179,11 +179,11 @@ where
     ensures unconnected { closed_with 1 (result ∷ []) ≡ [] }
 {
     let to = tap.to();
-    let (Ok(theirs), Ok(own)) = (Arc::try_clone(shared), Arc::try_clone(shared)) else {
+    let Ok(theirs) = Arc::try_clone(shared) else {
         connection.seat.leave(&rt);
         return closed(&rt, shared, tap.into_tap(), LinkFault::Memory);
     };
-    let run = move || write_unless_abandoned(rt, theirs, own, tap, connection);
+    let run = move || write_unless_abandoned(rt, theirs, tap, connection);
     match thread::spawn_with(&rt, GivesBack { to }, run) {
         Ok(writer) => Place::Writing(writer),
         Err(refused) => {
@@ -213,7 +213,6 @@ fn abandon<S: Sink, B: Listing, F: FnOnce() -> LinkTap>(
 fn write_unless_abandoned<R, S, B, O, L>(
     rt: R,
     shared: Arc<Shared<S, B>>,
-    own: Arc<Shared<S, B>>,
     tap: ParkingTap,
     connection: Connection<O, L>,
 ) -> LinkTap
@@ -232,7 +231,7 @@ where
         seat.leave(&rt);
         return tap.into_tap();
     }
-    let tap = write_link(rt, &shared, own, tap, &mut out);
+    let tap = write_link(rt, &shared, tap, &mut out);
     // Its seat has another handle of the connection.
     drop(out);
     seat.leave(&rt);
@@ -240,13 +239,7 @@ where
 }
 
 /// Writes the frames of a tap until the site ends or a write fails, and closes the link.
-fn write_link<R, S, B, O>(
-    rt: R,
-    shared: &Shared<S, B>,
-    own: Arc<Shared<S, B>>,
-    tap: ParkingTap,
-    out: &mut O,
-) -> ParkingTap
+fn write_link<R, S, B, O>(rt: R, shared: &Shared<S, B>, tap: ParkingTap, out: &mut O) -> ParkingTap
 where
     R: Wait + Copy + Drop,
     S: Sink,
@@ -259,7 +252,7 @@ where
         (O.taken out.old) (O.taken out.new) (O.failures out.old) (O.failures out.new) fault) }
 {
     let to = tap.to();
-    let mut exit = TapSource::new(rt, own, tap);
+    let mut exit = TapSource::new(rt, shared, tap);
     let fault = run_writer(&rt, out, shared.edition, shared.site, &mut exit);
     let why = fault.unwrap_or(LinkFault::Ended);
     shared.links.lock(&rt).close_out(to, why);

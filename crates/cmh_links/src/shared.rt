@@ -120,16 +120,16 @@ fn push_other(sites: &mut Vec<SiteId>, other: SiteId, site: SiteId) -> Result<()
 
 /// Where a reading thread hands its frames to the station that all share.
 #[derive(Drop)]
-pub(crate) struct StationHandover<R: Wait + Drop, S: Sink, B: Listing, L: Line + Drop> {
+pub(crate) struct StationHandover<'a, R: Wait + Drop, S: Sink, B: Listing, L: Line + Drop> {
     rt: R,
-    shared: Arc<Shared<S, B>>,
-    seat: Arc<Seat<L>>,
+    shared: &'a Shared<S, B>,
+    seat: &'a Seat<L>,
     refused: Option<StationRefusal>,
 }
 
-impl<R: Wait + Drop, S: Sink, B: Listing, L: Line + Drop> StationHandover<R, S, B, L> {
+impl<'a, R: Wait + Drop, S: Sink, B: Listing, L: Line + Drop> StationHandover<'a, R, S, B, L> {
     /// It has refused nothing.
-    pub fn new(rt: R, shared: Arc<Shared<S, B>>, seat: Arc<Seat<L>>) -> Self
+    pub fn new(rt: R, shared: &'a Shared<S, B>, seat: &'a Seat<L>) -> Self
         ensures { result.refused ≡ None }
     {
         StationHandover {
@@ -141,7 +141,8 @@ impl<R: Wait + Drop, S: Sink, B: Listing, L: Line + Drop> StationHandover<R, S, 
     }
 }
 
-impl<R: Wait + Drop, S: Sink, B: Listing, L: Line + Drop> Handover for StationHandover<R, S, B, L> {
+impl<'a, R: Wait + Drop, S: Sink, B: Listing, L: Line + Drop> Handover
+    for StationHandover<'a, R, S, B, L> {
     ghost accepted = { λ _. None };
 
     ghost refused = { λ s. s.refused };
@@ -176,17 +177,17 @@ impl<R: Wait + Drop, S: Sink, B: Listing, L: Line + Drop> Handover for StationHa
 
 /// Where a writing thread takes its frames from the tap of its link.
 #[derive(Drop)]
-pub(crate) struct TapSource<R: Wait + Drop, S: Sink, B: Listing> {
+pub(crate) struct TapSource<'a, R: Wait + Drop, S: Sink, B: Listing> {
     rt: R,
-    shared: Arc<Shared<S, B>>,
+    shared: &'a Shared<S, B>,
     tap: ParkingTap,
     /// How many looks it told.
     looks: u64,
     over: bool,
 }
 
-impl<R: Wait + Drop, S: Sink, B: Listing> TapSource<R, S, B> {
-    pub fn new(rt: R, shared: Arc<Shared<S, B>>, tap: ParkingTap) -> Self
+impl<'a, R: Wait + Drop, S: Sink, B: Listing> TapSource<'a, R, S, B> {
+    pub fn new(rt: R, shared: &'a Shared<S, B>, tap: ParkingTap) -> Self
         ensures { result.tap ≡ tap }
     {
         TapSource {
@@ -200,7 +201,7 @@ impl<R: Wait + Drop, S: Sink, B: Listing> TapSource<R, S, B> {
 
     /// The tap comes back.
     pub fn into_tap(self) -> ParkingTap
-        ensures { result ≡ self.tap }
+        ensures { result ≡ self.entry.tap }
     {
         let TapSource {
             rt: _,
@@ -249,7 +250,7 @@ fn next_of<R: Wait, S: Sink, B: Listing>(
     unreachable!()
 }
 
-impl<R: Wait + Drop, S: Sink, B: Listing> FrameSource for TapSource<R, S, B> {
+impl<'a, R: Wait + Drop, S: Sink, B: Listing> FrameSource for TapSource<'a, R, S, B> {
     ghost given = { λ s. Some s.tap.taken };
 
     ghost is_over = { λ s. s.over };
@@ -257,7 +258,7 @@ impl<R: Wait + Drop, S: Sink, B: Listing> FrameSource for TapSource<R, S, B> {
     ghost link_to = { λ s. s.tap.to };
 
     fn next(&mut self) -> Next {
-        let next = next_of(&self.rt, &self.shared, &mut self.tap, &mut self.looks);
+        let next = next_of(&self.rt, self.shared, &mut self.tap, &mut self.looks);
         if next == Next::End {
             self.over = true;
         }

@@ -1,8 +1,8 @@
 //! The running threads of a site.
 
-ghost use Rattle.std.specs.Prelude.{◌≡◌, ◌+◌, ◌≤◌, [], length, map, vec_len, IfOk, IfErr};
+ghost use Rattle.std.specs.Prelude.{◌≡◌, ◌+◌, ◌≤◌, ◌++◌, [], length, map, reverse, vec_len, IfOk, IfErr, IfSome};
 ghost use Rattle.std.specs.Vec.{vec_capacity};
-ghost use Rattle.cmh_links.specs.Threads.{closed_with, connected_in, failed_in, link_sites, site_of};
+ghost use Rattle.cmh_links.specs.Threads.{closed_with, connected_in, failed_in, leads_to, link_sites, site_of};
 
 use crate::accepting::{Accepter, Accepting, start_accepting};
 use crate::backlog::BacklogLimit;
@@ -52,6 +52,46 @@ pub struct SiteThreads<R, S: Sink, B: Listing, D: Dial> {
     ghost none_back: { taps.items ≡ [] },
     ghost unconnected: { length (closed_with 1 places.items) ≡ dial },
     ghost causes: { failed_in places.items ≡ length (closed_with 1 places.items) + length (closed_with 6 places.items) },
+}
+
+/// The threads that a site starts with, and what opens its links.
+struct Started<D: Dial> {
+    dial: Dialler<D>,
+    accepting: Accepting,
+    watching: JoinHandle<()>,
+}
+
+/// Starts the accepting thread and the watching thread. `None` where memory or a thread was refused.
+fn start_threads<R, S, B, L, D>(
+    rt: R,
+    alloc: Global,
+    shared: &Arc<Shared<S, B>>,
+    listen: L,
+    dial: D,
+) -> Option<Started<D>>
+where
+    R: Wait + Threads + Clock + Copy + Send + Drop + 'static,
+    S: Sink + Send + 'static,
+    B: Listing + Send + 'static,
+    L: Listen + Send + Drop + 'static,
+    D: Dial + Drop,
+    requires { L.failures listen ≡ 0 }
+    ensures { IfSome result (λ started. started.dial ≡ D.failures dial) }
+{
+    let dial = Dialler::new(alloc, dial).ok()?;
+    let accepter = Accepter::new(alloc, shared, listen).ok()?;
+    let watching = start_watching(rt, shared, accepter.seats(), dial.seats())?;
+    match start_accepting(rt, alloc, accepter) {
+        Some(accepting) => Some(Started {
+            dial,
+            accepting,
+            watching,
+        }),
+        None => {
+            stop_watching(&rt, shared, watching);
+            None
+        }
+    }
 }
 
 /// The states of a site's links, which another thread looks at.
@@ -132,24 +172,23 @@ where
             backlog,
             speaker,
         } = parts;
-        let Ok(shared) = Shared::open(alloc, topology, site, station, backlog, speaker) else {
-            return Err(taps);
-        };
-        let (Ok(accepter), Ok(dial), Ok(places), Ok(room)) = (
-            Accepter::new(alloc, &shared, listen),
-            Dialler::new(alloc, dial),
+        let (Ok(places), Ok(room)) = (
             Vec::with_capacity(alloc, taps.len()),
             Vec::with_capacity(alloc, taps.len()),
         ) else {
             return Err(taps);
         };
-        let Some(watching) = start_watching(rt, &shared, accepter.seats(), dial.seats()) else {
+        let Ok(shared) = Shared::open(alloc, topology, site, station, backlog, speaker) else {
             return Err(taps);
         };
-        let Some(accepting) = start_accepting(rt, alloc, accepter) else {
-            stop_watching(&rt, &shared, watching);
+        let Some(started) = start_threads(rt, alloc, &shared, listen, dial) else {
             return Err(taps);
         };
+        let Started {
+            dial,
+            accepting,
+            watching,
+        } = started;
         let mut waiting = taps;
         waiting.reverse();
         Ok(SiteThreads {
@@ -243,22 +282,49 @@ where
             places,
             taps,
         } = self;
-        let mut taps = taps;
-        let mut waiting = waiting;
-        for place in places {
-            let tap = match place {
-                Place::Idle(tap) => tap,
-                Place::Closed { tap, fault: _ } => tap,
-                Place::Draining { drain, fault: _ } => drain.join(&rt),
-                Place::Writing(writer) => writer.join(&rt),
-            };
-            taps.push_reserved(tap);
-        }
-        while let Some(tap) = waiting.pop() {
-            taps.push_reserved(tap.into_tap());
-        }
+        let taps = with_waiting(waiting, taps_of(&rt, places, taps));
         accepting.stop(&rt);
         stop_watching(&rt, &shared, watching);
         taps
     }
+}
+
+/// The taps of places, in their order, once the threads that have them have ended.
+fn taps_of<R: Wait + Threads>(rt: &R, places: Vec<Place>, room: Vec<LinkTap>) -> Vec<LinkTap>
+    requires none { room.items ≡ [] }
+    requires enough { vec_len places ≤ vec_capacity room }
+    ensures count { vec_len result ≡ vec_len places }
+    ensures room { vec_capacity result ≡ vec_capacity room }
+    ensures sites { map site_of result.items ≡ map leads_to places.items }
+{
+    let mut taps = room;
+    for place in places {
+        taps.push_reserved(tap_of(rt, place));
+    }
+    taps
+}
+
+/// The tap of a place, once the thread that has it has ended.
+fn tap_of<R: Wait + Threads>(rt: &R, place: Place) -> LinkTap
+    ensures { result.to ≡ leads_to place }
+{
+    match place {
+        Place::Idle(tap) => tap,
+        Place::Closed { tap, fault: _ } => tap,
+        Place::Draining { drain, fault: _ } => drain.join(rt),
+        Place::Writing(writer) => writer.join(rt),
+    }
+}
+
+/// Taps, and behind them those that wait, the last one first.
+fn with_waiting(waiting: Vec<ParkingTap>, taps: Vec<LinkTap>) -> Vec<LinkTap>
+    requires room { vec_len taps + vec_len waiting ≤ vec_capacity taps }
+    ensures { map site_of result.items ≡ map site_of taps.items ++ map site_of (reverse waiting.items) }
+{
+    let mut waiting = waiting;
+    let mut taps = taps;
+    while let Some(tap) = waiting.pop() {
+        taps.push_reserved(tap.into_tap());
+    }
+    taps
 }

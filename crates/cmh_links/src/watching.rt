@@ -38,10 +38,32 @@ where
     L: Line + Send + Drop + 'static,
     O: Line + Send + Drop + 'static,
 {
-    let shared = Arc::try_clone(shared).ok()?;
-    let seats = Arc::try_clone(seats).ok()?;
-    let outs = Arc::try_clone(outs).ok()?;
-    thread::spawn(&rt, move || watch(rt, shared, seats, outs)).ok()
+    let watched = Watched::new(shared, seats, outs)?;
+    thread::spawn(&rt, move || watch(rt, watched)).ok()
+}
+
+/// What the watching thread looks at.
+#[derive(Drop)]
+struct Watched<S: Sink, B: Listing, L: Line + Drop, O: Line + Drop> {
+    shared: Arc<Shared<S, B>>,
+    /// The connections that the site accepted.
+    seats: Arc<Seats<L>>,
+    /// Those that it opened.
+    outs: Arc<Seats<O>>,
+}
+
+impl<S: Sink, B: Listing, L: Line + Drop, O: Line + Drop> Watched<S, B, L, O> {
+    fn new(
+        shared: &Arc<Shared<S, B>>,
+        seats: &Arc<Seats<L>>,
+        outs: &Arc<Seats<O>>,
+    ) -> Option<Watched<S, B, L, O>> {
+        Some(Watched {
+            shared: Arc::try_clone(shared).ok()?,
+            seats: Arc::try_clone(seats).ok()?,
+            outs: Arc::try_clone(outs).ok()?,
+        })
+    }
 }
 
 /// Ends the watching thread.
@@ -57,7 +79,7 @@ pub(crate) fn stop_watching<R: Wait + Threads, S: Sink, B: Listing>(
 
 /// Ends connections that wait for too long, and has the writing threads look at theirs, until the other threads are done.
 /// It takes no lock of the station and no memory.
-fn watch<R, S, B, L, O>(rt: R, shared: Arc<Shared<S, B>>, seats: Arc<Seats<L>>, outs: Arc<Seats<O>>)
+fn watch<R, S, B, L, O>(rt: R, watched: Watched<S, B, L, O>)
 where
     R: Wait + Clock + Drop,
     S: Sink,
@@ -65,8 +87,7 @@ where
     L: Line + Drop,
     O: Line + Drop,
 {
-    let most_hello = Duration::from_secs(MOST_HELLO_SECONDS);
-    let most_quit = Duration::from_secs(MOST_QUIT_SECONDS);
+    let shared = &watched.shared;
     let mut turn = 0;
     let mut cut_at: Option<Duration> = None;
     for _ in rt.forever() {
@@ -83,17 +104,34 @@ where
         let Ok(now) = rt.monotonic() else {
             continue;
         };
-        for _ in 0..seats.shut_silent(&rt, now, most_hello) {
-            shared.note(&rt, Note::NoHello);
-        }
-        shut_unread(&rt, &shared, &outs);
+        shut_silent(&rt, shared, &watched.seats, now);
+        shut_unread(&rt, shared, &watched.outs);
         if shared.cutting.load(Ordering::SeqCst) {
             let since = cut_at.unwrap_or(now);
             cut_at = Some(since);
-            if now.saturating_sub(since) >= most_quit {
-                outs.shut_all(&rt);
-            }
+            shut_late(&rt, &watched.outs, since, now);
         }
+    }
+}
+
+/// Ends the connections that told no good hello in time.
+fn shut_silent<R, S, B, L>(rt: &R, shared: &Shared<S, B>, seats: &Seats<L>, now: Duration)
+where
+    R: Wait,
+    S: Sink,
+    B: Listing,
+    L: Line + Drop,
+{
+    let most = Duration::from_secs(MOST_HELLO_SECONDS);
+    for _ in 0..seats.shut_silent(rt, now, most) {
+        shared.note(rt, Note::NoHello);
+    }
+}
+
+/// Ends the connections to other sites, where these had time since then to read what is written.
+fn shut_late<R: Wait, O: Line + Drop>(rt: &R, outs: &Seats<O>, since: Duration, now: Duration) {
+    if now.saturating_sub(since) >= Duration::from_secs(MOST_QUIT_SECONDS) {
+        outs.shut_all(rt);
     }
 }
 
