@@ -29,3 +29,8 @@ file_err (Err fault) files.Memory is = inr is
 
 pub open_err : {X : Type 0} (r : Result X SiteFault) (lower : SiteFault) → IsErrAnd r (λ fault. fault ≡ lower) → IsOpenFault lower → IfErr r IsStartFault
 open_err r lower is h = start_err r lower is (inr h)
+
+-- memory was refused
+pub memory_err : {X : Type 0} (r : Result X SiteFault) → IsErrAnd r (λ fault. fault ≡ Memory) → IfErr r IsStartFault
+memory_err (Ok x) is = tt
+memory_err (Err fault) is = inr (inr is)

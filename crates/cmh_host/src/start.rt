@@ -77,17 +77,22 @@ where
         // Never so: each row has its port.
         return Err(SiteFault::Listen);
     };
-    let speakers = Speakers {
-        handle: noting.speaker(Origin::Alone)?,
-        threads: noting.speaker(Origin::Alone)?,
-    };
+    let speakers = make_speakers(noting)?;
     let pairs = setup.ports.pairs(alloc)?;
-    let dial = TcpDial::new(rt, pairs).with_patience(setup.patience);
+    let listen = listen_at(&rt, alloc, port, setup.journal)?;
     Ok(Carriers {
-        listen: listen_at(&rt, alloc, port, setup.journal)?,
-        dial,
+        listen,
+        dial: TcpDial::new(rt, pairs).with_patience(setup.patience),
         backlog: setup.backlog,
         speakers,
+    })
+}
+
+/// Who tells what the site notices, where notes are wanted.
+fn make_speakers(noting: &Noting) -> Result<Speakers, AllocError> {
+    Ok(Speakers {
+        handle: noting.speaker(Origin::Alone)?,
+        threads: noting.speaker(Origin::Alone)?,
     })
 }
 
