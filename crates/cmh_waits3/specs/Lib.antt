@@ -1,0 +1,4 @@
+pub mod Held
+pub mod Rows
+pub mod Findings
+pub mod Inner

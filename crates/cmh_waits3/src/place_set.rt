@@ -1,0 +1,82 @@
+//! Places of a site's processes, as the bits of four words.
+
+ghost use Rattle.std.specs.Prelude.{◌≡◌, ℕ, ◌<◌, ◌==◌, ◌||◌, ◌&&◌, not, true, false, MatchOption};
+ghost use Rattle.cmh_waits3.specs.Inner.Steps.{has_place, is_set};
+
+/// Some of the places 0 to 255. It takes no memory.
+#[derive(Clone, Copy, Debug, PartialEq, Eq)]
+pub struct PlaceSet {
+    words: [u64; 4],
+}
+
+impl PlaceSet {
+    /// No place.
+    pub fn empty() -> PlaceSet
+        ensures { (k : ℕ) → has_place result.words k ≡ false }
+    {
+        PlaceSet { words: [0; 4] }
+    }
+
+    /// Whether it has the place.
+    pub fn has(self, place: usize) -> bool
+        ensures { result ≡ has_place self.words place }
+    {
+        match self.words.get(place / 64) {
+            Some(word) => word >> (place % 64) & 1 == 1,
+            None => false,
+        }
+    }
+
+    /// Adds a place.
+    pub fn insert(&mut self, place: usize)
+        requires { place < 256 }
+        ensures { (k : ℕ) → has_place self.new.words k ≡ ((k == place) || has_place self.old.words k) }
+    {
+        self.words[place / 64] |= 1 << (place % 64);
+    }
+
+    /// Without a place.
+    pub fn without(self, place: usize) -> PlaceSet
+        requires { place < 256 }
+        ensures { (k : ℕ) → has_place result.words k ≡ (not (k == place) && has_place self.words k) }
+    {
+        let mut words = self.words;
+        words[place / 64] &= !(1 << (place % 64));
+        PlaceSet { words }
+    }
+
+    /// The places of either.
+    pub fn either(self, other: PlaceSet) -> PlaceSet
+        ensures { (k : ℕ) → has_place result.words k ≡ (has_place self.words k || has_place other.words k) }
+    {
+        let [a, b, c, d] = self.words;
+        let [e, f, g, h] = other.words;
+        PlaceSet {
+            words: [a | e, b | f, c | g, d | h],
+        }
+    }
+
+    /// The places that the other lacks.
+    pub fn beyond(self, other: PlaceSet) -> PlaceSet
+        ensures { (k : ℕ) → has_place result.words k ≡ (has_place self.words k && not (has_place other.words k)) }
+    {
+        let [a, b, c, d] = self.words;
+        let [e, f, g, h] = other.words;
+        PlaceSet {
+            words: [a & !e, b & !f, c & !g, d & !h],
+        }
+    }
+
+    /// Its least place.
+    pub fn first(self) -> Option<usize>
+        ensures { MatchOption result ((k : ℕ) → has_place self.words k ≡ false)
+            (λ place. (place < 256) × (has_place self.words place ≡ true)) }
+    {
+        for (at, word) in self.words.iter().enumerate() {
+            if *word != 0 {
+                return Some(at * 64 + word.trailing_zeros() as usize);
+            }
+        }
+        None
+    }
+}

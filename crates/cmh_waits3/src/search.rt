@@ -1,0 +1,172 @@
+//! What a site finds along the waits that count for an ask.
+
+ghost use Rattle.std.specs.Prelude.{◌≡◌, ◌↔◌, ℕ, ◌<◌, ◌++◌, true, false, IsTrue, List, length, slice_index, IfOk, OnOk};
+ghost use Rattle.cmh_model3.specs.State.{State, passes};
+ghost use Rattle.cmh_model3.specs.Paths.{DependsOnItself, ReachesLocally};
+ghost use Rattle.cmh_waits3.specs.Held.{AreWaitsOf, is_member};
+ghost use Rattle.cmh_waits3.specs.Findings.{Finds};
+ghost use Rattle.cmh_waits3.specs.Inner.Steps.{AreAwaited, AreEdgesAt, AreMarkedEdges, AreReached, has_place, leads};
+
+use crate::SiteWaits;
+use crate::place_set::PlaceSet;
+use cmh_model3::{ProcId, Stamp};
+use std::alloc::{AllocError, Global};
+
+/// What a site finds when it looks along the waits that count for an ask.
+#[derive(Debug, Drop)]
+pub enum Finding {
+    /// The process that asked is on a cycle.
+    Deadlock,
+    /// It is on none that the site can see. These are the waits along which its probes go on: askers of the site with
+    /// holders of other sites, ascending.
+    Edges(Vec<(ProcId, ProcId)>),
+}
+
+/// What the site of a process finds when the process has asked: a deadlock where a path of one or more waits that count,
+/// all within the site, leads from the process to itself.
+///
+/// The waits of the ask have begun. It fails only when memory runs out.
+pub fn finding_of_ask(
+    alloc: Global,
+    waits: &SiteWaits,
+    stamp: Stamp,
+    origin: ProcId,
+) -> Result<Finding, AllocError>
+    requires { is_member waits.now origin ≡ true }
+    ensures { IfOk result (λ found. (home : ℕ → ℕ) (s : ℕ) (v : State) → AreWaitsOf home s v waits.now
+        → Finds home s v stamp origin origin (DependsOnItself home s v stamp origin) found) }
+{
+    let Some(start) = waits.place_of(origin) else {
+        unreachable!();
+    };
+    let reach = reach_from(waits, stamp, origin, start);
+    if reach.awaited.has(start) {
+        return Ok(Finding::Deadlock);
+    }
+    Ok(Finding::Edges(edges_of(alloc, waits, stamp, origin, reach.reached)?))
+}
+
+/// What the site of a process finds when a probe of the ask acts at the process: a deadlock where a path of none or more
+/// waits that count, all within the site, leads to the process that asked, and that one passes the probe on.
+///
+/// It fails only when memory runs out.
+pub fn finding_of_probe(
+    alloc: Global,
+    waits: &SiteWaits,
+    stamp: Stamp,
+    origin: ProcId,
+    at: ProcId,
+) -> Result<Finding, AllocError>
+    requires { is_member waits.now at ≡ true }
+    ensures { IfOk result (λ found. (home : ℕ → ℕ) (s : ℕ) (v : State) → AreWaitsOf home s v waits.now
+        → Finds home s v stamp origin at
+        (ReachesLocally home s v stamp origin at origin × (passes v stamp origin origin ≡ true)) found) }
+{
+    let Some(start) = waits.place_of(at) else {
+        unreachable!();
+    };
+    let reach = reach_from(waits, stamp, origin, start);
+    if is_reached(waits, reach.reached, origin) && waits.passes(stamp, origin, origin) {
+        return Ok(Finding::Deadlock);
+    }
+    Ok(Finding::Edges(edges_of(alloc, waits, stamp, origin, reach.reached)?))
+}
+
+/// Places of a site's processes.
+#[derive(Clone, Copy)]
+struct Reach {
+    /// Those that are reached.
+    reached: PlaceSet,
+    /// Those for which any of them has a wait that counts.
+    awaited: PlaceSet,
+}
+
+/// What the process at the place reaches by waits that count, within the site.
+fn reach_from(waits: &SiteWaits, stamp: Stamp, origin: ProcId, start: usize) -> Reach
+    requires { start < length waits.now.members }
+    ensures reached { AreReached waits.now stamp origin (slice_index waits.now.members start) result.reached.words }
+    ensures awaited { AreAwaited waits.now stamp origin result.reached.words result.awaited.words }
+{
+    let _ = waits.members();
+    let mut reached = PlaceSet::empty();
+    reached.insert(start);
+    let mut awaited = PlaceSet::empty();
+    let mut work = reached;
+    while let Some(place) = work.first() {
+        let led = led_to(waits, stamp, origin, place);
+        let fresh = led.beyond(reached);
+        awaited = awaited.either(led);
+        work = work.without(place).either(fresh);
+        reached = reached.either(fresh);
+    }
+    Reach { reached, awaited }
+}
+
+/// The places to which waits that count lead from the process at the place.
+fn led_to(waits: &SiteWaits, stamp: Stamp, origin: ProcId, place: usize) -> PlaceSet
+    requires { place < length waits.now.members }
+    ensures { (k : ℕ) → has_place result.words k ≡ leads waits.now stamp origin place k }
+{
+    let asker = waits.members()[place];
+    let mut led = PlaceSet::empty();
+    for wait in waits.row(place) {
+        if wait.counts(stamp, origin, asker) {
+            if let Some(other) = waits.place_of(wait.target) {
+                led.insert(other);
+            }
+        }
+    }
+    led
+}
+
+/// Whether the process is at one of the places.
+fn is_reached(waits: &SiteWaits, reached: PlaceSet, process: ProcId) -> bool
+    ensures { IsTrue result ↔ ((k : ℕ) × (k < length waits.now.members)
+        × (slice_index waits.now.members k ≡ process) × (has_place reached.words k ≡ true)) }
+{
+    let _ = waits.members();
+    match waits.place_of(process) {
+        Some(place) => reached.has(place),
+        None => false,
+    }
+}
+
+/// The waits that count and leave the site, of the processes at these places.
+fn edges_of(
+    alloc: Global,
+    waits: &SiteWaits,
+    stamp: Stamp,
+    origin: ProcId,
+    reached: PlaceSet,
+) -> Result<Vec<(ProcId, ProcId)>, AllocError>
+    ensures { IfOk result (λ edges. AreMarkedEdges waits.now stamp origin reached.words edges.items) }
+{
+    let mut edges = Vec::new(alloc);
+    for place in 0..waits.members().len() {
+        if reached.has(place) {
+            push_edges(&mut edges, waits, stamp, origin, place)?;
+        }
+    }
+    Ok(edges)
+}
+
+/// Adds those of the process at the place.
+fn push_edges(
+    edges: &mut Vec<(ProcId, ProcId)>,
+    waits: &SiteWaits,
+    stamp: Stamp,
+    origin: ProcId,
+    place: usize,
+) -> Result<(), AllocError>
+    requires { place < length waits.now.members }
+    ensures { OnOk result ((more : List (ℕ × ℕ)) × (edges.new.items ≡ edges.old.items ++ more)
+        × AreEdgesAt waits.now stamp origin (slice_index waits.now.members place) more) }
+{
+    let asker = waits.members()[place];
+    for wait in waits.row(place) {
+        if wait.counts(stamp, origin, asker) && !waits.is_member(wait.target) {
+            edges.push((asker, wait.target))?;
+        }
+    }
+    Ok(())
+}

@@ -1,0 +1,203 @@
+//! The waits of a site's processes.
+
+ghost use Rattle.std.specs.Prelude.{◌≡◌, ℕ, [], ◌∷◌, ◌<◌, ◌≤◌, ◌==◌, ◌&&◌, true, false, if◌then◌else◌, IfOk, OnOk, OnErr, MatchOption, length, slice_index, slice_index_or};
+ghost use Rattle.std.specs.List.Sorted.{IsStrictlyIncreasing};
+ghost use Rattle.cmh_model3.specs.Lists.{IsAscending, in_list, is_nonempty, set_at, with_each, without, without_all};
+ghost use Rattle.cmh_model3.specs.State.{counts, passes};
+ghost use Rattle.cmh_waits3.specs.Held.{ended, is_member, nothing_held, row_in, since_of, state_of, waits_of};
+ghost use Rattle.cmh_waits3.specs.Rows.{since_in, targets_of};
+
+use crate::Wait;
+use crate::member_table::MemberTable;
+use crate::wait_list::WaitList;
+use cmh_model3::{ProcId, Stamp};
+use std::alloc::{AllocError, Global};
+use std::marker::Model;
+
+/// For whom each process of a site waits, and the stamp of the ask that began each wait.
+///
+/// A process is blocked where it waits for some process, and else active. A call fails only when memory runs out, and
+/// then nothing has changed.
+#[derive(Debug, Drop)]
+pub struct SiteWaits {
+    members: MemberTable,
+    /// At the place of each process its waits.
+    rows: Vec<WaitList>,
+}
+
+impl Model for SiteWaits {
+    ghost use Rattle.std.specs.Prelude.{◌≡◌, length};
+    ghost use Rattle.cmh_waits3.specs.Held.{Held};
+
+    ghost Value = { Held };
+
+    ghost view = { λ w. record { members = w.members; rows = w.rows.items } };
+
+    ghost invariant = { λ w. length w.rows.items ≡ length w.members };
+}
+
+impl SiteWaits {
+    /// The state in which a site with these processes begins: nobody waits.
+    pub fn new(alloc: Global, members: &[ProcId]) -> Result<Self, AllocError>
+        requires ascending { IsStrictlyIncreasing members.now }
+        requires few { length members.now ≤ 256 }
+        ensures { IfOk result (λ held. held ≡ nothing_held members.now) }
+    {
+        Ok(SiteWaits {
+            members: MemberTable::new(alloc, members)?,
+            rows: WaitList::empty_lists(alloc, members.len())?,
+        })
+    }
+
+    /// The processes of the site.
+    pub fn members(&self) -> &[ProcId]
+        ensures value { result.now ≡ self.now.members }
+        ensures ascending { IsStrictlyIncreasing result.now }
+        ensures few { length result.now ≤ 256 }
+    {
+        self.members.as_slice()
+    }
+
+    /// Whether the process is at the site.
+    #[inline(always)]
+    pub fn is_member(&self, process: ProcId) -> bool
+        ensures { result ≡ is_member self.now process }
+    {
+        self.members.place_of(process).is_some()
+    }
+
+    /// Whether the process waits for some process. One of another site is not known to.
+    #[inline(always)]
+    pub fn is_blocked(&self, process: ProcId) -> bool
+        ensures { result ≡ is_nonempty (waits_of self.now process) }
+    {
+        !self.waits_of(process).is_empty()
+    }
+
+    /// Whether the process waits for this holder.
+    pub fn waits_for(&self, asker: ProcId, holder: ProcId) -> bool
+        ensures { result ≡ in_list (waits_of self.now asker) holder }
+    {
+        match self.members.place_of(asker) {
+            Some(place) => self.rows[place].contains(holder),
+            None => false,
+        }
+    }
+
+    /// The waits of the process, ascending by the processes that it waits for; none where it is at another site.
+    #[inline(always)]
+    pub fn waits_of(&self, process: ProcId) -> &[Wait]
+        ensures row { result.now ≡ row_in self.now.members self.now.rows process }
+        ensures targets { targets_of result.now ≡ waits_of self.now process }
+        ensures since { (k : ℕ) → since_in result.now k ≡ since_of self.now process k }
+        ensures ascending { IsAscending (waits_of self.now process) }
+    {
+        match self.members.place_of(process) {
+            Some(place) => self.rows[place].as_slice(),
+            None => &[],
+        }
+    }
+
+    /// Whether the process waits for this holder, and the wait counts for the ask of the origin with this stamp: it is not
+    /// younger.
+    pub fn counts(&self, stamp: Stamp, origin: ProcId, asker: ProcId, holder: ProcId) -> bool
+        ensures { result ≡ counts (state_of self.now) stamp origin asker holder }
+    {
+        for wait in self.waits_of(asker) {
+            if wait.target == holder {
+                return wait.counts(stamp, origin, asker);
+            }
+        }
+        false
+    }
+
+    /// Whether the process passes the probes of the ask of the origin with this stamp on: some wait of it counts.
+    pub fn passes(&self, stamp: Stamp, origin: ProcId, process: ProcId) -> bool
+        ensures { result ≡ passes (state_of self.now) stamp origin process }
+    {
+        self.waits_of(process)
+            .iter()
+            .any(|wait| wait.counts(stamp, origin, process))
+    }
+
+    /// By an ask with this stamp the process begins to wait for each of these.
+    ///
+    /// `end_all` of the same takes it back, and takes no memory.
+    pub fn begin(
+        &mut self,
+        asker: ProcId,
+        targets: &[ProcId],
+        since: Stamp,
+    ) -> Result<(), AllocError>
+        requires member { is_member self.old asker ≡ true }
+        requires ascending { IsAscending targets.now }
+        requires new { (k : ℕ) → in_list targets.now k ≡ true → in_list (waits_of self.old asker) k ≡ false }
+        ensures members { self.new.members ≡ self.old.members }
+        ensures waits { OnOk result (waits_of self.new
+            ≡ set_at (waits_of self.old) asker (with_each (waits_of self.old asker) targets.now)) }
+        ensures since { OnOk result (since_of self.new ≡ (λ j k.
+            if (j == asker) && in_list targets.now k then since else since_of self.old j k)) }
+        ensures undone { OnOk result (ended self.new asker targets.now ≡ self.old) }
+        ensures err { OnErr result (self.new ≡ self.old) }
+    {
+        match self.members.place_of(asker) {
+            Some(place) => self.rows[place].insert_all(targets, since),
+            None => Ok(()),
+        }
+    }
+
+    /// The process waits for this holder no longer.
+    pub fn end(&mut self, asker: ProcId, holder: ProcId)
+        ensures value { self.new ≡ ended self.old asker (holder ∷ []) }
+        ensures waits { waits_of self.new
+            ≡ set_at (waits_of self.old) asker (without (waits_of self.old asker) holder) }
+        ensures since { since_of self.new ≡ set_at (since_of self.old) asker (λ k.
+            if in_list (without (waits_of self.old asker) holder) k then since_of self.old asker k else 0) }
+    {
+        if let Some(place) = self.members.place_of(asker) {
+            self.rows[place].remove(holder);
+        }
+    }
+
+    /// The process waits for none of these any longer.
+    pub fn end_all(&mut self, asker: ProcId, targets: &[ProcId])
+        ensures value { self.new ≡ ended self.old asker targets.now }
+        ensures waits { waits_of self.new
+            ≡ set_at (waits_of self.old) asker (without_all (waits_of self.old asker) targets.now) }
+        ensures since { since_of self.new ≡ set_at (since_of self.old) asker (λ k.
+            if in_list (without_all (waits_of self.old asker) targets.now) k then since_of self.old asker k else 0) }
+    {
+        if let Some(place) = self.members.place_of(asker) {
+            self.rows[place].remove_all(targets);
+        }
+    }
+
+    /// Another record of the same waits.
+    pub fn copy(&self, alloc: Global) -> Result<Self, AllocError>
+        ensures { IfOk result (λ other. other ≡ self.now) }
+    {
+        Ok(SiteWaits {
+            members: self.members.copy(alloc)?,
+            rows: WaitList::copy_all(alloc, &self.rows)?,
+        })
+    }
+
+    /// The place of a process of the site: how many of its processes stand before it.
+    #[inline(always)]
+    pub(crate) fn place_of(&self, process: ProcId) -> Option<usize>
+        ensures { MatchOption result (is_member self.now process ≡ false)
+            (λ place. (place < length self.now.members) × (slice_index self.now.members place ≡ process)) }
+    {
+        self.members.place_of(process)
+    }
+
+    /// The waits of the process at this place.
+    #[inline(always)]
+    pub(crate) fn row(&self, place: usize) -> &[Wait]
+        requires { place < length self.now.members }
+        ensures row { result.now ≡ row_in self.now.members self.now.rows (slice_index self.now.members place) }
+        ensures ascending { IsAscending (targets_of result.now) }
+    {
+        self.rows[place].as_slice()
+    }
+}
