@@ -108,8 +108,9 @@ fn led_to(waits: &SiteWaits, stamp: Stamp, origin: ProcId, place: usize) -> Plac
     ensures { (k : ℕ) → has_place result.words k ≡ leads waits.now stamp origin place k }
 {
     let asker = waits.members()[place];
+    let row = waits.row(place);
     let mut led = PlaceSet::empty();
-    for wait in waits.row(place) {
+    for wait in row {
         if wait.counts(stamp, origin, asker) {
             if let Some(other) = waits.place_of(wait.target) {
                 led.insert(other);
@@ -163,7 +164,8 @@ fn push_edges(
         × AreEdgesAt waits.now stamp origin (slice_index waits.now.members place) more) }
 {
     let asker = waits.members()[place];
-    for wait in waits.row(place) {
+    let row = waits.row(place);
+    for wait in row {
         if wait.counts(stamp, origin, asker) && !waits.is_member(wait.target) {
             edges.push((asker, wait.target))?;
         }

@@ -27,13 +27,14 @@ pub struct SiteWaits {
 
 impl Model for SiteWaits {
     ghost use Rattle.std.specs.Prelude.{◌≡◌, length};
+    ghost use Rattle.std.specs.List.Sorted.{IsStrictlyIncreasing};
     ghost use Rattle.cmh_waits3.specs.Held.{Held};
 
     ghost Value = { Held };
 
     ghost view = { λ w. record { members = w.members; rows = w.rows.items } };
 
-    ghost invariant = { λ w. length w.rows.items ≡ length w.members };
+    ghost invariant = { λ w. IsStrictlyIncreasing w.members × (length w.rows.items ≡ length w.members) };
 }
 
 impl SiteWaits {
@@ -103,12 +104,8 @@ impl SiteWaits {
     pub fn counts(&self, stamp: Stamp, origin: ProcId, asker: ProcId, holder: ProcId) -> bool
         ensures { result ≡ counts (state_of self.now) stamp origin asker holder }
     {
-        for wait in self.waits_of(asker) {
-            if wait.target == holder {
-                return wait.counts(stamp, origin, asker);
-            }
-        }
-        false
+        self.waits_of(asker).iter().any(|wait| wait.target == holder
+            && wait.counts(stamp, origin, asker))
     }
 
     /// Whether the process passes the probes of the ask of the origin with this stamp on: some wait of it counts.

@@ -3,7 +3,8 @@
 ghost use Rattle.std.specs.Prelude.{◌≡◌, ℕ, [], ◌∷◌, ◌+◌, ◌<◌, ◌≤◌, true, false, IfOk, IfErr, OnOk, OnErr, length, slice_index, replicate};
 ghost use Rattle.cmh_model3.specs.Lists.{IsAscending, in_list};
 ghost use Rattle.std.specs.Vec.{vec_capacity, vec_len};
-ghost use Rattle.cmh_waits3.specs.Rows.{AreInserted, IsPlaceFor, others_than, targets_of};
+ghost use Rattle.cmh_waits3.specs.Inner.Inserting.{AreInserted, IsPlaceFor};
+ghost use Rattle.cmh_waits3.specs.Rows.{others_than, targets_of};
 
 use crate::Wait;
 use cmh_model3::{ProcId, Stamp};
@@ -83,9 +84,7 @@ impl WaitList {
     pub fn remove_all(&mut self, targets: &[ProcId])
         ensures { self.new ≡ others_than targets.now self.old }
     {
-        for target in targets {
-            remove(&mut self.waits, *target);
-        }
+        remove_each(&mut self.waits, targets);
     }
 
     /// Takes the wait for the target out, if there is one.
@@ -150,6 +149,16 @@ fn insert(waits: &mut Vec<Wait>, target: ProcId, since: Stamp)
     if let Err(place) = place_for(waits, target) {
         // There is room, so that no memory is wanted.
         waits.insert(place, Wait { target, since }).unwrap();
+    }
+}
+
+/// Takes the waits for these out, as far as there are any.
+fn remove_each(waits: &mut Vec<Wait>, targets: &[ProcId])
+    requires { IsAscending (targets_of waits.old.items) }
+    ensures { waits.new.items ≡ others_than targets.now waits.old.items }
+{
+    for target in targets {
+        remove(waits, *target);
     }
 }
 

@@ -1,0 +1,11 @@
+pub mod Lists
+pub mod Rows
+pub mod Placing
+pub mod Members
+pub mod Placed
+pub mod Bits
+pub mod Counting
+pub mod Searching
+pub mod Counted
+pub mod Edges
+pub mod Findings
