@@ -2,11 +2,11 @@
 use Rattle.std.proofs.Common.{◌≡◌, ℕ, zero, suc, ◌+◌, ◌*◌, ◌-◌, ◌<◌, ◌≤◌, Bool, true, false, not, ◌&&◌, ◌||◌, ◌==◌, if◌then◌else◌, refl, sym, ap, ◌∙◌, inl, inr, arith, true≢false}
 use Rattle.std.proofs.lemmas.Bool.{eqb-true, eq-eqb, ne_eqb, cases_Bool, cases_eq}
 
-one_if : Bool → ℕ
+abbrev one_if : Bool → ℕ
 one_if true = 1
 one_if false = 0
 
-pub count_below : (ℕ → Bool) → ℕ → ℕ
+abbrev pub count_below : (ℕ → Bool) → ℕ → ℕ
 count_below f zero = 0
 count_below f (suc n) = one_if (f n) + count_below f n
 

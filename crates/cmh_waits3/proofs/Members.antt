@@ -1,5 +1,5 @@
 -- The rows of the processes of a site.
-use Rattle.std.proofs.Common.{◌≡◌, ◌≢◌, ℕ, suc, zero, ◌+◌, ◌<◌, ◌≤◌, Bool, true, false, not, ◌&&◌, ◌||◌, ◌==◌, if◌then◌else◌, List, [], ◌∷◌, length, get_or, refl, sym, ap, ◌∙◌, inl, inr, arith, true≢false}
+use Rattle.std.proofs.Common.{◌≡◌, ◌≢◌, ℕ, suc, zero, ◌+◌, ◌<◌, ◌≤◌, Bool, true, false, not, ◌&&◌, ◌||◌, ◌==◌, if◌then◌else◌, List, [], ◌∷◌, length, get_or, Result, Ok, Err, OnOk, refl, sym, ap, ◌∙◌, inl, inr, arith, true≢false}
 use Rattle.std.specs.List.Sorted.{IsStrictlyIncreasing}
 use Rattle.std.proofs.Math.ListN.{set}
 use Rattle.std.proofs.Math.Path.{fun_ext}
@@ -110,7 +110,7 @@ long_set (z ∷ xs) (suc i) x = ap suc (long_set xs i x)
 
 -- ---- what a site holds after the row at a place has changed
 
-abbrev held : List ℕ → List (List Wait) → Held
+abbrev pub held : List ℕ → List (List Wait) → Held
 held ms rows = record { members = ms; rows = rows }
 
 module _ (ms : List ℕ) (rows : List (List Wait)) (up : IsStrictlyIncreasing ms) (long : length rows ≡ length ms) (i p : ℕ) (inside : i < length ms) (at : get_or ms i 0 ≡ p) where
@@ -143,6 +143,10 @@ module _ (ms : List ℕ) (rows : List (List Wait)) (up : IsStrictlyIncreasing ms
       go true = refl
       go false = refl
 
+  -- what isn't waited for is not in the row
+  pub apart_there : (ks : List ℕ) → ((k : ℕ) → in_list ks k ≡ true → in_list (waits_of (held ms rows) p) k ≡ false) → (k : ℕ) → in_list ks k ≡ true → in_list (targets_of old) k ≡ false
+  apart_there ks new k h = ap (λ (r : List Wait). in_list (targets_of r) k) (sym old_is) ∙ new k h
+
   -- some waits have begun
   module _ (ks : List ℕ) (s : ℕ) (new : List Wait) (are : AreInserted ks s old new) where
     pub begun_since : since_of (held ms (set rows i new)) ≡ (λ j k. if (j == p) && in_list ks k then s else since_of (held ms rows) j k)
@@ -157,11 +161,11 @@ module _ (ms : List ℕ) (rows : List (List Wait)) (up : IsStrictlyIncreasing ms
           ∙ sym (ap (λ b. if b && in_list ks k then s else since_of (held ms rows) j k) (ne_eqb j p n))
     ]))
 
-    pub begun_waits : IsAscending ks → IsAscending (targets_of old) → ((k : ℕ) → in_list ks k ≡ true → in_list (targets_of old) k ≡ false)
+    pub begun_waits : IsAscending ks → ((k : ℕ) → in_list ks k ≡ true → in_list (targets_of old) k ≡ false)
         → waits_of (held ms (set rows i new)) ≡ set_at (waits_of (held ms rows)) p (with_each (waits_of (held ms rows) p) ks)
-    begun_waits more ascending apart =
+    begun_waits more apart =
         waits_set new
-        ∙ ap (set_at (waits_of (held ms rows)) p) (inserted_waits ks s old new more ascending apart are ∙ ap (λ r. with_each (targets_of r) ks) (sym old_is))
+        ∙ ap (set_at (waits_of (held ms rows)) p) (inserted_waits ks s old new more apart are ∙ ap (λ (r : List Wait). with_each (targets_of r) ks) (sym old_is))
 
     pub begun_undone : ((k : ℕ) → in_list ks k ≡ true → in_list (targets_of old) k ≡ false) → ended (held ms (set rows i new)) p ks ≡ held ms rows
     begun_undone apart = ap (held ms) (
@@ -224,3 +228,8 @@ ended_one_waits v up long p k = ended_waits v up long p (k ∷ []) ∙ ap (set_a
 
 pub ended_one_since : (v : Held) → IsStrictlyIncreasing v.members → length v.rows ≡ length v.members → (p k : ℕ) → since_of (ended v p (k ∷ [])) ≡ set_at (since_of v) p (λ q. if in_list (without (waits_of v p) k) q then since_of v p q else 0)
 ended_one_since v up long p k = ended_since v up long p (k ∷ []) ∙ ap (λ (ks : List ℕ). set_at (since_of v) p (λ q. if in_list ks q then since_of v p q else 0)) (without_is (waits_of v p) k)
+
+-- in what a call found of the row it changed
+pub on_ok : {T E : Type 0} (r : Result T E) (P Q : Type 0) → (P → Q) → OnOk r P → OnOk r Q
+on_ok (Ok x) P Q f h = f h
+on_ok (Err e) P Q f h = tt

@@ -177,8 +177,10 @@ taken (w ∷ ws) (suc i) t up inside at =
 
 -- ---- in the words of the model
 
-pub inserted_waits : (ks : List ℕ) (s : ℕ) (old new : List Wait) → IsAscending ks → IsAscending (targets_of old) → ((k : ℕ) → in_list ks k ≡ true → in_list (targets_of old) k ≡ false) → AreInserted ks s old new → targets_of new ≡ with_each (targets_of old) ks
-inserted_waits ks s old new more up apart are =
+pub inserted_waits : (ks : List ℕ) (s : ℕ) (old new : List Wait) → IsAscending ks → ((k : ℕ) → in_list ks k ≡ true → in_list (targets_of old) k ≡ false) → AreInserted ks s old new → targets_of new ≡ with_each (targets_of old) ks
+inserted_waits ks s old new more apart are =
+    let before : others_than ks new ≡ old = are.others ks (λ k h. h) ∙ others_apart ks old apart in
+    let up = subst (λ (ws : List Wait). IsAscending (targets_of ws)) before (others_ascend ks new are.ascending) in
     same_ascending (targets_of new) (with_each (targets_of old) ks) are.ascending (each_ascends (targets_of old) ks up more apart)
     (λ k. are.targets k ∙ or_swap (in_list ks k) (in_list (targets_of old) k) ∙ sym (in_with (targets_of old) ks k))
 

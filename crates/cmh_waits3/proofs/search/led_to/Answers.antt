@@ -21,8 +21,8 @@ loop-wait-preserved c =
     elim c.if-counts.branch [
       | then-counts+in-Some b ↦ rw b.led-is (λ k.
           b.insert.ensures k
-          ∙ ap (λ x. (k == b.in-Some.place) || x) (c.loop-wait.invariant k)
-          ∙ sym (led_more n i p ms ws at w inside is up (sym c.counts.ensures ∙ b.if-counts.true) b.in-Some.place b.in-Some.ensures.0 b.in-Some.ensures.1 k))
+          ∙ ap (λ x. (k == b.in-Some.other) || x) (c.loop-wait.invariant k)
+          ∙ sym (led_more n i p ms ws at w inside is up (sym c.counts.ensures ∙ b.if-counts.true) b.in-Some.other b.in-Some.ensures.0 b.in-Some.ensures.1 k))
       | then-counts+in_default b ↦ rw b.led-is (λ k. c.loop-wait.invariant k ∙ sym (led_skip n i p ms ws at w inside is (away_uncounted n i p ms w b.in_default.ensures) k))
       | else-counts b ↦ rw b.led-is (λ k. c.loop-wait.invariant k ∙ sym (led_skip n i p ms ws at w inside is (λ j _. young_uncounted n i p w (sym c.counts.ensures ∙ b.if-counts.false) (get_or ms j 0)) k))
     ]

@@ -1,0 +1,37 @@
+use Rattle.std.proofs.Common.{◌≡◌, ◌∙◌, ◌<◌, ℕ, List, [], ◌∷◌, length, get_or, sym, ap, subst, arith}
+use Rattle.std.proofs.Math.ListN.{set}
+use Rattle.std.specs.List.Sorted.{IsStrictlyIncreasing}
+use Rattle.std.proofs.lemmas.List.{get_or_default}
+use Rattle.cmh_waits3.specs.declared.wait.Wait.{Wait}
+use Rattle.cmh_waits3.specs.Held.{Held, ended, since_of, waits_of}
+use Rattle.cmh_waits3.specs.Rows.{others_than}
+use Rattle.cmh_waits3.proofs.Members.{ended_is, ended_one_since, ended_one_waits, held, rows_none}
+use Rattle.cmh_waits3.proofs.site_waits.SiteWaits.end.Goals as goal
+
+pub returns-in-Some : goal.returns-in-Some
+returns-in-Some c =
+    let v = c.args.self.now in
+    let ms = c.self.inside.members in
+    let rows = c.self.inside.rows.items in
+    let place = c.in-Some.place in
+    let at = c.in-Some.ensures in
+    let inside = at.0 in
+    let here = c.self.invariant.1 in
+    let up = subst (λ (w : Held). IsStrictlyIncreasing w.members) c.self.view_is c.self.invariant.0 in
+    let long = subst (λ (w : Held). length w.rows ≡ length w.members) c.self.view_is c.self.invariant.1 in
+    let row : c.index_mut.result.now ≡ get_or rows place [] = c.index_mut.ensures.value ∙ get_or_default rows place c.index_mut.result.now [] (omega (arith, inside, here)) in
+    let value : held ms (set rows place c.remove.new.self) ≡ ended v c.args.asker (c.args.holder ∷ []) =
+    ap (λ (r : List Wait). held ms (set rows place r)) (c.remove.ensures ∙ ap (others_than (c.args.holder ∷ [])) row)
+    ∙ ended_is ms rows c.self.invariant.0 here place c.args.asker inside at.1 (c.args.holder ∷ [])
+    ∙ ap (λ (w : Held). ended w c.args.asker (c.args.holder ∷ [])) c.self.view_is in
+    record { value = value; waits = ap waits_of value ∙ ended_one_waits v up long c.args.asker c.args.holder; since = ap since_of value ∙ ended_one_since v up long c.args.asker c.args.holder }
+
+pub returns-in_default : goal.returns-in_default
+returns-in_default c =
+    let v = c.args.self.now in
+    let ms = c.self.inside.members in
+    let rows = c.self.inside.rows.items in
+    let up = subst (λ (w : Held). IsStrictlyIncreasing w.members) c.self.view_is c.self.invariant.0 in
+    let long = subst (λ (w : Held). length w.rows ≡ length w.members) c.self.view_is c.self.invariant.1 in
+    let value : v ≡ ended v c.args.asker (c.args.holder ∷ []) = subst (λ (w : Held). w ≡ ended w c.args.asker (c.args.holder ∷ [])) c.self.view_is (sym (ap (held ms) (rows_none ms rows c.args.asker (c.args.holder ∷ []) c.in_default.ensures))) in
+    record { value = value; waits = ap waits_of value ∙ ended_one_waits v up long c.args.asker c.args.holder; since = ap since_of value ∙ ended_one_since v up long c.args.asker c.args.holder }
