@@ -1,16 +1,17 @@
 -- How many of the numbers below a limit pass a test.
-use Rattle.std.proofs.Common.{◌≡◌, ℕ, zero, suc, ◌+◌, ◌*◌, ◌-◌, ◌<◌, ◌≤◌, Bool, true, false, not, ◌&&◌, ◌||◌, ◌==◌, if◌then◌else◌, refl, sym, ap, ◌∙◌, inl, inr, arith, true≢false}
-use Rattle.std.proofs.lemmas.Bool.{eqb-true, eq-eqb, ne_eqb, cases_Bool, cases_eq}
+use Rattle.std.proofs.Common.{◌≡◌, ℕ, zero, suc, ◌+◌, ◌*◌, ◌-◌, ◌<◌, ◌≤◌, Bool, true, false, not, ◌&&◌, ◌||◌, ◌==◌, refl, sym, ap, ◌∙◌, inl, inr, arith, true≢false}
+use Rattle.std.proofs.lemmas.Bool.{eq-eqb, ne_eqb, cases_eq}
 
 abbrev one_if : Bool → ℕ
 one_if true = 1
 one_if false = 0
 
-abbrev pub count_below : (ℕ → Bool) → ℕ → ℕ
+pub count_below : (ℕ → Bool) → ℕ → ℕ
 count_below f zero = 0
 count_below f (suc n) = one_if (f n) + count_below f n
 
 pub count_most : (f : ℕ → Bool) (n : ℕ) → count_below f n ≤ n
+unfolding count_below
 count_most f zero = omega arith
 count_most f (suc n) = let less = count_most f n in let one = at_most (f n) in omega (arith, less, one)
   where
@@ -20,6 +21,7 @@ count_most f (suc n) = let less = count_most f n in let one = at_most (f n) in o
 
 -- those of either, where none is of both
 pub count_either : (f g h : ℕ → Bool) → ((k : ℕ) → h k ≡ (f k || g k)) → ((k : ℕ) → f k ≡ true → g k ≡ false) → (n : ℕ) → count_below h n ≡ count_below f n + count_below g n
+unfolding count_below
 count_either f g h are apart zero = omega arith
 count_either f g h are apart (suc n) =
     let more = count_either f g h are apart n in
@@ -31,6 +33,7 @@ count_either f g h are apart (suc n) =
     go false b none = omega arith
 
 none_counted : (place n : ℕ) → n ≤ place → count_below (λ k. k == place) n ≡ 0
+unfolding count_below
 none_counted place zero past = refl
 none_counted place (suc n) past =
     let more = none_counted place n (omega (arith, past)) in
@@ -38,6 +41,7 @@ none_counted place (suc n) past =
     omega (arith, more, other)
 
 one_counted : (place n : ℕ) → place < n → count_below (λ k. k == place) n ≡ 1
+unfolding count_below
 one_counted place zero below = absurd (omega (arith, below))
 one_counted place (suc n) below = elim (cases_eq n place) [
   | inl e ↦ let more = none_counted place n (omega (arith, e)) in let here = ap one_if (eq-eqb n place e) in omega (arith, more, here)
@@ -70,3 +74,7 @@ count_without f g place n below here are =
       | inl e ↦ absurd (true≢false (sym h ∙ are k ∙ ap (λ b. not b && f k) (eq-eqb k place e)))
       | inr n ↦ ne_eqb k place n
     ]
+
+-- what is left to do: twice what isn't reached, and what is left to look at
+pub less_to_do : (reached fresh work less reached' work' : ℕ) → reached' ≡ reached + fresh → work' ≡ less + fresh → less + 1 ≡ work → reached' ≤ 256 → 2 * (256 - reached') + work' < 2 * (256 - reached) + work
+less_to_do reached fresh work less reached' work' more left taken most = omega (arith, more, left, taken, most)

@@ -1,10 +1,10 @@
 -- The waits that leave a site, collected process by process.
-use Rattle.std.proofs.Common.{inl, inr, zero, suc, ◌≡◌, ◌≢◌, ◌↔◌, ℕ, ◌+◌, ◌<◌, ◌≤◌, Bool, true, false, not, ◌&&◌, ◌||◌, ◌==◌, cond, List, [], ◌∷◌, ◌++◌, length, get_or, take, map, refl, sym, ap, ◌∙◌, subst, arith, true≢false, Contains, Less, nat_cmp}
+use Rattle.std.proofs.Common.{inl, inr, zero, suc, ◌≡◌, ◌≢◌, ◌↔◌, ℕ, ◌+◌, ◌<◌, Bool, true, false, not, ◌&&◌, ◌||◌, ◌==◌, cond, List, [], ◌∷◌, ◌++◌, length, get_or, map, refl, sym, ap, ◌∙◌, subst, arith, true≢false, Contains, Less, nat_cmp}
 use Rattle.std.specs.List.{AllByRecursion, filter, list_any}
 use Rattle.std.specs.List.Sorted.{IsStrictlySortedBy, IsStrictlyIncreasing}
 use Rattle.std.specs.Ordering.{ordering_then}
 use Rattle.std.specs.Cmp.{nat_cmp_is, nat_cmp_total, tied_itself}
-use Rattle.std.proofs.lemmas.Bool.{and_from, and_parts, cases_Bool, cases_eq, eqb-true, eq-eqb, ne_eqb, not-true}
+use Rattle.std.proofs.lemmas.Bool.{and_from, and_parts, cases_Bool, cases_eq, eqb-true, eq-eqb, not-true}
 use Rattle.std.proofs.lemmas.List.Elements.{Contains-append_left, Contains-append_right, Contains-append_cases}
 use Rattle.std.proofs.lemmas.List.Kept.{AllPairs-from_increasing}
 use Rattle.cmh_model3.specs.Lists.{IsAscending, in_list, is_before, pair_cmp}
@@ -14,7 +14,6 @@ use Rattle.cmh_waits3.specs.Held.{Held, is_member, row_in, state_of}
 use Rattle.cmh_waits3.specs.Inner.Steps.{AreEdgesAt, AreMarkedEdges, has_place}
 use Rattle.cmh_waits3.specs.Rows.{since_in, targets_of}
 use Rattle.cmh_waits3.proofs.Counted.{counted, is_counted}
-use Rattle.cmh_waits3.proofs.Members.{same_place}
 
 -- ---- pairs in order
 

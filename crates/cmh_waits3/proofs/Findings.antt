@@ -1,13 +1,12 @@
 -- What the search says of the state of the site.
-use Rattle.std.proofs.Common.{◌≡◌, ◌≢◌, ◌↔◌, ℕ, ◌<◌, Bool, true, false, not, ◌&&◌, ◌==◌, List, [], ◌∷◌, ◌++◌, length, get_or, nat_lt, Contains, refl, sym, ap, ◌∙◌, subst, true≢false}
-use Rattle.std.specs.List.Sorted.{IsStrictlyIncreasing}
-use Rattle.std.proofs.lemmas.Bool.{eqb-true, eq-eqb, and_parts, and_from, false_from_ne_true, lt-ltb, ltb-true}
+use Rattle.std.proofs.Common.{◌≡◌, ◌↔◌, ℕ, ◌<◌, true, List, [], ◌∷◌, ◌++◌, length, get_or, nat_lt, refl, sym, ap, ◌∙◌, subst, true≢false}
+use Rattle.std.proofs.lemmas.Bool.{eqb-true, eq-eqb, and_parts, and_from, false_from_ne_true, lt-ltb}
 use Rattle.cmh_model3.specs.State.{State, counts, passes}
-use Rattle.cmh_model3.specs.Paths.{DependsOnItself, IsLocalPath, IsPath, ReachesLocally}
+use Rattle.cmh_model3.specs.Paths.{IsLocalPath, IsPath, ReachesLocally}
 use Rattle.cmh_model3.proofs.Outcomes.{counts_same}
 use Rattle.cmh_waits3.specs.Findings.{AreEdges}
 use Rattle.cmh_waits3.specs.Held.{AreWaitsOf, Held, is_member, state_of}
-use Rattle.cmh_waits3.specs.Inner.Steps.{AreAwaited, AreMarkedEdges, AreReached, IsStep, has_place, leads}
+use Rattle.cmh_waits3.specs.Inner.Steps.{AreAwaited, AreMarkedEdges, AreReached, IsStep, has_place}
 use Rattle.cmh_waits3.proofs.Lists.{at_in, in_at}
 use Rattle.cmh_waits3.proofs.Searching.{path_further}
 

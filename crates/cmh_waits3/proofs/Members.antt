@@ -1,9 +1,9 @@
 -- The rows of the processes of a site.
-use Rattle.std.proofs.Common.{◌≡◌, ◌≢◌, ℕ, suc, zero, ◌+◌, ◌<◌, ◌≤◌, Bool, true, false, not, ◌&&◌, ◌||◌, ◌==◌, if◌then◌else◌, List, [], ◌∷◌, length, get_or, Result, Ok, Err, OnOk, refl, sym, ap, ◌∙◌, inl, inr, arith, true≢false}
+use Rattle.std.proofs.Common.{◌≡◌, ◌≢◌, ℕ, suc, zero, ◌<◌, Bool, true, false, ◌&&◌, ◌||◌, ◌==◌, if◌then◌else◌, List, [], ◌∷◌, length, get_or, Result, Ok, Err, OnOk, refl, sym, ap, ◌∙◌, subst, inl, inr, arith, true≢false}
 use Rattle.std.specs.List.Sorted.{IsStrictlyIncreasing}
 use Rattle.std.proofs.Math.ListN.{set}
 use Rattle.std.proofs.Math.Path.{fun_ext}
-use Rattle.std.proofs.lemmas.Bool.{eqb-true, eq-eqb, ne_eqb, cases_Bool, cases_eq, cases_lt}
+use Rattle.std.proofs.lemmas.Bool.{eq-eqb, ne_eqb, cases_Bool, cases_eq, cases_lt}
 use Rattle.std.proofs.lemmas.List.Kept.{AllPairs-from_increasing}
 use Rattle.cmh_model3.specs.Lists.{IsAscending, in_list, set_at, with_each, without, without_all}
 use Rattle.cmh_waits3.specs.declared.wait.Wait.{Wait}
@@ -109,6 +109,12 @@ long_set (z ∷ xs) zero x = refl
 long_set (z ∷ xs) (suc i) x = ap suc (long_set xs i x)
 
 -- ---- what a site holds after the row at a place has changed
+
+-- the waits of a process for these have begun
+pub record IsBegun (v : Held) (p : ℕ) (ks : List ℕ) (s : ℕ) (new : Held) : Type 0 where
+  pub waits : waits_of new ≡ set_at (waits_of v) p (with_each (waits_of v p) ks)
+  pub since : since_of new ≡ (λ j k. if (j == p) && in_list ks k then s else since_of v j k)
+  pub undone : ended new p ks ≡ v
 
 abbrev pub held : List ℕ → List (List Wait) → Held
 held ms rows = record { members = ms; rows = rows }
@@ -229,7 +235,26 @@ ended_one_waits v up long p k = ended_waits v up long p (k ∷ []) ∙ ap (set_a
 pub ended_one_since : (v : Held) → IsStrictlyIncreasing v.members → length v.rows ≡ length v.members → (p k : ℕ) → since_of (ended v p (k ∷ [])) ≡ set_at (since_of v) p (λ q. if in_list (without (waits_of v p) k) q then since_of v p q else 0)
 ended_one_since v up long p k = ended_since v up long p (k ∷ []) ∙ ap (λ (ks : List ℕ). set_at (since_of v) p (λ q. if in_list ks q then since_of v p q else 0)) (without_is (waits_of v p) k)
 
--- in what a call found of the row it changed
+-- ---- in what a call gives
+
 pub on_ok : {T E : Type 0} (r : Result T E) (P Q : Type 0) → (P → Q) → OnOk r P → OnOk r Q
 on_ok (Ok x) P Q f h = f h
 on_ok (Err e) P Q f h = tt
+
+-- the row that was found at the place of a process
+module _ (ms : List ℕ) (rows : List (List Wait)) (up : IsStrictlyIncreasing ms) (long : length rows ≡ length ms) (i p : ℕ) (inside : i < length ms) (at : get_or ms i 0 ≡ p)
+    (v : Held) (view : held ms rows ≡ v) (found : List Wait) (row : found ≡ get_or rows i []) (ks : List ℕ) (new : (k : ℕ) → in_list ks k ≡ true → in_list (waits_of v p) k ≡ false) where
+  there : (k : ℕ) → in_list ks k ≡ true → in_list (targets_of (get_or rows i [])) k ≡ false
+  there = apart_there ms rows up long i p inside at ks (λ k h. ap (λ (w : Held). in_list (waits_of w p) k) view ∙ new k h)
+
+  pub not_found : (k : ℕ) → in_list ks k ≡ true → in_list (targets_of found) k ≡ false
+  not_found k h = ap (λ (r : List Wait). in_list (targets_of r) k) row ∙ there k h
+
+  pub begun : {T E : Type 0} (r : Result T E) (s : ℕ) (after : List Wait) → IsAscending ks → OnOk r (AreInserted ks s found after) → OnOk r (IsBegun v p ks s (held ms (set rows i after)))
+  begun r s after more = on_ok r _ _ (λ inserted.
+      let are = subst (λ (old : List Wait). AreInserted ks s old after) row inserted in
+      subst (λ (w : Held). IsBegun w p ks s (held ms (set rows i after))) view (record {
+        waits = begun_waits ms rows up long i p inside at ks s after are more there;
+        since = begun_since ms rows up long i p inside at ks s after are;
+        undone = begun_undone ms rows up long i p inside at ks s after are there;
+      }))

@@ -1,11 +1,11 @@
 -- Lists of waits, with some more and with some fewer.
-use Rattle.std.proofs.Common.{◌≡◌, ◌≢◌, ℕ, suc, zero, ◌+◌, ◌<◌, ◌≤◌, Bool, true, false, not, ◌&&◌, ◌||◌, ◌==◌, if◌then◌else◌, cond, List, [], ◌∷◌, ◌++◌, length, get_or, take, drop, refl, sym, ap, ◌∙◌, subst, inl, inr, arith, true≢false}
+use Rattle.std.proofs.Common.{◌≡◌, ℕ, suc, zero, ◌<◌, Bool, true, false, not, ◌&&◌, ◌||◌, ◌==◌, if◌then◌else◌, cond, List, [], ◌∷◌, ◌++◌, length, get_or, take, drop, refl, sym, ap, ◌∙◌, subst, inl, inr, arith, true≢false}
 use Rattle.std.specs.List.{AllByRecursion, insert}
 use Rattle.std.proofs.lemmas.List.{take-append-drop}
 use Rattle.std.proofs.lemmas.Bool.{eqb-true, eq-eqb, ne_eqb, cases_eq, cases_Bool}
 use Rattle.cmh_model3.specs.Lists.{IsAscending, in_list, with_each, without, without_all}
 use Rattle.cmh_model3.proofs.Counts.{eqb_sym, in_minus, in_with, not_after, or_no, or_yes, or_swap}
-use Rattle.cmh_model3.proofs.Ascending.{each_ascends, without_all_ascends}
+use Rattle.cmh_model3.proofs.Ascending.{each_ascends}
 use Rattle.cmh_waits3.specs.declared.wait.Wait.{Wait}
 use Rattle.cmh_waits3.specs.Inner.Inserting.{AreInserted, IsPlaceFor}
 use Rattle.cmh_waits3.specs.Rows.{others_than, since_in, targets_of}

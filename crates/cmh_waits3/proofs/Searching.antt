@@ -1,12 +1,12 @@
 -- The search of what a process reaches, by sets of places: what is reached, and what of it is left to look at.
-use Rattle.std.proofs.Common.{inl, inr, ◌≡◌, ◌↔◌, ℕ, ◌+◌, ◌-◌, ◌*◌, ◌<◌, ◌≤◌, Bool, true, false, not, ◌&&◌, ◌||◌, ◌==◌, ◌⊎◌, List, [], ◌∷◌, ◌++◌, length, get_or, nat_lt, refl, sym, ap, ◌∙◌, subst, arith, true≢false}
+use Rattle.std.proofs.Common.{inl, inr, ◌≡◌, ◌↔◌, ℕ, ◌+◌, ◌-◌, ◌*◌, ◌<◌, Bool, true, false, not, ◌&&◌, ◌||◌, ◌==◌, ◌⊎◌, List, [], ◌∷◌, ◌++◌, length, get_or, nat_lt, refl, sym, ap, ◌∙◌, subst, true≢false}
 use Rattle.std.specs.List.Sorted.{IsStrictlyIncreasing}
-use Rattle.std.proofs.lemmas.Bool.{eqb-true, eq-eqb, ne_eqb, and_parts, and_from, or_cases, or_left, or_right, or_parts, cases_Bool, cases_eq, lt-ltb, ltb-true, not-true}
+use Rattle.std.proofs.lemmas.Bool.{eqb-true, eq-eqb, ne_eqb, and_parts, and_from, or_cases, or_left, or_right, or_parts, cases_Bool, cases_eq, lt-ltb, ltb-true}
 use Rattle.cmh_model3.specs.State.{counts}
 use Rattle.cmh_model3.specs.Paths.{IsPath}
 use Rattle.cmh_waits3.specs.Held.{Held, is_member, state_of}
 use Rattle.cmh_waits3.specs.Inner.Steps.{AreAwaited, AreReached, IsStep, has_place, leads}
-use Rattle.cmh_waits3.proofs.Counting.{count_below, count_either, count_most, count_without}
+use Rattle.cmh_waits3.proofs.Counting.{count_below, count_either, count_most, count_without, less_to_do}
 use Rattle.cmh_waits3.proofs.Lists.{at_in, in_at}
 use Rattle.cmh_waits3.proofs.Members.{same_place}
 
@@ -127,8 +127,8 @@ module _ (v : Held) (n i from : ℕ) (reached work awaited : List ℕ) (place : 
       let more = count_either (has_place reached) (has_place fresh) (has_place reached') reached_is not_fresh 256 in
       let left = count_either (has_place less) (has_place fresh) (has_place work') work_is (λ k h. not_fresh k (s.in_work k (and_parts (not (k == place)) (has_place work k) (sym (less_is k) ∙ h)).1)) 256 in
       let taken = count_without (has_place work) (has_place less) place 256 small at less_is in
-      let most = count_most (has_place reached') 256 in
-      omega (arith, more, left, taken, most)
+      less_to_do (count_below (has_place reached) 256) (count_below (has_place fresh) 256) (count_below (has_place work) 256) (count_below (has_place less) 256) (count_below (has_place reached') 256) (count_below (has_place work') 256)
+      more left taken (count_most (has_place reached') 256)
 
 -- ---- at the end
 

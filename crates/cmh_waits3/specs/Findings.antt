@@ -1,5 +1,5 @@
 -- What a site finds when it looks along the waits that count for an ask.
-use Rattle.std.specs.Prelude.{◌≡◌, ℕ, List, Contains, ◌↔◌}
+use Rattle.std.specs.Prelude.{ℕ, List, Contains, ◌↔◌}
 use Rattle.std.specs.List.Sorted.{IsStrictlySortedBy}
 use Rattle.cmh_model3.specs.Lists.{pair_cmp}
 use Rattle.cmh_model3.specs.State.{State}

@@ -1,4 +1,4 @@
-use Rattle.std.proofs.Common.{◌≡◌, ◌∙◌, ◌||◌, ◌==◌, get_or, refl, ap, subst}
+use Rattle.std.proofs.Common.{◌∙◌, ◌||◌, ◌==◌, get_or, refl, ap, subst}
 use Rattle.std.specs.List.Sorted.{IsStrictlyIncreasing}
 use Rattle.cmh_model3.proofs.Counts.{or_no}
 use Rattle.cmh_waits3.proofs.Lists.{at_in}

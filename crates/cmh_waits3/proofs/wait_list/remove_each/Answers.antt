@@ -1,4 +1,4 @@
-use Rattle.std.proofs.Common.{◌≡◌, ◌∙◌, ◌+◌, ◌||◌, ◌==◌, ℕ, [], ◌∷◌, List, take, sym, ap, subst, true≢false}
+use Rattle.std.proofs.Common.{◌∙◌, ◌+◌, ◌||◌, ◌==◌, [], ◌∷◌, List, take, sym, ap, subst, true≢false}
 use Rattle.std.proofs.lemmas.List.Folds.{list_any_more}
 use Rattle.cmh_model3.specs.Lists.{IsAscending, in_list}
 use Rattle.cmh_waits3.specs.declared.wait.Wait.{Wait}

@@ -1,4 +1,4 @@
-use Rattle.std.proofs.Common.{◌≡◌, ◌<◌, ◌^◌, ◌&&◌, ℕ, not, length, get_or, refl, rules}
+use Rattle.std.proofs.Common.{◌≡◌, ◌<◌, ◌^◌, ◌&&◌, not, length, get_or, refl, rules}
 use Rattle.cmh_waits3.proofs.Bits.{beyond_bit, pairwise}
 use Rattle.cmh_waits3.proofs.place_set.PlaceSet.beyond.Goals as goal
 

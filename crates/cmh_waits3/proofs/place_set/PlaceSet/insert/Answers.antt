@@ -1,4 +1,4 @@
-use Rattle.std.proofs.Common.{◌≡◌, ◌/◌, ◌<◌, length, get_or, arith, rules}
+use Rattle.std.proofs.Common.{◌≡◌, ◌/◌, ◌<◌, length, arith, rules}
 use Rattle.std.proofs.lemmas.List.{get_or_default}
 use Rattle.cmh_waits3.proofs.Bits.{inserted}
 use Rattle.cmh_waits3.proofs.place_set.PlaceSet.insert.Goals as goal

@@ -1,4 +1,4 @@
-use Rattle.std.proofs.Common.{◌≡◌, ◌∙◌, ℕ, List, not, sym, subst, rules, tests}
+use Rattle.std.proofs.Common.{◌∙◌, not, sym, subst, rules, tests}
 use Rattle.std.proofs.lemmas.Iterator.{YieldsList-from_slice}
 use Rattle.std.proofs.lemmas.Iterator.Search.{any_from_yields_List}
 use Rattle.cmh_model3.specs.Lists.{IsAscending, is_before}
