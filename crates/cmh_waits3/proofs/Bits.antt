@@ -125,13 +125,30 @@ pairwise f none xs ys long other p q r s first second third fourth k = go (k / 6
 abbrev pub NoneBefore : List ℕ → ℕ → Type 0
 NoneBefore xs at = (q : ℕ) → q < at → get_or xs q 0 ≡ 0
 
+small_zeros : (w : ℕ) → w ≢ 0 → w < 2 ^ 64 → trailing_zeros w64 w < 64
+small_zeros w other fits =
+    let low = bit_at-trailing_zeros w64 w (omega (arith, other)) fits in
+    elim (cases_lt (trailing_zeros w64 w) 64) [
+      | inl below ↦ below
+      | inr above ↦ let none = bit_at_above w 64 (trailing_zeros w64 w) fits above in let one = low.0 in absurd (omega (arith, none, one))
+    ]
+
 pub first_at : (xs : List ℕ) (at : ℕ) → at < 4 → get_or xs at 0 ≢ 0 → get_or xs at 0 < 2 ^ 64 → (at * 64 + trailing_zeros w64 (get_or xs at 0) < 256) × (has_place xs (at * 64 + trailing_zeros w64 (get_or xs at 0)) ≡ true)
 first_at xs at inside other fits =
     let w = get_or xs at 0 in
+    let small = small_zeros w other fits in
+    (omega (arith, inside, small), has_at xs at (trailing_zeros w64 w) small ∙ lowest_bit w (omega (arith, other)) fits)
+
+-- no place is before it
+pub none_before_first : (xs : List ℕ) (at : ℕ) → NoneBefore xs at → get_or xs at 0 ≢ 0 → get_or xs at 0 < 2 ^ 64 → (k : ℕ) → k < at * 64 + trailing_zeros w64 (get_or xs at 0) → has_place xs k ≡ false
+none_before_first xs at before other fits k less =
+    let w = get_or xs at 0 in
     let some : 0 < w = omega (arith, other) in
-    let low = bit_at-trailing_zeros w64 w some fits in
-    let small : trailing_zeros w64 w < 64 = elim (cases_lt (trailing_zeros w64 w) 64) [
-      | inl below ↦ below
-      | inr above ↦ let none = bit_at_above w 64 (trailing_zeros w64 w) fits above in let one = low.0 in absurd (omega (arith, none, one))
-    ] in
-    (omega (arith, inside, small), has_at xs at (trailing_zeros w64 w) small ∙ lowest_bit w some fits)
+    elim (cases_lt (k / 64) at) [
+      | inl below ↦ ap (λ x. is_set x (k % 64)) (before (k / 64) below) ∙ no_bit (k % 64)
+      | inr above ↦
+          let small = small_zeros w other fits in
+          let here : k / 64 ≡ at = omega (arith, above, less, small) in
+          let low : k % 64 < trailing_zeros w64 w = omega (arith, here, less) in
+          ap (λ q. is_set (get_or xs q 0) (k % 64)) here ∙ ap (λ b. b == 1) ((bit_at-trailing_zeros w64 w some fits).2 (k % 64) low)
+    ]

@@ -1,14 +1,15 @@
 -- The waits that leave a site, collected process by process.
-use Rattle.std.proofs.Common.{inl, inr, zero, suc, ◌≡◌, ◌≢◌, ◌↔◌, ℕ, ◌+◌, ◌<◌, Bool, true, false, not, ◌&&◌, ◌||◌, ◌==◌, cond, List, [], ◌∷◌, ◌++◌, length, get_or, map, refl, sym, ap, ◌∙◌, subst, arith, true≢false, Contains, Less, nat_cmp}
+use Rattle.std.proofs.Common.{inl, inr, zero, suc, ◌≡◌, ◌↔◌, ℕ, ◌+◌, ◌<◌, ◌≤◌, Bool, true, false, not, ◌&&◌, ◌||◌, ◌==◌, cond, List, [], ◌∷◌, ◌++◌, length, get_or, map, refl, sym, ap, ◌∙◌, subst, arith, true≢false, Contains, Less, nat_cmp}
 use Rattle.std.specs.List.{AllByRecursion, filter, list_any}
 use Rattle.std.specs.List.Sorted.{IsStrictlySortedBy, IsStrictlyIncreasing}
 use Rattle.std.specs.Ordering.{ordering_then}
 use Rattle.std.specs.Cmp.{nat_cmp_is, nat_cmp_total, tied_itself}
-use Rattle.std.proofs.lemmas.Bool.{and_from, and_parts, cases_Bool, cases_eq, eqb-true, eq-eqb, not-true}
+use Rattle.std.proofs.lemmas.Bool.{and_from, and_parts, cases_Bool, cases_eq, cases_lt, eqb-true, eq-eqb, ne_eqb, not-true}
 use Rattle.std.proofs.lemmas.List.Elements.{Contains-append_left, Contains-append_right, Contains-append_cases}
 use Rattle.std.proofs.lemmas.List.Kept.{AllPairs-from_increasing}
 use Rattle.cmh_model3.specs.Lists.{IsAscending, in_list, is_before, pair_cmp}
 use Rattle.cmh_model3.specs.State.{counts}
+use Rattle.cmh_model3.proofs.Counts.{and_no}
 use Rattle.cmh_waits3.specs.declared.wait.Wait.{Wait}
 use Rattle.cmh_waits3.specs.Held.{Held, is_member, row_in, state_of}
 use Rattle.cmh_waits3.specs.Inner.Steps.{AreEdgesAt, AreMarkedEdges, has_place}
@@ -135,50 +136,95 @@ pub edges_begin : (v : Held) (n i : ℕ) (marked : List ℕ) → AreEdgesBelow v
 unfolding IsStrictlySortedBy
 edges_begin v n i marked = record { ascending = tt; all = λ e. (λ c. absurd (no_pair e c), λ h. let l = h.1 in absurd (omega (arith, l))) }
 
-module _ (v : Held) (n i : ℕ) (marked : List ℕ) (at : ℕ) (edges : List (ℕ × ℕ)) (are : AreEdgesBelow v n i marked at edges) where
-  -- the next member is not marked
-  pub edges_skip : has_place marked at ≡ false → AreEdgesBelow v n i marked (at + 1) edges
-  edges_skip none = record {
-    ascending = are.ascending;
+-- no member from one place to another is marked
+edges_up_to : (v : Held) (n i : ℕ) (marked : List ℕ) (from at : ℕ) (edges : List (ℕ × ℕ)) → AreEdgesBelow v n i marked from edges → from ≤ at → ((k : ℕ) → from ≤ k → k < at → has_place marked k ≡ false) → AreEdgesBelow v n i marked at edges
+edges_up_to v n i marked from at edges are up none = record {
+  ascending = are.ascending;
+  all = λ e. (
+    λ c. let h = (are.all e).0 c in let l = h.1 in (h.0, omega (arith, l, up), h.2, h.3, h.4, h.5),
+    λ h. (are.all e).1 (h.0, before h.0 h.1 h.2, h.2, h.3, h.4, h.5),
+  );
+}
+  where
+    before : (k : ℕ) → k < at → has_place marked k ≡ true → k < from
+    before k below set = elim (cases_lt k from) [
+      | inl less ↦ less
+      | inr more ↦ absurd (true≢false (sym set ∙ none k more below))
+    ]
+
+-- the next member is marked, and these are its edges
+edges_more : (v : Held) (n i : ℕ) (marked : List ℕ) (at : ℕ) (edges more : List (ℕ × ℕ)) → AreEdgesBelow v n i marked at edges → IsStrictlyIncreasing v.members → at < length v.members → has_place marked at ≡ true → AreEdgesAt v n i (get_or v.members at 0) more → AreEdgesBelow v n i marked (at + 1) (edges ++ more)
+edges_more v n i marked at edges more are up inside set next = record {
+  ascending = sorted_join edges more are.ascending next.ascending (λ x c. all_contained (λ y. pair_cmp x y ≡ Less) more (λ y d.
+      let h = (are.all x).0 c in
+      let low = AllPairs-from_increasing v.members up h.0 at 0 h.1 inside in
+      let left = h.3 in
+      let right = ((next.all y).0 d).0 in
+      lesser_first x y (omega (arith, low, left, right))));
+  all = λ e. (
+    λ c. elim (Contains-append_cases edges more e c) [
+      | inl d ↦ let h = (are.all e).0 d in let l = h.1 in (h.0, omega (arith, l), h.2, h.3, h.4, h.5)
+      | inr d ↦
+          let h = (next.all e).0 d in
+          (at, omega arith, set, h.0, ap (λ q. counts (state_of v) n i q e.1) h.0 ∙ h.1, h.2)
+    ],
+    λ h. elim (cases_eq h.0 at) [
+      | inl is ↦
+          let first : e.0 ≡ get_or v.members at 0 = h.3 ∙ ap (λ k. get_or v.members k 0) is in
+          Contains-append_right edges more e ((next.all e).1 (first, ap (λ q. counts (state_of v) n i q e.1) (sym first) ∙ h.4, h.5))
+      | inr ne ↦ Contains-append_left edges more e ((are.all e).1 (h.0, let l = h.1 in omega (arith, l, ne), h.2, h.3, h.4, h.5))
+    ],
+  );
+}
+
+-- Some of the marked places are left, those from some place on. The edges of the members before it are there.
+pub record AreEdgesWithout (v : Held) (n i : ℕ) (marked left : List ℕ) (edges : List (ℕ × ℕ)) : Type 0 where
+  pub done : ℕ
+  pub below : AreEdgesBelow v n i marked done edges
+  pub none : (k : ℕ) → k < done → has_place left k ≡ false
+  pub later : (k : ℕ) → done ≤ k → has_place left k ≡ has_place marked k
+
+pub without_begin : (v : Held) (n i : ℕ) (marked : List ℕ) → AreEdgesWithout v n i marked marked []
+without_begin v n i marked = record { done = 0; below = edges_begin v n i marked; none = λ k l. absurd (omega (arith, l)); later = λ k l. refl }
+
+module _ (v : Held) (n i : ℕ) (marked left : List ℕ) (edges : List (ℕ × ℕ)) (are : AreEdgesWithout v n i marked left edges) where
+  -- the least that is left is looked at
+  pub without_more : IsStrictlyIncreasing v.members → (place : ℕ) → place < length v.members → has_place left place ≡ true → ((k : ℕ) → k < place → has_place left k ≡ false)
+      → (less : List ℕ) → ((k : ℕ) → has_place less k ≡ (not (k == place) && has_place left k)) → (more : List (ℕ × ℕ)) → AreEdgesAt v n i (get_or v.members place 0) more → AreEdgesWithout v n i marked less (edges ++ more)
+  without_more up place inside set least less less_is more next = record {
+    done = place + 1;
+    below = edges_more v n i marked place edges more
+        (edges_up_to v n i marked are.done place edges are.below from (λ k low high. sym (are.later k low) ∙ least k high)) up inside (sym (are.later place from) ∙ set) next;
+    none = λ k low. elim (cases_eq k place) [
+      | inl e ↦ less_is k ∙ ap (λ b. not b && has_place left k) (eq-eqb k place e)
+      | inr ne ↦ less_is k ∙ ap (λ b. not (k == place) && b) (least k (omega (arith, low, ne))) ∙ and_no (not (k == place))
+    ];
+    later = λ k high. less_is k ∙ ap (λ b. not b && has_place left k) (ne_eqb k place (λ e. absurd (omega (arith, e, high)))) ∙ are.later k (let low = from in omega (arith, low, high));
+  }
+    where
+      from : are.done ≤ place
+      from = elim (cases_lt place are.done) [
+        | inl below ↦ absurd (true≢false (sym set ∙ are.none place below))
+        | inr above ↦ above
+      ]
+
+  pub still_marked : (k : ℕ) → has_place left k ≡ true → has_place marked k ≡ true
+  still_marked k set = elim (cases_lt k are.done) [
+    | inl below ↦ absurd (true≢false (sym set ∙ are.none k below))
+    | inr above ↦ sym (are.later k above) ∙ set
+  ]
+
+  pub without_end : ((k : ℕ) → has_place marked k ≡ true → k < length v.members) → ((k : ℕ) → has_place left k ≡ false) → AreMarkedEdges v n i marked edges
+  without_end inside empty = record {
+    ascending = are.below.ascending;
     all = λ e. (
-      λ c. let h = (are.all e).0 c in let l = h.1 in (h.0, omega (arith, l), h.2, h.3, h.4, h.5),
-      λ h. (are.all e).1 (h.0, let l = h.1 in omega (arith, l, other h.0 h.2), h.2, h.3, h.4, h.5),
+      λ c. let h = (are.below.all e).0 c in (h.0, inside h.0 h.2, h.2, h.3, h.4, h.5),
+      λ h. (are.below.all e).1 (h.0, before h.0 h.2, h.2, h.3, h.4, h.5),
     );
   }
     where
-      other : (k : ℕ) → has_place marked k ≡ true → k ≢ at
-      other k set e = true≢false (sym set ∙ ap (has_place marked) e ∙ none)
-
-  -- the next member is marked, and these are its edges
-  pub edges_more : IsStrictlyIncreasing v.members → at < length v.members → has_place marked at ≡ true → (more : List (ℕ × ℕ)) → AreEdgesAt v n i (get_or v.members at 0) more → AreEdgesBelow v n i marked (at + 1) (edges ++ more)
-  edges_more up inside set more next = record {
-    ascending = sorted_join edges more are.ascending next.ascending (λ x c. all_contained (λ y. pair_cmp x y ≡ Less) more (λ y d.
-        let h = (are.all x).0 c in
-        let low = AllPairs-from_increasing v.members up h.0 at 0 h.1 inside in
-        let left = h.3 in
-        let right = ((next.all y).0 d).0 in
-        lesser_first x y (omega (arith, low, left, right))));
-    all = λ e. (
-      λ c. elim (Contains-append_cases edges more e c) [
-        | inl d ↦ let h = (are.all e).0 d in let l = h.1 in (h.0, omega (arith, l), h.2, h.3, h.4, h.5)
-        | inr d ↦
-            let h = (next.all e).0 d in
-            (at, omega arith, set, h.0, ap (λ q. counts (state_of v) n i q e.1) h.0 ∙ h.1, h.2)
-      ],
-      λ h. elim (cases_eq h.0 at) [
-        | inl is ↦
-            let first : e.0 ≡ get_or v.members at 0 = h.3 ∙ ap (λ k. get_or v.members k 0) is in
-            Contains-append_right edges more e ((next.all e).1 (first, ap (λ q. counts (state_of v) n i q e.1) (sym first) ∙ h.4, h.5))
-        | inr ne ↦ Contains-append_left edges more e ((are.all e).1 (h.0, let l = h.1 in omega (arith, l, ne), h.2, h.3, h.4, h.5))
-      ],
-    );
-  }
-
-  pub edges_end : at ≡ length v.members → AreMarkedEdges v n i marked edges
-  edges_end end = record {
-    ascending = are.ascending;
-    all = λ e. (
-      λ c. let h = (are.all e).0 c in (h.0, let l = h.1 in omega (arith, l, end), h.2, h.3, h.4, h.5),
-      λ h. (are.all e).1 (h.0, let l = h.1 in omega (arith, l, end), h.2, h.3, h.4, h.5),
-    );
-  }
+      before : (k : ℕ) → has_place marked k ≡ true → k < are.done
+      before k set = elim (cases_lt k are.done) [
+        | inl less ↦ less
+        | inr more ↦ absurd (true≢false (sym set ∙ sym (are.later k more) ∙ empty k))
+      ]

@@ -1,6 +1,6 @@
 //! Places of a site's processes, as the bits of four words.
 
-ghost use Rattle.std.specs.Prelude.{◌≡◌, ℕ, ◌<◌, ◌==◌, ◌||◌, ◌&&◌, not, true, false, MatchOption};
+ghost use Rattle.std.specs.Prelude.{◌≡◌, ℕ, ◌<◌, ◌==◌, ◌||◌, ◌&&◌, not, true, false, IfSome, MatchOption};
 ghost use Rattle.cmh_waits3.specs.Inner.Steps.{has_place, is_set};
 
 /// Some of the places 0 to 255. It takes no memory.
@@ -11,6 +11,7 @@ pub struct PlaceSet {
 
 impl PlaceSet {
     /// No place.
+    #[inline(always)]
     pub fn empty() -> PlaceSet
         ensures { (k : ℕ) → has_place result.words k ≡ false }
     {
@@ -18,6 +19,7 @@ impl PlaceSet {
     }
 
     /// Whether it has the place.
+    #[inline(always)]
     pub fn has(self, place: usize) -> bool
         ensures { result ≡ has_place self.words place }
     {
@@ -28,6 +30,7 @@ impl PlaceSet {
     }
 
     /// Adds a place.
+    #[inline(always)]
     pub fn insert(&mut self, place: usize)
         requires { place < 256 }
         ensures { (k : ℕ) → has_place self.new.words k ≡ ((k == place) || has_place self.old.words k) }
@@ -36,6 +39,7 @@ impl PlaceSet {
     }
 
     /// Without a place.
+    #[inline(always)]
     pub fn without(self, place: usize) -> PlaceSet
         requires { place < 256 }
         ensures { (k : ℕ) → has_place result.words k ≡ (not (k == place) && has_place self.words k) }
@@ -46,6 +50,7 @@ impl PlaceSet {
     }
 
     /// The places of either.
+    #[inline(always)]
     pub fn either(self, other: PlaceSet) -> PlaceSet
         ensures { (k : ℕ) → has_place result.words k ≡ (has_place self.words k || has_place other.words k) }
     {
@@ -57,6 +62,7 @@ impl PlaceSet {
     }
 
     /// The places that the other lacks.
+    #[inline(always)]
     pub fn beyond(self, other: PlaceSet) -> PlaceSet
         ensures { (k : ℕ) → has_place result.words k ≡ (has_place self.words k && not (has_place other.words k)) }
     {
@@ -68,9 +74,11 @@ impl PlaceSet {
     }
 
     /// Its least place.
+    #[inline(always)]
     pub fn first(self) -> Option<usize>
-        ensures { MatchOption result ((k : ℕ) → has_place self.words k ≡ false)
+        ensures some { MatchOption result ((k : ℕ) → has_place self.words k ≡ false)
             (λ place. (place < 256) × (has_place self.words place ≡ true)) }
+        ensures least { IfSome result (λ place. (k : ℕ) → k < place → has_place self.words k ≡ false) }
     {
         for (at, word) in self.words.iter().enumerate() {
             if *word != 0 {

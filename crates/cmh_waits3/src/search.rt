@@ -103,6 +103,7 @@ fn reach_from(waits: &SiteWaits, stamp: Stamp, origin: ProcId, start: usize) -> 
 }
 
 /// The places to which waits that count lead from the process at the place.
+#[inline(always)]
 fn led_to(waits: &SiteWaits, stamp: Stamp, origin: ProcId, place: usize) -> PlaceSet
     requires { place < length waits.now.members }
     ensures { (k : ℕ) → has_place result.words k ≡ leads waits.now stamp origin place k }
@@ -140,13 +141,15 @@ fn edges_of(
     origin: ProcId,
     reached: PlaceSet,
 ) -> Result<Vec<(ProcId, ProcId)>, AllocError>
+    requires { (k : ℕ) → has_place reached.words k ≡ true → k < length waits.now.members }
     ensures { IfOk result (λ edges. AreMarkedEdges waits.now stamp origin reached.words edges.items) }
 {
+    let _ = waits.members();
     let mut edges = Vec::new(alloc);
-    for place in 0..waits.members().len() {
-        if reached.has(place) {
-            push_edges(&mut edges, waits, stamp, origin, place)?;
-        }
+    let mut left = reached;
+    while let Some(place) = left.first() {
+        left = left.without(place);
+        push_edges(&mut edges, waits, stamp, origin, place)?;
     }
     Ok(edges)
 }

@@ -1,13 +1,17 @@
-use Rattle.std.proofs.Common.{◌≡◌, ◌∙◌, ◌+◌, ◌<◌, ℕ, List, length, sym, ap, subst, arith}
+use Rattle.std.proofs.Common.{ℕ, List, sym, subst, arith}
 use Rattle.std.specs.List.Sorted.{IsStrictlyIncreasing}
-use Rattle.cmh_waits3.proofs.Edges.{AreEdgesBelow, edges_begin, edges_end, edges_more, edges_skip}
+use Rattle.cmh_waits3.specs.Inner.Steps.{has_place}
+use Rattle.cmh_waits3.proofs.Counting.{count_without}
+use Rattle.cmh_waits3.proofs.Edges.{AreEdgesWithout, still_marked, without_begin, without_end, without_more}
 use Rattle.cmh_waits3.proofs.search.edges_of.Goals as goal
-use Rattle.cmh_waits3.proofs.search.edges_of.Goals.{then-has+in_ok-push_edges, else-has}
 
 pub loop-place-init : goal.loop-place-init
 loop-place-init c =
-    let v = c.args.waits.now in
-    subst (λ (es : List (ℕ × ℕ)). AreEdgesBelow v c.args.stamp c.args.origin c.args.reached.words 0 es) (sym c.new-edges.ensures.items) (edges_begin v c.args.stamp c.args.origin c.args.reached.words)
+    let marked = c.args.reached.words in
+    subst (λ (es : List (ℕ × ℕ)). AreEdgesWithout c.args.waits.now c.args.stamp c.args.origin marked marked es) (sym c.new-edges.ensures.items) (without_begin c.args.waits.now c.args.stamp c.args.origin marked)
+
+pub push_edges-requires : goal.push_edges-requires
+push_edges-requires c = c.requires c.in-Some.place (still_marked c.args.waits.now c.args.stamp c.args.origin c.args.reached.words c.loop-place.left.words c.loop-place.edges.items c.loop-place.invariant c.in-Some.place c.in-Some.ensures.some.1)
 
 pub loop-place-preserved : goal.loop-place-preserved
 loop-place-preserved c =
@@ -15,22 +19,19 @@ loop-place-preserved c =
     let n = c.args.stamp in
     let i = c.args.origin in
     let marked = c.args.reached.words in
-    let at = c.loop-place.place in
-    let up = subst IsStrictlyIncreasing c.members-place-end.ensures.value c.members-place-end.ensures.ascending in
-    let long = ap length c.members-place-end.ensures.value in
-    let inside : at < length v.members = let below = c.loop-place-test.true in omega (arith, below, long) in
-    elim c.if-has.branch [
-      | then-has+in_ok-push_edges w ↦
-          let more = w.in_ok-push_edges.ensures in
-          rw w.edges-is (subst (λ (es : List (ℕ × ℕ)). AreEdgesBelow v n i marked (at + 1) es) (sym more.1)
-          (edges_more v n i marked at c.loop-place.edges.items c.loop-place.invariant up inside (sym c.has.ensures ∙ w.if-has.true) more.0 more.2))
-      | else-has w ↦ rw w.edges-is (edges_skip v n i marked at c.loop-place.edges.items c.loop-place.invariant (sym c.has.ensures ∙ w.if-has.false))
-    ]
+    let left = c.loop-place.left.words in
+    let place = c.in-Some.place in
+    let set = c.in-Some.ensures.some.1 in
+    let up = subst IsStrictlyIncreasing c.members.ensures.value c.members.ensures.ascending in
+    let inside = c.requires place (still_marked v n i marked left c.loop-place.edges.items c.loop-place.invariant place set) in
+    let more = c.in_ok-push_edges.ensures in
+    subst (λ (es : List (ℕ × ℕ)). AreEdgesWithout v n i marked c.without-left.result.words es) (sym more.1)
+    (without_more v n i marked left c.loop-place.edges.items c.loop-place.invariant up place inside set c.in-Some.ensures.least c.without-left.result.words c.without-left.ensures more.0 more.2)
+
+pub loop-place-smaller : goal.loop-place-smaller
+loop-place-smaller c =
+    let less = count_without (has_place c.loop-place.left.words) (has_place c.without-left.result.words) c.in-Some.place 256 c.in-Some.ensures.some.0 c.in-Some.ensures.some.1 c.without-left.ensures in
+    omega (arith, less)
 
 pub returns : goal.returns
-returns c =
-    let v = c.args.waits.now in
-    let long = ap length c.members-place-end.ensures.value in
-    let at = c.loop-place.place in
-    let end : at ≡ length v.members = let past = c.loop-place-test.false in let within = c.loop-place.auto.place-end in omega (arith, past, within, long) in
-    edges_end v c.args.stamp c.args.origin c.args.reached.words at c.loop-place.edges.items c.loop-place.invariant end
+returns c = without_end c.args.waits.now c.args.stamp c.args.origin c.args.reached.words c.loop-place.left.words c.loop-place.edges.items c.loop-place.invariant c.requires c.in_default.ensures.some
