@@ -4,7 +4,8 @@ use Rattle.std.specs.Int.{bit_at, bit_not, trailing_zeros}
 use Rattle.std.specs.Int.Bits.{bit_and, bit_or}
 use Rattle.std.proofs.lemmas.Bool.{eq-eqb, ne_eqb, cases_eq, cases_lt}
 use Rattle.std.proofs.lemmas.List.{get_or_default, get_or_past, get_or-set_same, get_or-set_other}
-use Rattle.std.proofs.lemmas.Nat.Bits.{bit_at_set_same, bit_at_set_other, bit_at_clear_same, bit_at_clear_other, bit_at_above, bit_at-zero, bit_at_and, bit_at_or, bit_at_not, bit_at-trailing_zeros, bit_at-lt}
+use Rattle.std.proofs.lemmas.Nat.{shl_whole}
+use Rattle.std.proofs.lemmas.Nat.Bits.{bit_at_set_same, bit_at_set_other, bit_at_clear_same, bit_at_clear_other, bit_at_above, bit_at-zero, bit_at_and, bit_at_or, bit_at_not, bit_at-pow_same, bit_at-pow_other, bit_at-trailing_zeros, bit_at-lt}
 use Rattle.cmh_waits3.specs.Inner.Steps.{has_place, is_set}
 
 -- ---- one word
@@ -119,6 +120,51 @@ pairwise f none xs ys long other p q r s first second third fourth k = go (k / 6
     go (suc (suc (suc (suc more)))) bit small =
         no_bit bit ∙ sym (ap (λ x. f x (is_set (get_or ys (suc (suc (suc (suc more)))) 0) bit)) (no_word xs long (suc (suc (suc (suc more)))) bit (omega arith))
         ∙ ap (f false) (no_word ys other (suc (suc (suc (suc more)))) bit (omega arith)) ∙ none)
+
+-- ---- one place
+
+one_bit : (p k : ℕ) → p < 64 → is_set (1 * 2 ^ p % 2 ^ 64) k ≡ (k == p)
+one_bit p k within =
+    let power : 1 * 2 ^ p % 2 ^ 64 ≡ 2 ^ p = shl_whole 1 1 p 64 (omega arith) (omega (arith, within)) ∙ one_times (2 ^ p) in
+    ap (λ m. is_set m k) power ∙ elim (cases_eq k p) [
+      | inl e ↦ ap (is_set (2 ^ p)) e ∙ eq-eqb (bit_at (2 ^ p) p) 1 (bit_at-pow_same p) ∙ sym (eq-eqb k p e)
+      | inr n ↦ ap (λ m. m == 1) (bit_at-pow_other p k n) ∙ sym (ne_eqb k p n)
+    ]
+  where
+    one_times : (n : ℕ) → 1 * n ≡ n
+    one_times n = omega arith
+
+-- the bit of a place in its word
+pub bit_here : (word place j : ℕ) → word ≡ place / 64 → is_set (1 * 2 ^ (place % 64) % 2 ^ 64) j ≡ ((word == place / 64) && (j == place % 64))
+bit_here word place j here = one_bit (place % 64) j (omega arith) ∙ sym (ap (λ b. b && (j == place % 64)) (eq-eqb word (place / 64) here))
+
+pub only_one : (place p q r s : ℕ) → place < 256
+    → ((j : ℕ) → j < 64 → is_set p j ≡ ((0 == place / 64) && (j == place % 64))) → ((j : ℕ) → j < 64 → is_set q j ≡ ((1 == place / 64) && (j == place % 64)))
+    → ((j : ℕ) → j < 64 → is_set r j ≡ ((2 == place / 64) && (j == place % 64))) → ((j : ℕ) → j < 64 → is_set s j ≡ ((3 == place / 64) && (j == place % 64)))
+    → (k : ℕ) → has_place (p ∷ q ∷ r ∷ s ∷ []) k ≡ (k == place)
+only_one place p q r s small first second third fourth k = go (k / 64) refl
+  where
+    both : (at : ℕ) → k / 64 ≡ at → ((at == place / 64) && (k % 64 == place % 64)) ≡ (k == place)
+    both at e = elim (cases_eq k place) [
+      | inl same ↦
+          ap (λ b. b && (k % 64 == place % 64)) (eq-eqb at (place / 64) (sym e ∙ ap (λ n. n / 64) same))
+          ∙ eq-eqb (k % 64) (place % 64) (ap (λ n. n % 64) same)
+          ∙ sym (eq-eqb k place same)
+      | inr ne ↦ elim (cases_eq at (place / 64)) [
+        | inl word ↦
+            ap (λ b. b && (k % 64 == place % 64)) (eq-eqb at (place / 64) word)
+            ∙ ne_eqb (k % 64) (place % 64) (λ bits. ne (omega (arith, e, word, bits)))
+            ∙ sym (ne_eqb k place ne)
+        | inr word ↦ ap (λ b. b && (k % 64 == place % 64)) (ne_eqb at (place / 64) word) ∙ sym (ne_eqb k place ne)
+      ]
+    ]
+
+    go : (at : ℕ) → k / 64 ≡ at → is_set (get_or (p ∷ q ∷ r ∷ s ∷ []) at 0) (k % 64) ≡ (k == place)
+    go zero e = first (k % 64) (omega arith) ∙ both 0 e
+    go (suc zero) e = second (k % 64) (omega arith) ∙ both 1 e
+    go (suc (suc zero)) e = third (k % 64) (omega arith) ∙ both 2 e
+    go (suc (suc (suc zero))) e = fourth (k % 64) (omega arith) ∙ both 3 e
+    go (suc (suc (suc (suc more)))) e = no_bit (k % 64) ∙ sym (ne_eqb k place (λ same. omega (arith, same, e, small)))
 
 -- ---- the first place
 

@@ -1,6 +1,6 @@
 //! Places of a site's processes, as the bits of four words.
 
-ghost use Rattle.std.specs.Prelude.{◌≡◌, ℕ, ◌<◌, ◌==◌, ◌||◌, ◌&&◌, not, true, false, IfSome, MatchOption};
+ghost use Rattle.std.specs.Prelude.{◌≡◌, ℕ, ◌/◌, ◌%◌, ◌<◌, ◌==◌, ◌||◌, ◌&&◌, not, true, false, IfSome, MatchOption};
 ghost use Rattle.cmh_waits3.specs.Inner.Steps.{has_place, is_set};
 
 /// Some of the places 0 to 255. It takes no memory.
@@ -38,15 +38,29 @@ impl PlaceSet {
         self.words[place / 64] |= 1 << (place % 64);
     }
 
+    /// One place. The words are made without a write at a computed index, which what reads all four would have to wait for.
+    #[inline(always)]
+    pub fn only(place: usize) -> PlaceSet
+        requires { place < 256 }
+        ensures { (k : ℕ) → has_place result.words k ≡ (k == place) }
+    {
+        PlaceSet {
+            words: [
+                bit_in(0, place),
+                bit_in(1, place),
+                bit_in(2, place),
+                bit_in(3, place),
+            ],
+        }
+    }
+
     /// Without a place.
     #[inline(always)]
     pub fn without(self, place: usize) -> PlaceSet
         requires { place < 256 }
         ensures { (k : ℕ) → has_place result.words k ≡ (not (k == place) && has_place self.words k) }
     {
-        let mut words = self.words;
-        words[place / 64] &= !(1 << (place % 64));
-        PlaceSet { words }
+        self.beyond(PlaceSet::only(place))
     }
 
     /// The places of either.
@@ -86,5 +100,17 @@ impl PlaceSet {
             }
         }
         None
+    }
+}
+
+/// The bit of the place in this word, or 0 where it is in another.
+#[inline(always)]
+fn bit_in(word: usize, place: usize) -> u64
+    ensures { (j : ℕ) → j < 64 → is_set result j ≡ ((word == place / 64) && (j == place % 64)) }
+{
+    if word == place / 64 {
+        1 << (place % 64)
+    } else {
+        0
     }
 }

@@ -1,11 +1,10 @@
-use Rattle.std.proofs.Common.{◌≡◌, ◌/◌, ◌<◌, length, arith, rules}
-use Rattle.std.proofs.lemmas.List.{get_or_default}
-use Rattle.cmh_waits3.proofs.Bits.{removed}
+use Rattle.std.proofs.Common.{◌∙◌, ◌&&◌, ◌==◌, not, ap}
+use Rattle.cmh_model3.proofs.Counts.{and_swap}
+use Rattle.cmh_waits3.specs.Inner.Steps.{has_place}
 use Rattle.cmh_waits3.proofs.place_set.PlaceSet.without.Goals as goal
 
 pub returns : goal.returns
-returns c =
-    let long : length c.args.self.words ≡ 4 = search rules in
-    let small = c.requires in
-    let inside : c.args.place / 64 < length c.args.self.words = omega (arith, long, small) in
-    λ k. removed c.args.self.words c.args.place _ k inside (get_or_default c.args.self.words (c.args.place / 64) 0 _ inside)
+returns c = λ k.
+    c.beyond.ensures k
+    ∙ ap (λ b. has_place c.args.self.words k && not b) (c.only.ensures k)
+    ∙ and_swap (has_place c.args.self.words k) (not (k == c.args.place))
