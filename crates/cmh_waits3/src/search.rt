@@ -88,8 +88,7 @@ fn reach_from(waits: &SiteWaits, stamp: Stamp, origin: ProcId, start: usize) -> 
     ensures awaited { AreAwaited waits.now stamp origin result.reached.words result.awaited.words }
 {
     let _ = waits.members();
-    let mut reached = PlaceSet::empty();
-    reached.insert(start);
+    let mut reached = PlaceSet::only(start);
     let mut awaited = PlaceSet::empty();
     let mut work = reached;
     while let Some(place) = work.first() {

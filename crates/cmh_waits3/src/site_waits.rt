@@ -16,8 +16,8 @@ use std::marker::Model;
 
 /// For whom each process of a site waits, and the stamp of the ask that began each wait.
 ///
-/// A process is blocked where it waits for some process, and else active. A call fails only when memory runs out, and
-/// then nothing has changed.
+/// A process is blocked where it waits for some process, and else active. A site has 256 processes at most; its waits have no
+/// limit here. A call fails only when memory runs out, and then nothing has changed.
 #[derive(Debug, Drop)]
 pub struct SiteWaits {
     members: MemberTable,
@@ -67,7 +67,7 @@ impl SiteWaits {
         self.members.place_of(process).is_some()
     }
 
-    /// Whether the process waits for some process. One of another site is not known to.
+    /// Whether the process waits for some process; false where it is at another site.
     #[inline(always)]
     pub fn is_blocked(&self, process: ProcId) -> bool
         ensures { result ≡ is_nonempty (waits_of self.now process) }
@@ -75,7 +75,7 @@ impl SiteWaits {
         !self.waits_of(process).is_empty()
     }
 
-    /// Whether the process waits for this holder.
+    /// Whether the process waits for this holder; false where it is at another site.
     pub fn waits_for(&self, asker: ProcId, holder: ProcId) -> bool
         ensures { result ≡ in_list (waits_of self.now asker) holder }
     {

@@ -61,7 +61,7 @@ impl WaitList {
         &self.waits
     }
 
-    /// The wait for the target, if there is one.
+    /// Whether there is a wait for the target.
     pub fn contains(&self, target: ProcId) -> bool
         ensures { result ≡ in_list (targets_of self.now) target }
     {
