@@ -1,0 +1,4 @@
+pub mod Fronts
+pub mod Wire
+pub mod Mark
+pub mod Inner
