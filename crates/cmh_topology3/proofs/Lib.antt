@@ -1,0 +1,3 @@
+pub mod AtSites
+pub mod Built
+pub mod WellFormed

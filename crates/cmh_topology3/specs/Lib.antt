@@ -1,0 +1,5 @@
+pub mod Limits
+pub mod World
+pub mod Rows
+pub mod Topology
+pub mod Inner
