@@ -1,5 +1,6 @@
 -- What holds of the state of a lawful journal.
 use Rattle.std.proofs.Common.{◌≡◌, ◌≢◌, ℕ, ◌+◌, ◌≤◌, max, Bool, true, false, not, ◌&&◌, ◌||◌, List, [], ◌∷◌, length, ◌==◌, if◌then◌else◌, Option, None, Some, MatchBool, refl, sym, ap, ◌∙◌, inl, inr, arith}
+use Rattle.std.proofs.Math.Path.{fun_ext}
 use Rattle.std.proofs.lemmas.Bool.{cases_Bool, cases_eq, eqb-true, eq-eqb, ne_eqb, and_parts, or_cases, false_from_ne_true, true≢false}
 use Rattle.cmh_model3.specs.declared.frame.Frame.TheVariants.{Request, Reply as Reply_frame, Withdraw as Withdraw_frame, Probe}
 use Rattle.cmh_model3.specs.declared.frame.Message.{Message}
@@ -274,8 +275,8 @@ module _ (home : ℕ → ℕ) (s : ℕ) where
       let behind = (f j k).1 in
       ((since_after home s v ev j k low behind).1, (stamp_move home s v ev j behind).1)
 
-  on : (v : State) (es : List Entry) → FactsOf v → SiteFactsOf v → StampFacts v → LawfulFrom home s v es → JournalFacts home s (state_after home s v es)
-  on v [] f g h lawful = record {
+  facts : (v : State) → FactsOf v → SiteFactsOf v → StampFacts v → JournalFacts home s v
+  facts v f g h = record {
     waits_home = f.places;
     waits_ascend = f.ascend;
     few_waits = f.few;
@@ -287,6 +288,24 @@ module _ (home : ℕ → ℕ) (s : ℕ) where
     leaving_away = g.leaving_away;
     local = g.local;
   }
+
+  -- one event more
+  pub facts_after : (v : State) (ev : Event) (sent : List (ℕ × Message)) (d : Option ℕ) → JournalFacts home s v → Accepts home s v ev → Sends home s v ev sent d
+      → JournalFacts home s (after home s v ev d)
+  facts_after v ev sent d j acc out =
+      let f : FactsOf v = record {
+        places = j.waits_home;
+        ascend = j.waits_ascend;
+        few = j.few_waits;
+        no_stamp = j.no_stamp;
+        no_marks = λ k h. fun_ext (λ i. j.no_marks k i h);
+        undeclared = j.undeclared;
+      } in
+      let g : SiteFactsOf v = record { owed_home = j.owed_home; leaving_away = j.leaving_away; local = j.local } in
+      facts (after home s v ev d) (after_event v ev sent d f acc out) (site_after v ev g acc) (stamps_after v ev d j.stamps)
+
+  on : (v : State) (es : List Entry) → FactsOf v → SiteFactsOf v → StampFacts v → LawfulFrom home s v es → JournalFacts home s (state_after home s v es)
+  on v [] f g h lawful = facts v f g h
   on v (e ∷ es) f g h lawful =
       on (after home s v e.event e.declared) es (after_event v e.event e.sent e.declared f lawful.0 lawful.1) (site_after v e.event g lawful.0)
       (stamps_after v e.event e.declared h) lawful.2
