@@ -1,0 +1,12 @@
+pub mod Tables
+pub mod After
+pub mod Kept
+pub mod Saying
+pub mod Refusing
+pub mod Moving
+pub mod Replaying
+pub mod Beginning
+pub mod Seeing
+pub mod Naming
+pub mod Looking
+pub mod Listing

@@ -1,0 +1,19 @@
+//! One site's controller by the rules of edition 3.
+//!
+//! It holds what the site keeps of its processes, and takes events: it accepts those that the rules of `cmh_model3`
+//! accept, and sends and declares what they say.
+#![tactic(auto)]
+
+mod controller;
+mod mark_table;
+mod outcome;
+mod pair_table;
+mod refusal;
+mod replayed;
+mod sending;
+mod targets;
+
+pub use crate::controller::Controller;
+pub use crate::outcome::{Declaration, Outcome};
+pub use crate::refusal::Refusal;
+pub use crate::replayed::{Replayed, replay};
