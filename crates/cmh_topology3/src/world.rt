@@ -1,6 +1,6 @@
 //! The number of a world.
 
-ghost use Rattle.std.specs.Prelude.{◌≡◌, Some};
+ghost use Rattle.std.specs.Prelude.{◌≡◌, Some, length};
 ghost use Rattle.cmh_topology3.specs.World.{IsReadAs, world_text};
 
 use hex::FromHex;
@@ -8,34 +8,39 @@ use std::fmt;
 use std::marker::Model;
 use std::str::FromStr;
 
-/// The number of a world, 16 bytes that were drawn once: sites of other worlds have another.
+/// The number of a world: 16 bytes, drawn at random, so that sites and journals of different runs never meet.
 #[derive(Clone, Copy, Debug, PartialEq, Eq)]
 pub struct World {
-    bytes: [u8; 16],
+    number: [u8; World::LEN],
 }
 
 impl Model for World {
-    ghost use Rattle.std.specs.Prelude.{ℕ, List};
+    ghost use Rattle.std.specs.Prelude.{◌≡◌, ℕ, List, length};
 
     ghost Value = { List ℕ };
 
-    ghost view = { λ w. w.bytes };
+    ghost view = { λ w. w.number };
 
-    ghost inverse = { λ bytes. record { bytes = bytes } };
+    ghost invariant = { λ w. length w.number ≡ 16 };
+
+    ghost inverse = { λ bytes. record { number = bytes } };
 }
 
 impl World {
-    pub const fn new(bytes: [u8; 16]) -> Self
-        ensures { result ≡ bytes }
+    /// How many bytes the number has.
+    pub const LEN: usize = 16;
+
+    pub fn new(number: [u8; World::LEN]) -> Self
+        ensures { result ≡ number }
     {
-        World { bytes }
+        World { number }
     }
 
-    pub const fn bytes(self) -> [u8; 16]
-        ensures { result ≡ self }
+    pub fn as_bytes(&self) -> &[u8]
+        ensures value { result.now ≡ self.now }
+        ensures count { length result.now ≡ 16 }
     {
-        let World { bytes } = self;
-        bytes
+        &self.number
     }
 }
 
@@ -44,7 +49,7 @@ impl fmt::Display for World {
     ghost output = { λ w. Some (world_text w) };
 
     fn fmt<W: fmt::Write>(&self, f: &mut fmt::Formatter<W>) -> fmt::Result {
-        let bytes = self.bytes.as_slice();
+        let bytes = self.number.as_slice();
         for byte in bytes {
             write!(f, "{byte:02x}")?;
         }
@@ -63,7 +68,7 @@ impl FromStr for World {
     ghost from_str_gives = { IsReadAs };
 
     fn from_str(text: &str) -> Result<World, NoWorld> {
-        match <[u8; 16] as FromHex>::from_hex(text) {
+        match <[u8; World::LEN] as FromHex>::from_hex(text) {
             Ok(bytes) => Ok(World::new(bytes)),
             Err(_) => Err(NoWorld),
         }
