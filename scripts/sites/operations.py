@@ -1,6 +1,7 @@
 """The trials of operation: what signals, descriptors, peers, disks and operators do to running sites in a year. Each says
 what is wanted. What needs a tool that is missing here is left out, and says so."""
 import contextlib
+import functools
 import os
 import re
 import shutil
@@ -366,12 +367,12 @@ def second_in_a_folder(program):
         yield 'the first is accepted', done.returncode == 0 and b'\naccepted\n' in done.stdout
 
 
-def start_cluster(world, lines, folder, before=()):
+def start_cluster(world, lines, folder, before=(), more=()):
     os.makedirs(folder, exist_ok=True)
     with open(world.path('script'), 'w') as file:
         file.write(''.join(line + '\n' for line in lines))
     words = [*before, world.program, 'cluster', '--topology', world.path('topology')]
-    words += ['--script', world.path('script'), '--out', folder]
+    words += ['--script', world.path('script'), '--out', folder, *more]
     return subprocess.Popen(words, stdout=subprocess.PIPE, stderr=subprocess.PIPE)
 
 
@@ -528,6 +529,51 @@ def cluster_of_few_files(program):
             yield ('%d files: after %.1f s, with %.1f s of processor time' % (limit, time.monotonic() - begin, seconds),
                    status in (0, 1, 3) and seconds < LOOK_PROCESSOR_SECONDS)
         watch.cancel()
+
+
+def cluster_without_links(program):
+    """16 sites need 2 * 16 * 16 + 2 * 16 + 3 descriptors. With 256 the links of the last sites can't be opened, and a deadlock
+    between two of them isn't found. A strict cluster begins only where the descriptors suffice, and finds it then."""
+    lines = ['ask 15 16', 'ask 16 15', 'start 15', 'declared 15']
+    needed, few = 547, limited('nofile', 256)
+    with World(program, {site: [site] for site in range(1, 17)}) as world:
+        run = functools.partial(run_cluster, world, lines)
+        status, said, named = run(before=few)
+        yield 'it misses links', (status, named) == (0, '') and unopened(said) > 0 and 'accepted' in said
+        yield 'it misses the deadlock', 'site 15 declared' in said
+        status, said, named = run('--explain', before=few)
+        wanted = 'warning: %d of the links could not be opened: all sites need %d descriptors, and the limit is 256\n'
+        yield 'it is explained', (status, named) == (0, wanted % (unopened(said), needed)) and unopened(said) > 0
+        yield 'a strict one does not begin', run('--strict', before=few) == (1, [], 'fault descriptors %d allowed 256\n' % needed)
+        yield 'nor with one less than it needs', run('--strict', before=limited('nofile', needed - 1)) == (
+            1, [], 'fault descriptors %d allowed %d\n' % (needed, needed - 1))
+        wanted = 'fault descriptors %d allowed 256\ncmh: no site was started, since links would be missing; `ulimit -n %d` allows them\n'
+        yield 'that is explained', run('--strict', '--explain', before=few) == (1, [], wanted % (needed, needed))
+        status, said, named = run('--strict', '--explain', before=limited('nofile', needed))
+        yield 'it begins with as many', (status, named) == (0, '') and 'declared 15 cycle 15 16 15' in said
+        yield 'and opens all links', not any(line.startswith('link') for line in said)
+
+
+def cluster_of_refused_links(program):
+    """A link that can't be opened, with descriptors enough: a strict cluster says all that another does, but is no success."""
+    with World(program, PAIR) as world:
+        refused = traced(world, 'connect', 'connect:error=ENOBUFS:when=1')
+        status, said, named = run_cluster(world, ['ask 1 2'], '--explain', before=refused)
+        warning = 'warning: %d of the links could not be opened\n' % unopened(said)
+        yield 'it is accepted', (status, named) == (0, warning) and unopened(said) > 0 and 'accepted' in said
+        yield 'a strict one is too, but fails', run_cluster(world, ['ask 1 2'], '--explain', '--strict', before=refused) == (1, said, named)
+        yield 'as long as links are missing', run_cluster(world, ['ask 1 2'], '--strict')[0] == 0
+
+
+def run_cluster(world, lines, *more, before=()):
+    """The status of a cluster, its lines, and what it said on standard error."""
+    ran = ended(start_cluster(world, lines, world.path('out'), before=before, more=more))
+    return ran.returncode, ran.stdout.decode().splitlines(), ran.stderr.decode()
+
+
+def unopened(lines):
+    """How many links a cluster names as closed, none of whose frames came."""
+    return sum(bool(re.fullmatch('link [0-9]+ [0-9]+ closed 1', line)) for line in lines)
 
 
 def reaped(process):
@@ -804,6 +850,6 @@ def told(lines):
 OPERATIONS = [interrupted_calls, stopped_and_continued, spent_connections, standing_connections, silent_for_long,
               failed_accepts, few_descriptors, accepting_ended, second_on_a_journal, at_one_moment, second_in_a_folder,
               quit_with_slow_peers, refused_sender, sender_of_another_edition, peer_that_restarted, frames_that_dont_come,
-              cluster_of_few_files, audit_of_running_sites, synced_folder, taken_port_leaves_nothing, no_regular_file,
-              size_limit, full_backlog, linked_journal, shortened_journal, standing_journals, many_kept_journals,
-              notes_of_links, notes_are_few]
+              cluster_of_few_files, cluster_without_links, cluster_of_refused_links, audit_of_running_sites, synced_folder,
+              taken_port_leaves_nothing, no_regular_file, size_limit, full_backlog, linked_journal, shortened_journal,
+              standing_journals, many_kept_journals, notes_of_links, notes_are_few]

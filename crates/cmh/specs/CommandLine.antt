@@ -1,13 +1,14 @@
 -- What the words of a command line name, and how the program ends.
 use Rattle.std.specs.Prelude.{◌≡◌, ℕ, ◌⊎◌, List, codes, option_map, Option, None, Some}
-use Rattle.std.specs.Str.Parse.{IsNumeral, digits_value, without_leading_plus}
 use Rattle.clap.specs.declared.parser.matches.ArgMatches.{ArgMatches}
 use Rattle.clap.specs.Matches.{first_value, found_of, one_text, subcommand_name_of}
 use Rattle.clap.specs.Simple.{subcommand_rows_of}
 use Rattle.clap.specs.Walk.{rows_of}
 use Rattle.cmh_frames.specs.Number.{IsNumber}
 use Rattle.cmh_console.specs.Status.{IsStatus}
+use Rattle.cmh_commands.specs.Drawing.{TellsColumn}
 use Rattle.cmh_commands.specs.Files.{IsUnset}
+use Rattle.cmh_commands.specs.Numbers.{TellsNumber}
 
 -- the command that is named is the audit
 abbrev pub NamesAudit : ArgMatches → Type 0
@@ -64,17 +65,17 @@ NamesOption matches name value = (words : ArgMatches)
     → option_map (λ p. p.1) (subcommand_rows_of matches) ≡ Some (rows_of (found_of words))
     → one_text (found_of words) name ≡ Some value
 
--- an option that is told is this number, in decimal digits
-abbrev pub TellsNumber : Option (List ℕ) → ℕ → Type 0
-TellsNumber None number = ⊥
-TellsNumber (Some text) number =
-    IsNumeral 10 (without_leading_plus text) × (digits_value 10 (without_leading_plus text) ≡ number)
-
 -- the number of the site is told, and is this one of the numbers that sites have
 abbrev pub NamesSiteNumber : ArgMatches → ℕ → Type 0
 NamesSiteNumber matches site = IsNumber site × ((words : ArgMatches)
     → option_map (λ p. p.1) (subcommand_rows_of matches) ≡ Some (rows_of (found_of words))
     → TellsNumber (one_text (found_of words) (codes "site")) site)
+
+-- an option of the command is this column, or it is not told
+abbrev pub NamesColumn : ArgMatches → List ℕ → Option ℕ → Type 0
+NamesColumn matches name told = (words : ArgMatches)
+    → option_map (λ p. p.1) (subcommand_rows_of matches) ≡ Some (rows_of (found_of words))
+    → TellsColumn (one_text (found_of words) name) told
 
 -- a run is not asked for
 abbrev pub NamesNoRun : ArgMatches → Type 0
@@ -107,6 +108,16 @@ abbrev pub NamesReasons : ArgMatches → Type 0
 NamesReasons matches = (words : ArgMatches)
     → option_map (λ p. p.1) (subcommand_rows_of matches) ≡ Some (rows_of (found_of words))
     → one_text (found_of words) (codes "why") ≡ Some (codes "true")
+
+-- a cluster is not to be strict
+abbrev pub NamesNoStrictness : ArgMatches → Type 0
+NamesNoStrictness matches = (words : ArgMatches)
+    → option_map (λ p. p.1) (subcommand_rows_of matches) ≡ Some (rows_of (found_of words))
+    → IsUnset (one_text (found_of words) (codes "strict"))
+
+-- it is to be
+abbrev pub NamesStrictness : ArgMatches → Type 0
+NamesStrictness matches = NamesOption matches (codes "strict") (codes "true")
 
 -- the status of a command, or 2 for a command line that isn't understood
 abbrev pub IsEnd : ℕ → Type 0

@@ -6,6 +6,7 @@ use Rattle.cmh_host.specs.SiteFaults.{as_fault as of_site}
 use Rattle.cmh_host.specs.declared.site_fault.SiteFault.{SiteFault}
 use Rattle.cmh_host.specs.declared.site_fault.SiteFault.TheVariants.{Site}
 use Rattle.cmh_site.specs.ClusterEndings.{ClusterEnds}
+use Rattle.cmh_site.specs.Descriptors.{StrictlyEnds}
 use Rattle.cmh_site.specs.Endings.{IsSiteFault, Served}
 use Rattle.cmh_commands.specs.FileFaults.{IsUnread, as_fault as of_file}
 
@@ -40,4 +41,11 @@ ServesSome was read old new err_old err_new status =
 abbrev pub ServesCluster : {W E : Type 0} → Writing W → Writing W → Writing E → Writing E → ℕ → Type 0
 ServesCluster old new err_old err_new status =
     ((topology : List ℕ) × (script : List ℕ) × ClusterEnds topology script old new err_old err_new status)
+    ⊎ ((new ≡ old) × NamesFault of_file IsUnread status err_old err_new)
+
+-- the same of a strict cluster, some of whose links could not be opened, or none
+abbrev pub ServesStrictly : {W E : Type 0} → Writing W → Writing W → Writing E → Writing E → ℕ → Type 0
+ServesStrictly old new err_old err_new status =
+    ((topology : List ℕ) × (script : List ℕ) × (unopened : ℕ) × StrictlyEnds topology script old new err_old err_new status unopened
+    × (status ≡ 0 → unopened ≡ 0))
     ⊎ ((new ≡ old) × NamesFault of_file IsUnread status err_old err_new)

@@ -1,34 +1,40 @@
 //! The program: it reads its command line and calls a command.
 #![tactic(auto)]
 
-ghost use Rattle.std.specs.Prelude.{◌≡◌, ℕ, Some, codes};
+ghost use Rattle.std.specs.Prelude.{◌≡◌, ℕ, Option, Some, codes};
 ghost use Rattle.clap.specs.Matches.{found_of, one_text};
-ghost use Rattle.cmh_commands.specs.Drawing.{DrawsFiles, DrawsSome};
-ghost use Rattle.cmh_commands.specs.Files.{AuditsFiles, AuditsSomehow, ExplainsFiles, ListsFiles, ShowsFiles};
+ghost use Rattle.cmh_commands.specs.Drawing.{DrawsFiles, DrawsSome, part_between};
+ghost use Rattle.cmh_commands.specs.Files.{AuditsFiles, AuditsSomehow, ExplainsFiles, IsUnset, ListsFiles, ShowsFiles};
+ghost use Rattle.cmh_commands.specs.Numbers.{TellsNumber};
 ghost use Rattle.cmh_commands.specs.Paging.{PagesFiles, PlaysToPage};
 ghost use Rattle.cmh_commands.specs.Playing.{PlaysAlone, PlaysScript};
-ghost use Rattle.cmh.specs.CommandLine.{IsEnd, NamesAudit, NamesCluster, NamesDraw, NamesNoFolder, NamesNoPage, NamesNoPageFile, NamesNoReasons, NamesNoRun, NamesNothing, NamesOption, NamesPage, NamesReasons, NamesRun, NamesShow, NamesSite, NamesSiteNumber, ReadsNoInput, TellsNumber};
-ghost use Rattle.cmh.specs.Serving.{ServesCluster, ServesSite, ServesSome};
+ghost use Rattle.cmh.specs.CommandLine.{IsEnd, NamesAudit, NamesCluster, NamesColumn, NamesDraw, NamesNoFolder, NamesNoPage, NamesNoPageFile, NamesNoReasons, NamesNoRun, NamesNoStrictness, NamesNothing, NamesOption, NamesPage, NamesReasons, NamesRun, NamesShow, NamesSite, NamesSiteNumber, NamesStrictness, ReadsNoInput};
+ghost use Rattle.cmh.specs.Serving.{ServesCluster, ServesSite, ServesSome, ServesStrictly};
 ghost use Rattle.cmh_frames.specs.Number.{IsNumber};
 ghost use Rattle.cmh_draw.specs.Kinds.{kind_word};
 ghost use Rattle.cmh_draw.specs.declared.picture.Kind as kinds;
 ghost use Rattle.cmh_picture.specs.Formats.{format_word};
 ghost use Rattle.cmh_picture.specs.declared.format.Format as formats;
 ghost use Rattle.cmh_console.specs.Status.{IsStatus};
+ghost use Rattle.cmh_site.specs.ClusterEndings.{ClusterEnds};
+ghost use Rattle.cmh_site.specs.Descriptors.{StrictlyEnds};
 
 use clap::{ArgMatches, Error, error};
 use cmh_carriers::{Noted, Voice};
 use cmh_commands::{
     AUDIT, BACKLOG, CLUSTER, DRAW, EXPLAIN, FileFault, Help, JOURNAL, JOURNALS, Listener, NOTES,
-    OUT, PAGE, PATIENCE, PLAY, PORT, QUIET, SERVE, SHOW, SITE, TOPOLOGY, audit, cluster_files_of,
-    command, draw_or_page, explanation, play_into, play_page, read_file, show,
+    OUT, PAGE, PATIENCE, PLAY, PORT, QUIET, SERVE, SHOW, SITE, STRICT, TOPOLOGY, audit,
+    cluster_files_of, command, draw_or_page, explanation, play_into, play_page, read_file, show,
 };
 use cmh_console::{Ahead, Fault, Input, Output};
 use cmh_frames::SiteId;
 use cmh_host::{BacklogLimit, SiteStart, System};
 use cmh_play::run_play;
 use cmh_service::{ServiceStart, run_service};
-use cmh_site::{ClusterStart, run_cluster_noting, run_site_noting};
+use cmh_site::{
+    ClusterEnd, ClusterStart, Shortage, allowed_descriptors, run_cluster_counting,
+    run_cluster_strictly, run_site_noting, shortage_of,
+};
 use std::fs::File;
 use std::io::{BufRead, BufReader, BufWriter, ErrorKind, IsTerminal, Write};
 use std::net::{Net, TcpListener, TcpStream};
@@ -165,7 +171,7 @@ where
 {
     let mut listener = Listener::new(rt.alloc(), err);
     let mut heard = Output::new(&mut listener);
-    let status = carry_out(rt, matches, input, out, &mut heard);
+    let status = carry_out(rt, terminals, matches, input, out, &mut heard);
     let line = listener.into_heard();
     if !line.is_empty() {
         explain(rt, terminals, words_of(matches), &line, err);
@@ -200,6 +206,7 @@ fn explain<R: AllocGlobal + Files, E: Write>(
 /// Runs the command that the words name; `play` where they name none.
 fn carry_out<R, I: BufRead + Ahead, W: Write, E: Write>(
     rt: &R,
+    terminals: Terminals,
     matches: &ArgMatches<'_>,
     input: &mut Input<I>,
     out: &mut Output<W>,
@@ -230,9 +237,12 @@ where
     // a page.
     ensures shows { NamesShow matches.now → ShowsFiles out.old out.new err.old err.new result }
     ensures draws { NamesDraw matches.now → NamesNoPage matches.now → (kind : kinds.Kind) → (format : formats.Format)
+        → (first last : Option ℕ)
         → NamesOption matches.now (codes "kind") (kind_word kind)
         → NamesOption matches.now (codes "format") (format_word format)
-        → DrawsFiles kind format out.old out.new err.old err.new result }
+        → NamesColumn matches.now (codes "from") first
+        → NamesColumn matches.now (codes "to") last
+        → DrawsFiles kind format (part_between first last) out.old out.new err.old err.new result }
     ensures draws_some { NamesDraw matches.now → NamesNoPage matches.now
         → DrawsSome out.old out.new err.old err.new result }
     ensures pages { NamesDraw matches.now → NamesPage matches.now
@@ -243,7 +253,10 @@ where
         → ServesSite site input.old input.new out.old out.new err.old err.new result }
     ensures serves_some { NamesSite matches.now
         → ServesSome input.old input.new out.old out.new err.old err.new result }
-    ensures serves_cluster { NamesCluster matches.now → ServesCluster out.old out.new err.old err.new result }
+    ensures serves_cluster { NamesCluster matches.now → NamesNoStrictness matches.now
+        → ServesCluster out.old out.new err.old err.new result }
+    ensures serves_strictly { NamesCluster matches.now → NamesStrictness matches.now
+        → ServesStrictly out.old out.new err.old err.new result }
     ensures reads_nothing { ReadsNoInput matches.now → input.new ≡ input.old }
 {
     if let Some(words) = matches.subcommand_matches(AUDIT) {
@@ -262,7 +275,7 @@ where
         return serve_clients(rt, words, out, err);
     }
     if let Some(words) = matches.subcommand_matches(CLUSTER) {
-        return serve_cluster(rt, words, out, err);
+        return serve_cluster(rt, terminals, words, out, err);
     }
     if let Some(words) = matches.subcommand_matches(PLAY) {
         if let Some(path) = words.get_str(JOURNALS) {
@@ -399,6 +412,7 @@ fn number_of(words: &ArgMatches<'_>) -> u16
 /// Runs all sites of the topology that the words name.
 fn serve_cluster<R, W: Write, E: Write>(
     rt: &R,
+    terminals: Terminals,
     words: &ArgMatches<'_>,
     out: &mut Output<W>,
     err: &mut Output<E>,
@@ -406,7 +420,10 @@ fn serve_cluster<R, W: Write, E: Write>(
 where
     R: System + AllocGlobal + Eprint + Files<File = File> + Send + 'static,
     ensures status { IsStatus result }
-    ensures serves { ServesCluster out.old out.new err.old err.new result }
+    ensures serves { IsUnset (one_text (found_of words.now) (codes "strict"))
+        → ServesCluster out.old out.new err.old err.new result }
+    ensures serves_strictly { one_text (found_of words.now) (codes "strict") ≡ Some (codes "true")
+        → ServesStrictly out.old out.new err.old err.new result }
 {
     let files = match cluster_files_of(rt, words) {
         Ok(files) => files,
@@ -417,7 +434,48 @@ where
         script: &files.script,
         dir: words.get_str(OUT).unwrap_or(""),
     };
-    run_cluster_noting(*rt, &start, out, err, voice_of(rt, words))
+    let end = run_all(rt, words, &start, out, err);
+    if end.unopened > 0 && (terminals.error || words.get_flag(EXPLAIN)) {
+        warn_of_links(rt, &files.topology, end.unopened);
+    }
+    end.status
+}
+
+/// Runs all sites, strictly where the words ask for it.
+fn run_all<R, W: Write, E: Write>(
+    rt: &R,
+    words: &ArgMatches<'_>,
+    start: &ClusterStart<'_>,
+    out: &mut Output<W>,
+    err: &mut Output<E>,
+) -> ClusterEnd
+where
+    R: System + AllocGlobal + Eprint + Files<File = File> + Send + 'static,
+    ensures status { IsStatus result.status }
+    ensures ends { IsUnset (one_text (found_of words.now) (codes "strict"))
+        → ClusterEnds start.now.topology.now start.now.script.now out.old out.new err.old err.new result.status }
+    ensures strictly { one_text (found_of words.now) (codes "strict") ≡ Some (codes "true")
+        → StrictlyEnds start.now.topology.now start.now.script.now out.old out.new err.old err.new
+        result.status result.unopened }
+    ensures opened { one_text (found_of words.now) (codes "strict") ≡ Some (codes "true")
+        → result.status ≡ 0 → result.unopened ≡ 0 }
+{
+    if words.get_flag(STRICT) {
+        return run_cluster_strictly(*rt, start, out, err, voice_of(rt, words));
+    }
+    run_cluster_counting(*rt, start, out, err, voice_of(rt, words))
+}
+
+/// Says on standard error how many links could not be opened, and whether that was for want of descriptors.
+fn warn_of_links<R: AllocGlobal + Eprint>(rt: &R, topology: &[u8], unopened: usize) {
+    let allowed = allowed_descriptors().unwrap_or(u64::MAX);
+    // A write to standard error that fails is ignored.
+    let _ = match shortage_of(rt.alloc(), topology, allowed) {
+        Ok(Some(Shortage { needed, allowed })) => eprintln!(rt;
+            "warning: {unopened} of the links could not be opened: all sites need {needed} descriptors, and the limit is {allowed}"
+        ),
+        _ => eprintln!(rt; "warning: {unopened} of the links could not be opened"),
+    };
 }
 
 fn main(rt: HostRuntime) -> ExitCode {

@@ -1,19 +1,31 @@
 -- Pictures of files.
-use Rattle.std.specs.Prelude.{◌≡◌, ℕ, ◌⊎◌, List}
+use Rattle.std.specs.Prelude.{◌≡◌, ℕ, ◌<◌, ◌^◌, ◌⊎◌, ◌&&◌, if◌then◌else◌, List, Option, None, Some, is_none, unwrap_or}
 use Rattle.cmh_draw.specs.declared.picture.Kind.{Kind}
 use Rattle.cmh_console.specs.Device.{Writing}
 use Rattle.cmh_console.specs.Faults.{NamesFault}
 use Rattle.cmh_picture.specs.Draws.{DrawEnds}
 use Rattle.cmh_picture.specs.declared.format.Format.{Format}
+use Rattle.cmh_picture.specs.declared.part.Part.{Part}
 use Rattle.cmh_commands.specs.FileFaults.{IsUnread, as_fault}
+use Rattle.cmh_commands.specs.Numbers.{TellsNumber}
+
+-- an option that is told is this column, or it is not told
+abbrev pub TellsColumn : Option (List ℕ) → Option ℕ → Type 0
+TellsColumn told None = told ≡ None
+TellsColumn told (Some column) = (column < 2 ^ 32) × TellsNumber told column
+
+-- the part from one column, or from the first, to another, or to the last; none where no column is told
+abbrev pub part_between : Option ℕ → Option ℕ → Option Part
+part_between first last = if is_none first && is_none last then None
+    else Some (record { first = unwrap_or first 1; last = unwrap_or last 4294967295 })
 
 -- some files were drawn, or nothing is written and the fault of one that could not be read is named
-abbrev pub DrawsFiles : {W E : Type 0} → Kind → Format → Writing W → Writing W → Writing E → Writing E → ℕ → Type 0
-DrawsFiles kind format old new err_old err_new status =
-    ((topology : List ℕ) × (files : List (List ℕ)) × DrawEnds topology files kind format old new err_old err_new status)
+abbrev pub DrawsFiles : {W E : Type 0} → Kind → Format → Option Part → Writing W → Writing W → Writing E → Writing E → ℕ → Type 0
+DrawsFiles kind format part old new err_old err_new status =
+    ((topology : List ℕ) × (files : List (List ℕ)) × DrawEnds topology files kind format part old new err_old err_new status)
     ⊎ ((new ≡ old) × NamesFault as_fault IsUnread status err_old err_new)
 
--- the same of a kind and a format
+-- the same of a kind, a format and a part
 abbrev pub DrawsSome : {W E : Type 0} → Writing W → Writing W → Writing E → Writing E → ℕ → Type 0
 DrawsSome old new err_old err_new status =
-    (kind : Kind) × (format : Format) × DrawsFiles kind format old new err_old err_new status
+    (kind : Kind) × (format : Format) × (part : Option Part) × DrawsFiles kind format part old new err_old err_new status

@@ -1,3 +1,4 @@
+pub mod Numbers
 pub mod FileFaults
 pub mod Files
 pub mod Drawing

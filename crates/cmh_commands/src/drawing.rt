@@ -1,8 +1,9 @@
 //! The command `draw`.
 
-ghost use Rattle.std.specs.Prelude.{◌≡◌, Some, codes};
+ghost use Rattle.std.specs.Prelude.{◌≡◌, ◌<◌, ◌^◌, ℕ, Option, None, Some, codes};
 ghost use Rattle.clap.specs.Matches.{found_of, one_text};
-ghost use Rattle.cmh_commands.specs.Drawing.{DrawsFiles, DrawsSome};
+ghost use Rattle.cmh_commands.specs.Drawing.{DrawsFiles, DrawsSome, TellsColumn, part_between};
+ghost use Rattle.cmh_commands.specs.Numbers.{TellsNumber};
 ghost use Rattle.cmh_draw.specs.Kinds.{kind_word};
 ghost use Rattle.cmh_draw.specs.declared.picture.Kind as kinds;
 ghost use Rattle.cmh_console.specs.Status.{IsStatus};
@@ -10,10 +11,10 @@ ghost use Rattle.cmh_picture.specs.Formats.{format_word};
 ghost use Rattle.cmh_picture.specs.declared.format.Format as formats;
 
 use crate::files::files_of;
-use crate::options::{FORMAT, KIND};
+use crate::options::{FORMAT, FROM, KIND, TO};
 use clap::ArgMatches;
 use cmh_console::{Fault, Output};
-use cmh_picture::{Drawing, Format, Kind, run_draw};
+use cmh_picture::{Drawing, Format, Kind, Part, run_draw};
 use std::io::Write;
 use std::rt::Files;
 
@@ -25,14 +26,17 @@ pub fn draw<R: AllocGlobal + Files, W: Write, E: Write>(
     err: &mut Output<E>,
 ) -> u8
     ensures status { IsStatus result }
-    ensures draws { (kind : kinds.Kind) → (format : formats.Format)
+    ensures draws { (kind : kinds.Kind) → (format : formats.Format) → (first last : Option ℕ)
         → one_text (found_of words.now) (codes "kind") ≡ Some (kind_word kind)
         → one_text (found_of words.now) (codes "format") ≡ Some (format_word format)
-        → DrawsFiles kind format out.old out.new err.old err.new result }
+        → TellsColumn (one_text (found_of words.now) (codes "from")) first
+        → TellsColumn (one_text (found_of words.now) (codes "to")) last
+        → DrawsFiles kind format (part_between first last) out.old out.new err.old err.new result }
     ensures draws_some { DrawsSome out.old out.new err.old err.new result }
 {
     let kind = kind_of(words);
     let format = format_of(words);
+    let part = part_of(words);
     match files_of(rt, words) {
         Ok(files) => {
             let drawing = Drawing {
@@ -40,6 +44,7 @@ pub fn draw<R: AllocGlobal + Files, W: Write, E: Write>(
                 journals: &files.journals,
                 kind,
                 format,
+                part,
             };
             run_draw(rt.alloc(), &drawing, out, err)
         }
@@ -61,4 +66,38 @@ fn format_of(words: &ArgMatches<'_>) -> Format
         → result ≡ format }
 {
     words.get_one(FORMAT).unwrap_or(Format::Svg)
+}
+
+/// The part of a run that the words ask for, if they name a column.
+fn part_of(words: &ArgMatches<'_>) -> Option<Part>
+    ensures { (first last : Option ℕ)
+        → TellsColumn (one_text (found_of words.now) (codes "from")) first
+        → TellsColumn (one_text (found_of words.now) (codes "to")) last
+        → result ≡ part_between first last }
+{
+    let first = column_of(words, FROM);
+    let last = column_of(words, TO);
+    between(first, last)
+}
+
+/// The columns from the first one, or the first of all, to the last one, or the last of all; none where all are meant.
+fn between(first: Option<u32>, last: Option<u32>) -> Option<Part>
+    ensures { result ≡ part_between first last }
+{
+    if first.is_none() && last.is_none() {
+        return None;
+    }
+    Some(Part {
+        first: first.unwrap_or(1),
+        last: last.unwrap_or(u32::MAX),
+    })
+}
+
+/// The column that an option names, if it is given.
+fn column_of(words: &ArgMatches<'_>, option: &str) -> Option<u32>
+    ensures none { one_text (found_of words.now) option.now ≡ None → result ≡ None }
+    ensures some { (column : ℕ) → column < 2 ^ 32 → TellsNumber (one_text (found_of words.now) option.now) column
+        → result ≡ Some column }
+{
+    words.get_one(option)
 }

@@ -27,6 +27,8 @@ enum Subject {
     Input,
     Output,
     Page,
+    Picture,
+    Descriptors,
     Memory,
 }
 
@@ -77,6 +79,14 @@ const SUBJECTS: &[FaultWord] = &[
         word: "page",
         subject: Subject::Page,
     },
+    FaultWord {
+        word: "picture",
+        subject: Subject::Picture,
+    },
+    FaultWord {
+        word: "descriptors",
+        subject: Subject::Descriptors,
+    },
 ];
 
 /// What a line with this word speaks of; of memory, where it is no other.
@@ -114,6 +124,11 @@ pub fn explanation<R: AllocGlobal + Files>(
         Subject::Input => write!(text, "standard input can't be read")?,
         Subject::Output => write!(text, "standard output can't be written, or nobody reads it")?,
         Subject::Page => write!(text, "a page tells at most 20,000 events")?,
+        Subject::Picture => write!(
+            text,
+            "a picture of a run has at most 20,000 lines, entries and frames; --from and --to choose columns"
+        )?,
+        Subject::Descriptors => explain_descriptors(&mut fault, &mut text)?,
         Subject::Memory => write!(text, "memory was refused")?,
     }
     Ok(text)
@@ -124,6 +139,17 @@ fn explain_site(words: &ArgMatches<'_>, text: &mut String) -> Result<(), AllocEr
     let path = words.get_str(TOPOLOGY).unwrap_or("");
     let site = words.get_str(SITE).unwrap_or("");
     write!(text, "{path}: there is no site {site}")?;
+    Ok(())
+}
+
+/// Of a strict cluster that may have too few descriptors.
+fn explain_descriptors(fault: &mut Words<'_>, text: &mut String) -> Result<(), AllocError> {
+    // No topology needs a number of more digits.
+    let needed = fault.number().unwrap_or(0);
+    write!(
+        text,
+        "no site was started, since links would be missing; `ulimit -n {needed}` allows them"
+    )?;
     Ok(())
 }
 

@@ -79,8 +79,10 @@ Lines of the script; a line that fits none is answered `bad line`:
   declared S     the processes of site S that were found deadlocked
 
 After the script it prints `link A B closed N` for each link that had closed, and then the audit.
-Each link takes two open files, so N sites take about 2 N N. The usual limit of 1,024 open files is enough for some 20
-sites, and `ulimit -n 20000` for all 64.
+Each link takes two open files, so N sites take 2 N N + 2 N + 3. The usual limit of 1,024 open files is enough for 22
+sites, and `ulimit -n 20000` for all 64. A link that can't be opened is closed, and what is sent on it is lost, so that a
+deadlock may not be found. With --strict that is no status 0: no site is started where the limit is too low, and the line
+`fault descriptors N allowed M` names what they need and the limit.
 
 The journals are made anew in place of those of an earlier run. Where a site still writes to one of them, none is touched:
 that is `fault file out`.
@@ -148,9 +150,9 @@ Then, as a client: printf 'ask 1 2\\nwaits 1\\n' | nc 127.0.0.1 7100
 
 const CLUSTER_STATUSES: &str = "\
 Statuses: 0 accepted, 1 refused, out of memory, or `not settled` (frames were under way and none came within 10 seconds),
-2 for a command line that isn't understood, 3 at a fault, which is named on standard error: `fault file P` (P is
-`topology`, `script` or `out`), `fault json`, `fault topology N`, `fault listen` (a port is taken), `fault journal P N`,
-`fault output`.
+with --strict also where open files are too few or a link could not be opened, 2 for a command line that isn't
+understood, 3 at a fault, which is named on standard error: `fault file P` (P is `topology`, `script` or `out`),
+`fault json`, `fault topology N`, `fault listen` (a port is taken), `fault journal P N`, `fault output`.
 
 Example: cmh cluster --topology world.json --script asks --out journals
 ";
@@ -211,6 +213,10 @@ entries, and an arrow for each frame from the entry that sent it to the one that
 nobody got has an open end: it was lost, or waits on its link. Where the journals are refused, the entry at which a site
 stops is marked.
 
+With --from and --to the picture of a run has the entries from one column to another, counted from 1, and the frames
+that they sent or got. A picture of a run has at most 20000 lines, entries and frames; of more the fault is
+`fault picture`.
+
 With --page it writes a page in place of a picture: one HTML file that steps through the run in a browser, forward and
 back, with who waits for whom, what each controller knows and why each probe acted or was ignored. A page has at most
 20000 events; of more the fault is `fault page`.
@@ -219,6 +225,7 @@ Statuses: 0 where a picture or a page was written, 1 where memory ran out, 2 for
 at a fault, which is named on standard error as in `cmh audit --help`.
 
 Example: cmh draw --topology world.json --kind run one.cmhj two.cmhj > run.svg
+Example: cmh draw --topology world.json --kind run --from 1 --to 40 one.cmhj two.cmhj > beginning.svg
 Example: cmh draw --topology world.json --page one.cmhj two.cmhj > run.html
 Example: cmh draw --topology world.json --format dot one.cmhj two.cmhj | dot -Tpng > waits.png
 ";

@@ -25,8 +25,9 @@ pub use crate::files::{
 pub use crate::help::Help;
 pub use crate::listener::Listener;
 pub use crate::options::{
-    AUDIT, BACKLOG, CLUSTER, DRAW, EXPLAIN, FORMAT, JOURNAL, JOURNALS, KIND, NOTES, OUT, PAGE,
-    PATIENCE, PLAY, PORT, QUIET, RUN, SCRIPT, SERVE, SHOW, SITE, TOPOLOGY, WHY, command,
+    AUDIT, BACKLOG, CLUSTER, DRAW, EXPLAIN, FORMAT, FROM, JOURNAL, JOURNALS, KIND, NOTES, OUT,
+    PAGE, PATIENCE, PLAY, PORT, QUIET, RUN, SCRIPT, SERVE, SHOW, SITE, STRICT, TO, TOPOLOGY, WHY,
+    command,
 };
 pub use crate::paging::{draw_or_page, play_page};
 pub use crate::playing::play_into;

@@ -34,6 +34,8 @@ pub const RUN: &str = "run";
 
 pub const NOTES: &str = "notes";
 
+pub const STRICT: &str = "strict";
+
 pub const PATIENCE: &str = "patience";
 
 pub const BACKLOG: &str = "backlog";
@@ -45,6 +47,10 @@ pub const QUIET: &str = "quiet";
 pub const KIND: &str = "kind";
 
 pub const FORMAT: &str = "format";
+
+pub const FROM: &str = "from";
+
+pub const TO: &str = "to";
 
 pub const EXPLAIN: &str = "explain";
 
@@ -119,12 +125,16 @@ fn audit_command<'a>(alloc: Global, help: &'a Help) -> Result<Command<'a>, Error
 
 fn draw_command<'a>(alloc: Global, help: &'a Help) -> Result<Command<'a>, Error> {
     let page = page_arg(alloc)?;
+    let from = column_arg(alloc, FROM)?;
+    let to = column_arg(alloc, TO)?;
     let draw = Command::new(alloc, DRAW)
         .about("Draws the journals of all sites: who waits for whom at their end, or what happened")
         .after_help(help.draw.as_str())
         .arg(topology_arg(alloc))?
         .arg(kind_arg(alloc))?
         .arg(format_arg(alloc))?
+        .arg(from.help("The first column of a run that is drawn, counted from 1"))?
+        .arg(to.help("The last column of a run that is drawn"))?
         .arg(page)?
         .arg(explain_arg(alloc))?
         .arg(journals_arg(alloc).help("The journal files of all sites, in any order"))?;
@@ -173,6 +183,7 @@ fn cluster_command<'a>(alloc: Global, help: &'a Help) -> Result<Command<'a>, Err
         .arg(topology_arg(alloc))?
         .arg(script_arg(alloc))?
         .arg(out_arg(alloc))?
+        .arg(strict_arg(alloc))?
         .arg(notes_arg(alloc))?
         .arg(explain_arg(alloc))?;
     Ok(command)
@@ -233,6 +244,17 @@ fn format_arg<'a>(alloc: Global) -> Arg<'a> {
     word_arg(alloc, FORMAT, FORMATS)
         .default_value("svg")
         .help("A picture that a browser opens, or text for Graphviz")
+}
+
+/// A column of a picture. A page has none.
+fn column_arg<'a>(alloc: Global, name: &'a str) -> Result<Arg<'a>, Error> {
+    let column = Arg::new(alloc, name)
+        .long(name)
+        .value_name("COLUMN")
+        .value_parser(value_parser!(u32).range(1..=4_294_967_295))
+        .action(ArgAction::Set)
+        .conflicts_with(PAGE)?;
+    Ok(column)
 }
 
 /// Whether a page is made in place of a picture.
@@ -330,6 +352,15 @@ fn explain_arg<'a>(alloc: Global) -> Arg<'a> {
     Arg::new(alloc, EXPLAIN)
         .long(EXPLAIN)
         .help("Explains a fault in a second line on standard error, as at a terminal")
+        .action(ArgAction::SetTrue)
+}
+
+fn strict_arg<'a>(alloc: Global) -> Arg<'a> {
+    Arg::new(alloc, STRICT)
+        .long(STRICT)
+        .help(
+            "Starts no site where the open files don't suffice for all, and fails where a link can't be opened",
+        )
         .action(ArgAction::SetTrue)
 }
 

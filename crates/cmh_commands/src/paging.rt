@@ -1,13 +1,13 @@
 //! Pages that step through a run: `draw --page` and `play --page`.
 
-ghost use Rattle.std.specs.Prelude.{◌≡◌, Some, codes};
+ghost use Rattle.std.specs.Prelude.{◌≡◌, ℕ, Option, Some, codes};
 ghost use Rattle.clap.specs.Matches.{found_of, one_text};
 ghost use Rattle.cmh_draw.specs.Kinds.{kind_word};
 ghost use Rattle.cmh_draw.specs.declared.picture.Kind as kinds;
 ghost use Rattle.cmh_console.specs.Status.{IsStatus};
 ghost use Rattle.cmh_picture.specs.Formats.{format_word};
 ghost use Rattle.cmh_picture.specs.declared.format.Format as formats;
-ghost use Rattle.cmh_commands.specs.Drawing.{DrawsFiles, DrawsSome};
+ghost use Rattle.cmh_commands.specs.Drawing.{DrawsFiles, DrawsSome, TellsColumn, part_between};
 ghost use Rattle.cmh_commands.specs.Files.{IsUnset};
 ghost use Rattle.cmh_commands.specs.Paging.{IsWritten, PagesFiles, PlaysToPage};
 ghost use Rattle.cmh_commands.specs.Playing.{PlaysScript};
@@ -35,9 +35,12 @@ pub fn draw_or_page<R: AllocGlobal + Files, W: Write, E: Write>(
 ) -> u8
     ensures status { IsStatus result }
     ensures draws { IsUnset (one_text (found_of words.now) (codes "page")) → (kind : kinds.Kind) → (format : formats.Format)
+        → (first last : Option ℕ)
         → one_text (found_of words.now) (codes "kind") ≡ Some (kind_word kind)
         → one_text (found_of words.now) (codes "format") ≡ Some (format_word format)
-        → DrawsFiles kind format out.old out.new err.old err.new result }
+        → TellsColumn (one_text (found_of words.now) (codes "from")) first
+        → TellsColumn (one_text (found_of words.now) (codes "to")) last
+        → DrawsFiles kind format (part_between first last) out.old out.new err.old err.new result }
     ensures draws_some { IsUnset (one_text (found_of words.now) (codes "page"))
         → DrawsSome out.old out.new err.old err.new result }
     ensures pages { one_text (found_of words.now) (codes "page") ≡ Some (codes "true")

@@ -1,5 +1,5 @@
 -- The command `draw`: from the bytes of its files to the text of their picture.
-use Rattle.std.specs.Prelude.{◌≡◌, ℕ, true, ◌⊎◌, List, Option}
+use Rattle.std.specs.Prelude.{◌≡◌, ℕ, ◌<◌, ◌≤◌, Bool, true, ◌⊎◌, ⊤, List, length, Option}
 use Rattle.std.specs.Io.KnownBytes.{Appends}
 use Rattle.cmh_frames.specs.Topology.{Topology}
 use Rattle.cmh_journal.specs.Journal.{Journal}
@@ -10,10 +10,13 @@ use Rattle.cmh_draw.specs.declared.picture.Kind.TheVariants.{Waits, Run}
 use Rattle.cmh_draw.specs.declared.picture.Picture.{Picture}
 use Rattle.cmh_console.specs.Device.{Writing}
 use Rattle.cmh_files.specs.Audits.{Audits, IsCause}
-use Rattle.cmh_console.specs.Faults.{NamesFault}
-use Rattle.cmh_files.specs.AuditFaults.{as_fault}
+use Rattle.cmh_picture.specs.Parts.{marks_in}
+use Rattle.cmh_picture.specs.PictureFaults.{NamesPictureFault}
 use Rattle.cmh_picture.specs.PictureTexts.{IsDrawn}
 use Rattle.cmh_picture.specs.declared.format.Format.{Format}
+use Rattle.cmh_picture.specs.declared.part.Part.{Part}
+use Rattle.cmh_picture.specs.declared.picture_fault.PictureFault.{PictureFault}
+use Rattle.cmh_picture.specs.declared.picture_fault.PictureFault.TheVariants.{Audit, TooManyMarks}
 
 -- the picture of this kind of journals on which this is the verdict: each site, wait, process, frame and entry is
 -- marked in it once, and nothing else
@@ -30,19 +33,51 @@ pub record DrawsFiles (topology : List ℕ) (files : List (List ℕ)) (kind : Ki
   pub audits : Audits topology files world journals cuts verdict
   pub is_picture : IsPictureOf kind world journals verdict picture
 
--- what was written is a text of the picture of the files
-pub record WroteDrawing (topology : List ℕ) (files : List (List ℕ)) (kind : Kind) (format : Format)
+-- how many marks a picture of a run may have
+abbrev pub mark_limit : ℕ
+mark_limit = 20000
+
+-- they are not too many; a picture of waits may have any number
+abbrev pub IsFew : Kind → ℕ → Type 0
+IsFew Waits count = ⊤
+IsFew Run count = count ≤ mark_limit
+
+-- they are too many
+abbrev pub IsMany : Kind → ℕ → Type 0
+IsMany Waits count = ⊥
+IsMany Run count = mark_limit < count
+
+-- a picture shows what is asked for of the picture of the files, and that is not too much
+pub record ShowsFiles (topology : List ℕ) (files : List (List ℕ)) (kind : Kind) (part : Option Part) (picture : Picture) : Type 0 where
+  pub whole : Picture
+  pub draws : DrawsFiles topology files kind whole
+  pub marks_are : picture.marks.items ≡ marks_in part whole.marks.items
+  pub few : IsFew kind (length picture.marks.items)
+
+-- what was written is a text of a picture that shows the files
+pub record WroteDrawing (topology : List ℕ) (files : List (List ℕ)) (kind : Kind) (format : Format) (part : Option Part)
     (old new : Option (List ℕ)) : Type 0 where
   pub picture : Picture
   pub text : List ℕ
-  pub draws : DrawsFiles topology files kind picture
+  pub shows : ShowsFiles topology files kind part picture
   pub is_drawn : IsDrawn format picture.marks.items text
   pub wrote : Appends old new text
 
--- a picture was written and flushed, and nothing else, or it is named why it couldn't be: the faults are those of an
--- audit
-abbrev pub DrawEnds : {W E : Type 0} → List ℕ → List (List ℕ) → Kind → Format → Writing W → Writing W → Writing E → Writing E → ℕ → Type 0
-DrawEnds topology files kind format old new err_old err_new status =
-    (WroteDrawing topology files kind format old.written new.written × (status ≡ 0) × (new.is_flushed ≡ true)
+-- what is asked for of the picture of the files has too many marks
+pub record HasTooManyMarks (topology : List ℕ) (files : List (List ℕ)) (kind : Kind) (part : Option Part) : Type 0 where
+  pub whole : Picture
+  pub draws : DrawsFiles topology files kind whole
+  pub many : IsMany kind (length (marks_in part whole.marks.items))
+
+-- Why no picture is written. Nothing was written then, but where the writer failed.
+abbrev pub IsPictureCause : List ℕ → List (List ℕ) → Kind → Option Part → Option (List ℕ) → Option (List ℕ) → Bool → PictureFault → Type 0
+IsPictureCause topology files kind part old new has_failed (Audit fault) = IsCause topology files old new has_failed fault
+IsPictureCause topology files kind part old new has_failed TooManyMarks =
+    HasTooManyMarks topology files kind part × (new ≡ old)
+
+-- a picture was written and flushed, and nothing else, or it is named why it couldn't be
+abbrev pub DrawEnds : {W E : Type 0} → List ℕ → List (List ℕ) → Kind → Format → Option Part → Writing W → Writing W → Writing E → Writing E → ℕ → Type 0
+DrawEnds topology files kind format part old new err_old err_new status =
+    (WroteDrawing topology files kind format part old.written new.written × (status ≡ 0) × (new.is_flushed ≡ true)
     × (err_new ≡ err_old))
-    ⊎ NamesFault as_fault (IsCause topology files old.written new.written new.has_failed) status err_old err_new
+    ⊎ NamesPictureFault (IsPictureCause topology files kind part old.written new.written new.has_failed) status err_old err_new

@@ -1,5 +1,7 @@
 pub mod Formats
 pub mod Names
 pub mod PictureTexts
+pub mod Parts
+pub mod PictureFaults
 pub mod Draws
 pub mod Inner

@@ -7,7 +7,7 @@ use crate::look::{Look, look_of};
 use crate::point::Point;
 use crate::scene::Scene;
 use crate::svg_run::{is_below, way_of};
-use cmh_draw::{Arrow, EntryMark, EntrySpot, Kind, Mark, Process, Site, Spot, Wait};
+use cmh_draw::{Arrow, EntryMark, EntrySpot, Kind, Mark, Process, Site, Wait};
 use cmh_frames::{Event, Frame};
 use std::alloc::{AllocError, Global};
 use std::fmt;
@@ -107,10 +107,7 @@ fn add_wait(wait: Wait, text: &mut String) -> Result<(), AllocError> {
 /// A line from the name of a site to the right.
 fn add_line(scene: Scene<'_>, line: Site, text: &mut String) -> Result<(), AllocError> {
     let site = line.site;
-    let right = scene.layout.point(Spot {
-        column: line.length,
-        row: line.place,
-    });
+    let right = scene.line_end(line);
     let end = Position { at: right };
     let left = Position {
         at: Point { x: 40, y: right.y },
@@ -245,7 +242,7 @@ fn add_arrow(
     text: &mut String,
 ) -> Result<(), AllocError> {
     match arrow.got {
-        Some(got) => add_edge(scene.layout, arrow, &got, text),
+        Some(got) => add_way(scene, arrow, &got, text),
         None => add_open(alloc, scene, arrow, text),
     }
 }
@@ -282,6 +279,39 @@ fn add_open(
     write!(
         text,
         "{node}:sw -> {node}_{place}:e [arrowhead=odot, {look}]\n"
+    )
+}
+
+/// An edge to the entry that got the frame.
+fn add_way(
+    scene: Scene<'_>,
+    arrow: &Arrow,
+    got: &EntrySpot,
+    text: &mut String,
+) -> Result<(), AllocError> {
+    add_hidden(scene, &arrow.from, text)?;
+    add_hidden(scene, got, text)?;
+    let arrow = Arrow {
+        from: scene.end_of(arrow.from),
+        place: arrow.place,
+        to: arrow.to,
+        frame: arrow.frame,
+        got: arrow.got,
+    };
+    add_edge(scene.layout, &arrow, &scene.end_of(*got), text)
+}
+
+/// A node that is not seen, where an edge begins or ends whose entry is not drawn.
+fn add_hidden(scene: Scene<'_>, at: &EntrySpot, text: &mut String) -> Result<(), AllocError> {
+    let Some(edge) = scene.edge_of(*at) else {
+        return Ok(());
+    };
+    let at = scene.layout.point(edge.spot);
+    let node = Node { at: edge };
+    let position = Position { at };
+    write!(
+        text,
+        "{node} [shape=point, width=0.02, style=invis, {position}]\n"
     )
 }
 

@@ -1,13 +1,17 @@
 //! The command `draw`: the picture of the journals of all sites.
 
 ghost use Rattle.std.specs.Prelude.{◌≡◌, true, OnOk, IfOk, IfErr, map};
-ghost use Rattle.cmh_files.specs.Audits.{IsAuditFault, IsCause};
+ghost use Rattle.std.specs.Bool.{OnFalse, OnTrue};
+ghost use Rattle.cmh_files.specs.Audits.{IsAuditFault};
 ghost use Rattle.cmh_console.specs.Status.{IsStatus};
-ghost use Rattle.cmh_picture.specs.Draws.{DrawEnds, DrawsFiles, IsPictureOf, WroteDrawing};
+ghost use Rattle.cmh_picture.specs.Draws.{DrawEnds, DrawsFiles, IsFew, IsMany, IsPictureCause, IsPictureOf, ShowsFiles, WroteDrawing};
+ghost use Rattle.cmh_picture.specs.Inner.Showing.{IsPictureFault};
 
 use crate::format::Format;
+use crate::part::{Part, part_of};
+use crate::picture_fault::PictureFault;
 use crate::picture_text::picture_text;
-use cmh_console::{Fault, Output};
+use cmh_console::Output;
 use cmh_draw::{Kind, Picture, run_picture, waits_picture};
 use cmh_files::{AuditFault, Audited, audit_files};
 use cmh_journal::list_journals;
@@ -23,14 +27,20 @@ pub struct Drawing<'a> {
     pub journals: &'a [Vec<u8>],
     pub kind: Kind,
     pub format: Format,
+    /// The part of a run that is drawn; all of it where this is none. A picture of waits has no parts.
+    pub part: Option<Part>,
 }
+
+/// How many marks a picture of a run may have: its lines, entries, frames and stops.
+const MARK_LIMIT: usize = 20_000;
 
 /// Audits the journals of all sites of a topology and writes their picture: of the run, or of who waits for whom at its
 /// end. Where they come from no run, it shows how far they can be taken.
 ///
 /// The answer is the status of the program: 0 where a picture is written, also of journals that come from no run, 1
-/// where memory ran out, 3 at any other fault. The faults are those of `run_audit`. A fault is named on `err`, and a
-/// write to it that fails is ignored. Nothing is written to `out` before a fault but where writing itself failed.
+/// where memory ran out, 3 at any other fault. The faults are those of `run_audit`, and `PictureFault::TooManyMarks`. A
+/// fault is named on `err`, and a write to it that fails is ignored. Nothing is written to `out` before a fault but where
+/// writing itself failed.
 pub fn run_draw<W: Write, E: Write>(
     alloc: Global,
     drawing: &Drawing<'_>,
@@ -41,11 +51,11 @@ pub fn run_draw<W: Write, E: Write>(
 
     // A picture is written, or a fault is named, and nothing else.
     ensures ends { DrawEnds drawing.now.topology.now (map (λ file. file.items) drawing.now.journals.now)
-        drawing.now.kind drawing.now.format out.old out.new err.old err.new result }
+        drawing.now.kind drawing.now.format drawing.now.part out.old out.new err.old err.new result }
 {
     match draw_into(alloc, drawing, out) {
         Ok(()) => 0,
-        Err(fault) => Fault::from(fault).name_on(err),
+        Err(fault) => fault.name_on(err),
     }
 }
 
@@ -54,20 +64,46 @@ fn draw_into<W: Write>(
     alloc: Global,
     drawing: &Drawing<'_>,
     out: &mut Output<W>,
-) -> Result<(), AuditFault>
+) -> Result<(), PictureFault>
     ensures wrote { OnOk result (WroteDrawing drawing.now.topology.now
-        (map (λ file. file.items) drawing.now.journals.now) drawing.now.kind drawing.now.format
+        (map (λ file. file.items) drawing.now.journals.now) drawing.now.kind drawing.now.format drawing.now.part
         out.old.written out.new.written) }
     ensures flushed { OnOk result (out.new.is_flushed ≡ true) }
-    ensures fault { IfErr result (IsCause drawing.now.topology.now
-        (map (λ file. file.items) drawing.now.journals.now)
+    ensures fault { IfErr result (IsPictureCause drawing.now.topology.now
+        (map (λ file. file.items) drawing.now.journals.now) drawing.now.kind drawing.now.part
         out.old.written out.new.written out.new.has_failed) }
 {
-    let picture = picture_of_files(alloc, drawing)?;
-    let text = picture_text(alloc, drawing.format, &picture)?;
+    let picture = shown_picture(alloc, drawing)?;
+    let text = picture_text(alloc, drawing.format, drawing.part, &picture)?;
     out.write_text(text)?;
     out.flush()?;
     Ok(())
+}
+
+/// The part of the picture that is asked for, if it is not too large.
+fn shown_picture(alloc: Global, drawing: &Drawing<'_>) -> Result<Picture, PictureFault>
+    ensures shows { IfOk result (ShowsFiles drawing.now.topology.now
+        (map (λ file. file.items) drawing.now.journals.now) drawing.now.kind drawing.now.part) }
+    ensures fault { IfErr result (IsPictureFault drawing.now.topology.now
+        (map (λ file. file.items) drawing.now.journals.now) drawing.now.kind drawing.now.part) }
+{
+    let whole = picture_of_files(alloc, drawing)?;
+    let picture = part_of(drawing.part, whole);
+    if is_too_large(drawing.kind, picture.marks.len()) {
+        return Err(PictureFault::TooManyMarks);
+    }
+    Ok(picture)
+}
+
+/// Whether a picture of this kind may not have so many marks.
+const fn is_too_large(kind: Kind, count: usize) -> bool
+    ensures few { OnFalse result (IsFew kind count) }
+    ensures many { OnTrue result (IsMany kind count) }
+{
+    match kind {
+        Kind::Waits => false,
+        Kind::Run => count > MARK_LIMIT,
+    }
 }
 
 /// The picture of these files. The first fault is answered, as of an audit.

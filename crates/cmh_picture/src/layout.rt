@@ -2,6 +2,7 @@
 
 use crate::format::Format;
 use crate::label::StepText;
+use crate::part::Part;
 use crate::point::Point;
 use cmh_draw::{Arrow, EntryMark, Mark, Spot};
 use cmh_frames::Event;
@@ -28,6 +29,21 @@ impl Layout {
             longest.add(alloc, mark)?;
         }
         Ok(longest.layout(format))
+    }
+
+    /// The places of a part, whose first column stands where that of the whole would.
+    pub fn from_part(self, part: Option<Part>) -> Layout {
+        match part {
+            Some(part) => Layout {
+                left: place(
+                    self.left,
+                    0i32.saturating_sub(self.column),
+                    part.first.saturating_sub(1),
+                ),
+                ..self
+            },
+            None => self,
+        }
     }
 
     pub fn point(self, spot: Spot) -> Point {

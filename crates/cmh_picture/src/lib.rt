@@ -9,6 +9,8 @@ mod label;
 mod layout;
 mod look;
 mod name;
+mod part;
+mod picture_fault;
 mod picture_text;
 mod point;
 mod scene;
@@ -19,4 +21,6 @@ mod svg_waits;
 
 pub use crate::drawing::{Drawing, run_draw};
 pub use crate::format::{Format, NoFormat};
+pub use crate::part::Part;
+pub use crate::picture_fault::PictureFault;
 pub use cmh_draw::{Kind, NoKind};

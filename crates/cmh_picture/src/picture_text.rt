@@ -8,6 +8,7 @@ ghost use Rattle.cmh_picture.specs.declared.format.Format.TheVariants.{Dot, Svg}
 use crate::format::Format;
 use crate::layout::Layout;
 use crate::name::MarkName;
+use crate::part::Part;
 use crate::scene::{Scene, processes_of};
 use crate::{dot, svg};
 use cmh_draw::{Mark, Picture};
@@ -17,13 +18,19 @@ use std::alloc::{AllocError, Global};
 ///
 /// Nothing in it has to be escaped: it is made of numbers and of words that stand here. What a mark's text says but its
 /// name is shown by files that were looked at (`scripts/lessons/run`). The only error is out of memory.
-pub fn picture_text(alloc: Global, format: Format, picture: &Picture) -> Result<String, AllocError>
+pub fn picture_text(
+    alloc: Global,
+    format: Format,
+    part: Option<Part>,
+    picture: &Picture,
+) -> Result<String, AllocError>
     ensures { IfOk result (λ text. IsDrawn format picture.now.marks.items (string_bytes text)) }
 {
     let processes = processes_of(alloc, &picture.marks)?;
-    let layout = Layout::new(alloc, format, &picture.marks)?;
+    let layout = Layout::new(alloc, format, &picture.marks)?.from_part(part);
     let scene = Scene {
         picture,
+        part,
         layout,
         processes: &processes,
     };

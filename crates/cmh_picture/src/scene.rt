@@ -2,8 +2,9 @@
 
 use crate::curve::Curve;
 use crate::layout::{Layout, home_height, home_point, process_point};
+use crate::part::Part;
 use crate::point::Point;
-use cmh_draw::{Kind, Mark, Picture, Spot};
+use cmh_draw::{EntrySpot, Kind, Mark, Picture, Site, Spot};
 use cmh_frames::SiteId;
 use std::alloc::{AllocError, Global};
 
@@ -11,6 +12,7 @@ use std::alloc::{AllocError, Global};
 #[derive(Clone, Copy)]
 pub struct Scene<'a> {
     pub picture: &'a Picture,
+    pub part: Option<Part>,
     pub layout: Layout,
     pub processes: &'a [Point],
 }
@@ -38,6 +40,52 @@ impl<'a> Scene<'a> {
             x: end.x.max(600),
             y: end.y,
         }
+    }
+
+    /// The first column of a run that is drawn, from 0.
+    pub fn first_column(self) -> u32 {
+        match self.part {
+            Some(part) => part.first.saturating_sub(1),
+            None => 0,
+        }
+    }
+
+    /// The end of a site's line in a run.
+    pub fn line_end(self, line: Site) -> Point {
+        let end = self.layout.point(Spot {
+            column: line.length.min(self.picture.columns),
+            row: line.place,
+        });
+        Point {
+            x: end.x.max(80),
+            y: end.y,
+        }
+    }
+
+    /// Where an arrow enters or leaves the part of a run that is drawn, if its entry is not drawn: next to that part.
+    pub fn edge_of(self, at: EntrySpot) -> Option<EntrySpot> {
+        let part = self.part?;
+        if part.has(at.spot) {
+            return None;
+        }
+        let column = if at.spot.column < part.last {
+            part.first.saturating_sub(2)
+        } else {
+            part.last
+        };
+        Some(EntrySpot {
+            spot: Spot {
+                column,
+                row: at.spot.row,
+            },
+            ..at
+        })
+    }
+
+    /// Where an arrow begins or ends: at its entry, or next to the part that is drawn.
+    pub fn end_of(self, at: EntrySpot) -> EntrySpot {
+        let entry = at;
+        self.edge_of(at).unwrap_or(entry)
     }
 
     /// The row of a site in a run, if it has a line.

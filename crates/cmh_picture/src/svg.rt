@@ -54,7 +54,7 @@ pub fn shape_of(alloc: Global, scene: Scene<'_>, mark: &Mark) -> Result<String, 
     match mark {
         Mark::Site(site) => match scene.picture.kind {
             Kind::Waits => add_home(*site, &mut text)?,
-            Kind::Run => add_line(scene.layout, *site, &mut text)?,
+            Kind::Run => add_line(scene, *site, &mut text)?,
         },
         Mark::Process(process) => add_process(*process, &mut text)?,
         Mark::Wait(wait) => add_wait(scene, *wait, &mut text)?,

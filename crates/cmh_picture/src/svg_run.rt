@@ -12,22 +12,47 @@ use cmh_frames::{Event, Frame, ProcId, SiteId};
 use std::alloc::AllocError;
 use std::fmt;
 
-/// A line from the left to the right.
-pub fn add_line(layout: Layout, line: Site, text: &mut String) -> Result<(), AllocError> {
+/// How long, in points, a line is at most whose site is named at its beginning alone.
+const SHORT: i32 = 5000;
+
+/// How far apart, in points, the names along a longer line are, but for the columns: one of them is seen on most screens.
+const NAMES_APART: i32 = 1200;
+
+/// A line from the left to the right, with the site's name at its beginning; along a long one again and again.
+pub fn add_line(scene: Scene<'_>, line: Site, text: &mut String) -> Result<(), AllocError> {
     let site = line.site;
-    let end = layout.point(Spot {
-        column: line.length,
-        row: line.place,
-    });
+    let row = line.place;
+    let end = scene.line_end(line);
     let x = end.x;
     let y = end.y;
     write!(text, "<path d='M80 {y}H{x}'/>")?;
-    add_label(
-        text,
-        "name",
-        Point { x: 20, y }.moved(0, 4),
-        SiteText { site },
-    )
+    add_name(text, site, Point { x: 20, y })?;
+    if x > SHORT {
+        add_names(scene, site, row, text)?;
+    }
+    Ok(())
+}
+
+/// The names along the line in a row, each on the right of an entry, where no label is.
+fn add_names(
+    scene: Scene<'_>,
+    site: SiteId,
+    row: u32,
+    text: &mut String,
+) -> Result<(), AllocError> {
+    let first = scene.first_column();
+    let apart = (NAMES_APART / scene.layout.column.max(1)).max(1) as u32;
+    let columns = scene.picture.columns.saturating_sub(first);
+    for number in 1..=columns.saturating_sub(1) / apart {
+        let column = first.saturating_add(number.saturating_mul(apart));
+        let at = scene.layout.point(Spot { column, row });
+        add_name(text, site, at.moved(14, 0))?;
+    }
+    Ok(())
+}
+
+fn add_name(text: &mut String, site: SiteId, at: Point) -> Result<(), AllocError> {
+    add_label(text, "name", at.moved(0, 4), SiteText { site })
 }
 
 /// A disk where a process did something, a square where a frame came, an octagon where one was declared, with the

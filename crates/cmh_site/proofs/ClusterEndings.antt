@@ -1,5 +1,5 @@
 -- How a cluster ends.
-use Rattle.std.proofs.Common.{◌≡◌, ℕ, Bool, List, [], ◌∷◌, ◌++◌, Option, length, refl, sym, ap, subst, ◌∙◌, inl, inr}
+use Rattle.std.proofs.Common.{◌≡◌, ℕ, Bool, true, List, [], ◌∷◌, ◌++◌, Option, length, refl, sym, ap, subst, ◌∙◌, inl, inr}
 use Rattle.std.specs.Prelude.{◌⊎◌, IfErr, IfOk, IsErrAnd, Result, Ok, Err, flat_map}
 use Rattle.std.specs.Io.KnownBytes.{Appends}
 use Rattle.std.proofs.lemmas.List.{flat_map_more}
@@ -16,10 +16,13 @@ use Rattle.cmh_console.specs.declared.keeping.NoFile.TheVariants as files
 use Rattle.cmh_console.specs.declared.dialogue.Flow.{Flow}
 use Rattle.cmh_console.specs.declared.dialogue.Flow.TheVariants.{Awaits, Ends}
 use Rattle.cmh_site.specs.ClusterEndings.{Answered, Begun, EndsInAudit, HasPlayed, IsClusterFault, IsRunFault, IsStartFault, NamesClosed, closed_line}
-use Rattle.cmh_site.specs.ClusterFaults.{of_dialogue, of_file}
+use Rattle.cmh_site.specs.ClusterFaults.{of_dialogue, of_file, of_setting}
 use Rattle.cmh_site.specs.ClusterTalk.{IsTurnOfCluster}
 use Rattle.cmh_site.specs.declared.cluster_fault.ClusterFault.{ClusterFault}
 use Rattle.cmh_site.specs.declared.cluster_fault.ClusterFault.TheVariants.{Json, Topology as NoTopology, ScriptFile, OutFile, Listen, Output, Memory}
+use Rattle.cmh_host.specs.Setting.{IsSettingFault}
+use Rattle.cmh_host.specs.declared.setting.SettingFault.{SettingFault}
+use Rattle.cmh_host.specs.declared.setting.SettingFault.TheVariants as setting
 use Rattle.cmh_host.specs.Steps.{IsDeclared}
 use Rattle.cmh_host.specs.declared.site_reply.ClosedLink.{ClosedLink}
 use Rattle.cmh_host.specs.declared.site_reply.SiteReply.{SiteReply}
@@ -99,6 +102,43 @@ module _ (t : Topology) (script : List ℕ) (old : Option (List ℕ)) where
         subst (IsRunFault t script old new has_failed) (sym name) (run_fault bytes read_failed fault begun cause)
 
 -- ---- the whole command
+
+module _ (topology script : List ℕ) (old new : Option (List ℕ)) (has_failed : Bool) {X : Type 0} (r : Result X ClusterFault) where
+  caused : (fault : ClusterFault) → IsErrAnd r (λ named. named ≡ fault) → IsClusterFault topology script old new has_failed fault
+      → IfErr r (IsClusterFault topology script old new has_failed)
+  caused fault is cause = of_result r is
+    where
+      of_result : (x : Result X ClusterFault) → IsErrAnd x (λ named. named ≡ fault) → IfErr x (IsClusterFault topology script old new has_failed)
+      of_result (Ok y) same = tt
+      of_result (Err named) same = subst (IsClusterFault topology script old new has_failed) (sym same) cause
+
+  -- the topology file is that of no sites with ports
+  pub setting_err : (lower : SettingFault) → IsErrAnd r (λ fault. fault ≡ of_setting lower) → IsSettingFault topology lower → new ≡ old
+      → IfErr r (IsClusterFault topology script old new has_failed)
+  setting_err lower is cause same = caused (of_setting lower) is (of_lower lower cause)
+    where
+      of_lower : (fault : SettingFault) → IsSettingFault topology fault → IsClusterFault topology script old new has_failed (of_setting fault)
+      of_lower setting.Json h = (h, same)
+      of_lower (setting.Topology fault) h = (h, same)
+      of_lower setting.Memory h = inl same
+
+  -- the sites are not started, or end before their script's end
+  pub run_err : (world : Topology) (lower : ClusterFault) → SaysTopology topology world → IsErrAnd r (λ fault. fault ≡ lower)
+      → IsRunFault world script old new has_failed lower → IfErr r (IsClusterFault topology script old new has_failed)
+  run_err world lower says is cause = caused lower is (of_lower lower cause)
+    where
+      of_lower : (fault : ClusterFault) → IsRunFault world script old new has_failed fault → IsClusterFault topology script old new has_failed fault
+      of_lower OutFile h = (world, says, inl h)
+      of_lower Listen h = (world, says, h)
+      of_lower ScriptFile h = (world, says, h)
+      of_lower Memory h = inr (world, says, inl h)
+      of_lower Output h = h
+      of_lower Json h = absurd h
+      of_lower (NoTopology fault) h = absurd h
+
+  -- that they did not settle is not written
+  pub write_err : IsErrAnd r (λ fault. fault ≡ Output) → has_failed ≡ true → IfErr r (IsClusterFault topology script old new has_failed)
+  write_err is failed = caused Output is failed
 
 -- all lines were answered, and the journals are not read back
 pub unread_back : {X : Type 0} → (topology script : List ℕ) (world : Topology) (old new : Option (List ℕ)) (has_failed : Bool) (r : Result X ClusterFault) (lower : NoFile)

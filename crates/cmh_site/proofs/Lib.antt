@@ -2,3 +2,4 @@ mod Tallies
 pub mod Endings
 mod Waiting
 pub mod ClusterEndings
+pub mod Shortages

@@ -5,3 +5,4 @@ pub mod Together
 pub mod ClusterFaults
 pub mod ClusterEndings
 pub mod ClusterTalk
+pub mod Descriptors

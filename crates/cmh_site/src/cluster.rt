@@ -82,6 +82,16 @@ where
     run_cluster_noting(rt, start, out, err, nobody)
 }
 
+/// How a cluster ended, besides what it wrote.
+#[derive(Clone, Copy, Debug, PartialEq, Eq)]
+pub struct ClusterEnd {
+    /// The status of the program.
+    pub status: u8,
+    /// How many links could not be opened, for want of a descriptor, of memory or of a thread. Locks alone know it, so no
+    /// clause says it.
+    pub unopened: usize,
+}
+
 /// The same, where what the sites notice is told by a voice, if there is one, in a thread that nobody waits for.
 pub fn run_cluster_noting<R, W: Write, E: Write, V>(
     rt: R,
@@ -103,17 +113,68 @@ where
     ensures audit { result ≡ 0
         → EndsInAudit start.now.topology.now start.now.script.now out.old out.new err.old err.new result }
 {
+    run_cluster_counting(rt, start, out, err, voice).status
+}
+
+/// The same, where it is answered too how many links could not be opened.
+pub fn run_cluster_counting<R, W: Write, E: Write, V>(
+    rt: R,
+    start: &ClusterStart<'_>,
+    out: &mut Output<W>,
+    err: &mut Output<E>,
+    voice: Option<V>,
+) -> ClusterEnd
+where
+    R: System + Files<File = File> + AllocGlobal + Send + 'static,
+    V: Voice + Send + Drop + 'static,
+    ensures status { IsStatus result.status }
+
+    // The audit of what was read back stands after the answers to the script; or the sites did not settle, which is said;
+    // or a fault is named that has its cause.
+    ensures ends { ClusterEnds start.now.topology.now start.now.script.now out.old out.new err.old err.new result.status }
+
+    // At status 0 the files that were read back were audited and accepted.
+    ensures audit { result.status ≡ 0
+        → EndsInAudit start.now.topology.now start.now.script.now out.old out.new err.old err.new result.status }
+{
     let noting = match Noting::start(rt, rt.alloc(), voice) {
         Ok(noting) => noting,
-        Err(AllocError) => return Fault::Memory.name_on(err),
+        Err(AllocError) => {
+            return ClusterEnd {
+                status: Fault::Memory.name_on(err),
+                unopened: 0,
+            };
+        }
     };
-    let played = cluster_into(rt, start, out, &noting);
+    let mut watch = Watch {
+        noting: &noting,
+        unopened: 0,
+    };
+    let played = cluster_into(rt, start, out, &mut watch);
+    let unopened = watch.unopened;
     noting.end(&rt);
     match played {
-        Ok(Played::Read(journals)) => run_audit(rt.alloc(), start.topology, &journals, out, err),
-        Ok(Played::NotSettled) => 1,
-        Err(fault) => Fault::from(fault).name_on(err),
+        Ok(Played::Read(journals)) => ClusterEnd {
+            status: run_audit(rt.alloc(), start.topology, &journals, out, err),
+            unopened,
+        },
+        Ok(Played::NotSettled) => ClusterEnd {
+            status: 1,
+            unopened,
+        },
+        Err(fault) => ClusterEnd {
+            status: Fault::from(fault).name_on(err),
+            unopened,
+        },
     }
+}
+
+/// What is noticed of the sites while a script is played, and no line tells.
+#[derive(Drop)]
+struct Watch<'a> {
+    noting: &'a Noting,
+    /// How many links could not be opened.
+    unopened: usize,
 }
 
 /// What the play of a script left behind.
@@ -130,7 +191,7 @@ fn cluster_into<R, W: Write>(
     rt: R,
     start: &ClusterStart<'_>,
     out: &mut Output<W>,
-    noting: &Noting,
+    watch: &mut Watch<'_>,
 ) -> Result<Played, ClusterFault>
 where
     R: System + Files<File = File> + AllocGlobal + Send + 'static,
@@ -140,7 +201,7 @@ where
         out.new.written out.new.has_failed) }
 {
     let setting = read_setting(rt.alloc(), start.topology)?;
-    match run_sites(rt, &setting, start, out, noting)? {
+    match run_sites(rt, &setting, start, out, watch)? {
         Flow::Awaits => Ok(Played::Read(read_back(&rt, &setting.world, start.dir)?)),
         Flow::Ends => {
             say_not_settled(out)?;
@@ -167,7 +228,7 @@ fn run_sites<R, W: Write>(
     setting: &Setting,
     start: &ClusterStart<'_>,
     out: &mut Output<W>,
-    noting: &Noting,
+    watch: &mut Watch<'_>,
 ) -> Result<Flow, ClusterFault>
 where
     R: System + Files<File = File> + AllocGlobal + Send + 'static,
@@ -176,8 +237,9 @@ where
     ensures fault { IfErr result (IsRunFault setting.now.world start.now.script.now out.old.written out.new.written
         out.new.has_failed) }
 {
-    let mut cluster = Cluster::new(rt, rt.alloc(), &setting.world, noting)?;
+    let mut cluster = Cluster::new(rt, rt.alloc(), &setting.world, watch.noting)?;
     let played = cluster.play(&setting.ports, start.dir, start.script, out);
+    watch.unopened = cluster.unopened;
     cluster.stop();
     played
 }
@@ -238,6 +300,8 @@ where
     topology: &'a Topology,
     noting: &'a Noting,
     tally: Tally,
+    /// How many links could not be opened.
+    unopened: usize,
     members: Vec<RunningSite<R>>,
 }
 
@@ -262,6 +326,7 @@ where
             topology,
             noting,
             tally,
+            unopened: 0,
             members,
         })
     }
@@ -279,9 +344,12 @@ where
             out.new.written out.new.has_failed) }
     {
         self.start_all(ports, dir)?;
+        let mut unopened = 0usize;
         for member in self.members.iter_mut() {
-            let _ = member.threads.connect();
+            let (_, failed) = member.threads.connect();
+            unopened = unopened.saturating_add(failed);
         }
+        self.unopened = unopened;
         let mut input = Input::new(script);
         match self.answer_all(&mut input, out) {
             Ok(Flow::Awaits) => {
@@ -301,6 +369,7 @@ where
             topology: _,
             noting: _,
             tally: _tally,
+            unopened: _,
             members,
         } = self;
         stop_all(members);

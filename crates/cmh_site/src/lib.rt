@@ -4,12 +4,18 @@
 
 mod cluster;
 mod cluster_fault;
+mod descriptors;
 mod settling;
 mod site;
+mod strictly;
 
-pub use crate::cluster::{ClusterStart, run_cluster, run_cluster_noting};
+pub use crate::cluster::{
+    ClusterEnd, ClusterStart, run_cluster, run_cluster_counting, run_cluster_noting,
+};
 pub use crate::cluster_fault::ClusterFault;
+pub use crate::descriptors::{Shortage, allowed_descriptors, shortage_of};
 pub use crate::site::{run_site, run_site_noting};
+pub use crate::strictly::run_cluster_strictly;
 pub use cmh_carriers::{NoVoice, Note, Noted, Voice};
 pub use cmh_console::{
     Ahead, Fault, Input, NoFile, Output, TopologyFile, TopologyFileFault, read_topology_file,

@@ -6,9 +6,9 @@ returns-in-Some-clause-audits g c = λ named silent unasked.
 
 pub returns-in-Some-subcommand_matches-clause-draws :
     goal.returns-in-Some-subcommand_matches-clause-draws
-returns-in-Some-subcommand_matches-clause-draws g c = λ named none kind format told how.
+returns-in-Some-subcommand_matches-clause-draws g c = λ named none kind format first last told how from to.
     let rows = c.in-Some-subcommand_matches.ensures.rows in
-    c.draw_or_page.ensures.draws (none _ rows) kind format (told _ rows) (how _ rows)
+    c.draw_or_page.ensures.draws (none _ rows) kind format first last (told _ rows) (how _ rows) (from _ rows) (to _ rows)
 
 pub returns-in-Some-subcommand_matches-clause-draws_some :
     goal.returns-in-Some-subcommand_matches-clause-draws_some

@@ -7,7 +7,7 @@ returns-clause-wrote g c =
     record {
       picture = c.in_ok-picture.picture;
       text = string_bytes c.in_ok-text.text;
-      draws = c.in_ok-picture.ensures.draws;
+      shows = c.in_ok-picture.ensures.shows;
       is_drawn = c.in_ok-text.ensures;
       wrote = Appends-kept _ _ _ _ c.in_ok-write_text.ensures.bytes c.flush.ensures.bytes;
     }

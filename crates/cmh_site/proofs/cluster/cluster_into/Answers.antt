@@ -1,8 +1,22 @@
-use Rattle.std.proofs.Common.{subst}
+use Rattle.std.proofs.Common.{refl, subst}
 use Rattle.cmh_console.specs.declared.dialogue.Flow.{Flow}
-use Rattle.cmh_site.proofs.ClusterEndings.{unread_back}
+use Rattle.cmh_site.proofs.ClusterEndings.{run_err, setting_err, unread_back, write_err}
 use Rattle.cmh_site.proofs.cluster.cluster_into.Goals as goal
 use Rattle.cmh_site.specs.ClusterEndings.{HasPlayed}
+
+pub returns-in_err-setting-clause-fault : goal.returns-in_err-setting-clause-fault
+returns-in_err-setting-clause-fault g c =
+    setting_err _ _ _ _ _ c.from_residual.result c.in_err-setting.field-0.0 c.from_residual.ensures.1 c.in_err-setting.ensures.fault refl
+
+pub returns-in_err-run_sites-clause-fault : goal.returns-in_err-run_sites-clause-fault
+returns-in_err-run_sites-clause-fault g c =
+    run_err _ _ _ _ _ c.from_residual-in_err-run_sites.result c.in_ok-setting.setting.world c.in_err-run_sites.field-0.0
+    c.in_ok-setting.ensures.world c.from_residual-in_err-run_sites.ensures.1 c.in_err-run_sites.ensures.fault
+
+pub returns-in_err-say_not_settled-in-Ends-clause-fault : goal.returns-in_err-say_not_settled-in-Ends-clause-fault
+returns-in_err-say_not_settled-in-Ends-clause-fault g c =
+    write_err _ _ _ _ _ c.from_residual-in_err-say_not_settled-in-Ends.result c.from_residual-in_err-say_not_settled-in-Ends.ensures.1
+    c.in_err-say_not_settled-in-Ends.ensures.fault
 
 pub returns-in_err-read_back-in-Awaits-clause-fault : goal.returns-in_err-read_back-in-Awaits-clause-fault
 returns-in_err-read_back-in-Awaits-clause-fault g c =

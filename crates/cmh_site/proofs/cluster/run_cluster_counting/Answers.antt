@@ -1,7 +1,7 @@
 use Rattle.std.proofs.Common.{inl, inr, refl}
 use Rattle.cmh_site.specs.declared.cluster_fault.ClusterFault.TheVariants.{Memory}
 use Rattle.cmh_site.proofs.ClusterEndings.{audited}
-use Rattle.cmh_site.proofs.cluster.run_cluster_noting.Goals as goal
+use Rattle.cmh_site.proofs.cluster.run_cluster_counting.Goals as goal
 
 pub returns-in-Ok-Read-clause-ends : goal.returns-in-Ok-Read-clause-ends
 returns-in-Ok-Read-clause-ends g c =

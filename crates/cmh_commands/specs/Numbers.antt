@@ -1,0 +1,9 @@
+-- The numbers that options tell.
+use Rattle.std.specs.Prelude.{◌≡◌, ℕ, List, Option, None, Some}
+use Rattle.std.specs.Str.Parse.{IsNumeral, digits_value, without_leading_plus}
+
+-- an option that is told is this number, in decimal digits
+abbrev pub TellsNumber : Option (List ℕ) → ℕ → Type 0
+TellsNumber None number = ⊥
+TellsNumber (Some text) number =
+    IsNumeral 10 (without_leading_plus text) × (digits_value 10 (without_leading_plus text) ≡ number)
