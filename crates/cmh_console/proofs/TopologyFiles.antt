@@ -12,7 +12,8 @@ use Rattle.cmh_frames.specs.Rows.{Row}
 use Rattle.cmh_frames.proofs.Apart.{eqb_comm}
 use Rattle.cmh_frames.specs.Topology.{Topology, IsTopologyOf}
 use Rattle.cmh_console.specs.TopologyFile.{Says, SaysNoPorts, SaysNoRows, SaysPorts, SaysTopology, each_in, number_in, port_in, row_of}
-use Rattle.cmh_console.specs.TopologyParts.{IsJsonOf, edition_numbered, has_repeats, topology_in}
+use Rattle.cmh_console.specs.TopologyFile3.{SaysNoWorld, SaysWorld, number_of_world}
+use Rattle.cmh_console.specs.TopologyParts.{IsJsonOf, edition_numbered, has_repeats, is_edition3, is_three, topology_in, world_in}
 
 some_same : {X : Type 0} (x y : X) → Some x ≡ Some y → x ≡ y
 some_same x y h = cc
@@ -120,3 +121,42 @@ no_ports_apart bytes d ports json is repeats = λ e rows others says of.
     let same : d ≡ of.value = some_same d of.value (sym json.1 ∙ of.json.1) in
     let ports_same : ports ≡ others = some_same ports others (sym is ∙ ap (each_in (codes "sites") port_in) same ∙ of.ports_are) in
     true≢false (sym repeats ∙ ap has_repeats ports_same ∙ none_repeats others of.apart)
+
+-- ---- edition 3
+
+three : (o : Option ℕ) → is_three o ≡ true → o ≡ Some 3
+three None is = absurd (true≢false (sym is))
+three (Some n) is = elim (cases_eq n 3) [
+  | inl same ↦ ap Some same
+  | inr far ↦ absurd (true≢false (sym is ∙ ne_eqb n 3 far))
+]
+
+if_said : {X : Type 0} (b : Bool) (o : Option X) (x : X) → (if b then o else None) ≡ Some x → (b ≡ true) × (o ≡ Some x)
+if_said true o x is = (refl, is)
+if_said false o x is = absurd (none_some x is)
+
+pub says_world : (bytes : List ℕ) (d : Data) (world : List ℕ) (rows : List Row) → IsJsonOf bytes d → world_in d ≡ Some (world, rows)
+    → SaysWorld bytes world rows
+says_world bytes d world rows json is =
+    let said = if_said (is_edition3 d) (option_zip (number_of_world d) (each_in (codes "sites") row_of d)) (world, rows) is in
+    let both = zip_said (number_of_world d) (each_in (codes "sites") row_of d) world rows said.1 in
+    record {
+      value = d;
+      json = json;
+      edition_is = three (number_in (codes "edition") d) said.0;
+      world_is = both.0;
+      rows_are = both.1;
+    }
+
+pub no_world : (bytes : List ℕ) (d : Data) → IsJsonOf bytes d → world_in d ≡ None → SaysNoWorld bytes
+no_world bytes d json none = λ world rows says.
+    let same : d ≡ says.value = some_same d says.value (sym json.1 ∙ says.json.1) in
+    let found : world_in says.value ≡ Some (world, rows) =
+    ap (λ (o : Option ℕ). if is_three o then option_zip (number_of_world says.value) (each_in (codes "sites") row_of says.value) else None)
+    says.edition_is
+    ∙ ap (λ (o : Option (List ℕ)). option_zip o (each_in (codes "sites") row_of says.value)) says.world_is
+    ∙ ap (λ (o : Option (List Row)). option_zip (Some world) o) says.rows_are in
+    none_some (world, rows) (sym none ∙ ap world_in same ∙ found)
+
+pub no_json_of_world : (bytes : List ℕ) → ((value : Data) → IsJsonOf bytes value → ⊥) → SaysNoWorld bytes
+no_json_of_world bytes none = λ world rows says. none says.value says.json

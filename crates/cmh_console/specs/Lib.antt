@@ -7,6 +7,7 @@ pub mod Forms
 pub mod Faults
 pub mod Status
 pub mod TopologyFile
+pub mod TopologyFile3
 pub mod TopologyParts
 pub mod Dialogue
 pub mod Keeping

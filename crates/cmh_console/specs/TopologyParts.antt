@@ -8,6 +8,7 @@ use Rattle.cmh_frames.specs.declared.edition.Edition.{Edition}
 use Rattle.cmh_frames.specs.declared.edition.Edition.TheVariants.{One, Two}
 use Rattle.cmh_frames.specs.Rows.{Row}
 use Rattle.cmh_console.specs.TopologyFile.{each_in, number_in, row_of}
+use Rattle.cmh_console.specs.TopologyFile3.{number_of_world}
 use Rattle.cmh_console.specs.declared.topology_file.TopologyFileFault.{TopologyFileFault}
 use Rattle.cmh_console.specs.declared.topology_file.TopologyFileFault.TheVariants.{Json, Memory}
 
@@ -24,6 +25,17 @@ edition_in d = option_and_then edition_numbered (number_in (codes "edition") d)
 -- the edition and the rows of a topology
 abbrev pub topology_in : Data → Option (Edition × List Row)
 topology_in d = option_zip (edition_in d) (each_in (codes "sites") row_of d)
+
+abbrev pub is_three : Option ℕ → Bool
+is_three None = false
+is_three (Some n) = n == 3
+
+abbrev pub is_edition3 : Data → Bool
+is_edition3 d = is_three (number_in (codes "edition") d)
+
+-- the number of a world of edition 3, and its rows
+abbrev pub world_in : Data → Option (List ℕ × List Row)
+world_in d = if is_edition3 d then option_zip (number_of_world d) (each_in (codes "sites") row_of d) else None
 
 -- a number stands twice
 abbrev pub has_repeats : List ℕ → Bool

@@ -10,6 +10,7 @@ mod keeping;
 mod lines;
 mod script;
 mod topology_file;
+mod topology_file3;
 mod words;
 
 pub use crate::device::{Ahead, Input, Output, Piece, WriteFault};
@@ -21,4 +22,5 @@ pub use crate::script::{Command, Line, parse, parse_into};
 pub use crate::topology_file::{
     TopologyFile, TopologyFileFault, read_topology_file, read_topology_file_with_ports,
 };
+pub use crate::topology_file3::{TopologyFile3, read_topology_file3};
 pub use crate::words::{Words, number};

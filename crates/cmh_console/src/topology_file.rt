@@ -68,7 +68,7 @@ pub fn read_topology_file_with_ports(
     Ok((topology, ports))
 }
 
-fn json_of(alloc: Global, bytes: &[u8]) -> Result<Value, TopologyFileFault>
+pub(crate) fn json_of(alloc: Global, bytes: &[u8]) -> Result<Value, TopologyFileFault>
     ensures json { IfOk result (λ value. parts.IsJsonOf bytes.now (view value)) }
     ensures fault { IfErr result (parts.IsFaultOfJson bytes.now) }
 {
@@ -102,7 +102,7 @@ fn ports_of(alloc: Global, value: &Value) -> Result<Vec<u16>, TopologyFileFault>
     }
 }
 
-fn rows_of(alloc: Global, sites: &[Value]) -> Result<Vec<SiteRow>, TopologyFileFault>
+pub(crate) fn rows_of(alloc: Global, sites: &[Value]) -> Result<Vec<SiteRow>, TopologyFileFault>
     ensures ok { IfOk result (λ rows. spec.each_of spec.row_of (items_view sites.now) ≡ Some rows.items) }
     ensures fault { IfErr result (parts.IsFaultOf (spec.each_of spec.row_of (items_view sites.now))) }
 {
@@ -155,7 +155,7 @@ fn ports_of_all(alloc: Global, sites: &[Value]) -> Result<Vec<u16>, TopologyFile
     Ok(ports)
 }
 
-fn array_in<'a>(value: &'a Value, name: &str) -> Option<&'a [Value]>
+pub(crate) fn array_in<'a>(value: &'a Value, name: &str) -> Option<&'a [Value]>
     ensures { option_map (λ items. items_view items.now) result ≡ option_and_then as_array (get name.now (view value.now)) }
 {
     let items = value.get(name)?.as_array()?;
