@@ -30,6 +30,10 @@ NamesSite matches = subcommand_name_of matches ≡ Some (codes "site")
 abbrev pub NamesCluster : ArgMatches → Type 0
 NamesCluster matches = subcommand_name_of matches ≡ Some (codes "cluster")
 
+-- the command that is named is `new-world`
+abbrev pub NamesNewWorld : ArgMatches → Type 0
+NamesNewWorld matches = subcommand_name_of matches ≡ Some (codes "new-world")
+
 -- a command with this name is named
 abbrev pub Names : ArgMatches → List ℕ → Type 0
 Names matches name = subcommand_name_of matches ≡ Some name
@@ -42,10 +46,12 @@ pub record NamesNothing (matches : ArgMatches) : Type 0 where
   pub no_serve : Names matches (codes "serve") → ⊥
   pub no_show : Names matches (codes "show") → ⊥
   pub no_draw : Names matches (codes "draw") → ⊥
+  pub no_new_world : Names matches (codes "new-world") → ⊥
 
 -- the command that is named has nothing to read but files
 abbrev pub ReadsNoInput : ArgMatches → Type 0
-ReadsNoInput matches = NamesAudit matches ⊎ NamesShow matches ⊎ NamesDraw matches ⊎ NamesCluster matches
+ReadsNoInput matches =
+    NamesAudit matches ⊎ NamesShow matches ⊎ NamesDraw matches ⊎ NamesCluster matches ⊎ NamesNewWorld matches
 
 -- no folder for journals is named
 abbrev pub NamesNoFolder : ArgMatches → Type 0

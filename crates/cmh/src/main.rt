@@ -5,10 +5,11 @@ ghost use Rattle.std.specs.Prelude.{◌≡◌, ℕ, Option, Some, codes};
 ghost use Rattle.clap.specs.Matches.{found_of, one_text};
 ghost use Rattle.cmh_commands.specs.Drawing.{DrawsFiles, DrawsSome, part_between};
 ghost use Rattle.cmh_commands.specs.Files.{AuditsFiles, AuditsSomehow, ExplainsFiles, IsUnset, ListsFiles, ShowsFiles};
+ghost use Rattle.cmh_commands.specs.NewWorld.{WorldEnds};
 ghost use Rattle.cmh_commands.specs.Numbers.{TellsNumber};
 ghost use Rattle.cmh_commands.specs.Paging.{PagesFiles, PlaysToPage};
 ghost use Rattle.cmh_commands.specs.Playing.{PlaysAlone, PlaysScript};
-ghost use Rattle.cmh.specs.CommandLine.{IsEnd, NamesAudit, NamesCluster, NamesColumn, NamesDraw, NamesNoFolder, NamesNoPage, NamesNoPageFile, NamesNoReasons, NamesNoRun, NamesNoStrictness, NamesNothing, NamesOption, NamesPage, NamesReasons, NamesRun, NamesShow, NamesSite, NamesSiteNumber, NamesStrictness, ReadsNoInput};
+ghost use Rattle.cmh.specs.CommandLine.{IsEnd, NamesAudit, NamesCluster, NamesColumn, NamesDraw, NamesNewWorld, NamesNoFolder, NamesNoPage, NamesNoPageFile, NamesNoReasons, NamesNoRun, NamesNoStrictness, NamesNothing, NamesOption, NamesPage, NamesReasons, NamesRun, NamesShow, NamesSite, NamesSiteNumber, NamesStrictness, ReadsNoInput};
 ghost use Rattle.cmh.specs.Serving.{ServesCluster, ServesSite, ServesSome, ServesStrictly};
 ghost use Rattle.cmh_frames.specs.Number.{IsNumber};
 ghost use Rattle.cmh_draw.specs.Kinds.{kind_word};
@@ -22,9 +23,10 @@ ghost use Rattle.cmh_site.specs.Descriptors.{StrictlyEnds};
 use clap::{ArgMatches, Error, error};
 use cmh_carriers::{Noted, Voice};
 use cmh_commands::{
-    AUDIT, BACKLOG, CLUSTER, DRAW, EXPLAIN, FileFault, Help, JOURNAL, JOURNALS, Listener, NOTES,
-    OUT, PAGE, PATIENCE, PLAY, PORT, QUIET, SERVE, SHOW, SITE, STRICT, TOPOLOGY, audit,
-    cluster_files_of, command, draw_or_page, explanation, play_into, play_page, read_file, show,
+    AUDIT, BACKLOG, CLUSTER, DRAW, EXPLAIN, FileFault, Help, JOURNAL, JOURNALS, Listener,
+    NEW_WORLD, NOTES, OUT, PAGE, PATIENCE, PLAY, PORT, QUIET, SERVE, SHOW, SITE, STRICT, TOPOLOGY,
+    audit, cluster_files_of, command, draw_or_page, explanation, new_world, play_into, play_page,
+    read_file, show,
 };
 use cmh_console::{Ahead, Fault, Input, Output};
 use cmh_frames::SiteId;
@@ -257,6 +259,9 @@ where
         → ServesCluster out.old out.new err.old err.new result }
     ensures serves_strictly { NamesCluster matches.now → NamesStrictness matches.now
         → ServesStrictly out.old out.new err.old err.new result }
+
+    // Where `new-world` is named, the number of a world is told.
+    ensures makes_world { NamesNewWorld matches.now → WorldEnds out.old out.new err.old err.new result }
     ensures reads_nothing { ReadsNoInput matches.now → input.new ≡ input.old }
 {
     if let Some(words) = matches.subcommand_matches(AUDIT) {
@@ -267,6 +272,9 @@ where
     }
     if let Some(words) = matches.subcommand_matches(SHOW) {
         return show(rt, words, out, err);
+    }
+    if matches.subcommand_matches(NEW_WORLD).is_some() {
+        return new_world(rt, out, err);
     }
     if let Some(words) = matches.subcommand_matches(SITE) {
         return serve_site(rt, words, input, out, err);

@@ -4,3 +4,4 @@ pub mod Files
 pub mod Drawing
 pub mod Playing
 pub mod Paging
+pub mod NewWorld

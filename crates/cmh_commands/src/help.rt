@@ -230,6 +230,16 @@ Example: cmh draw --topology world.json --page one.cmhj two.cmhj > run.html
 Example: cmh draw --topology world.json --format dot one.cmhj two.cmhj | dot -Tpng > waits.png
 ";
 
+const NEW_WORLD: &str = "\
+A topology file of edition 3 has the number of its world as `\"world\"`, so that sites and journals of different runs
+never meet. Take a new one for each run that begins.
+
+Statuses: 0 where a number was printed, 1 where memory ran out, 2 for a command line that isn't understood, 3 at a fault,
+which is named on standard error: `fault input` (the system gives no random bytes), `fault output`.
+
+Example: cmh new-world
+";
+
 const COMMANDS: &str = "\
 `cmh play --help` has the language of scripts, `cmh site --help`, `cmh serve --help` and `cmh cluster --help` that of
 running sites, `cmh audit --help` the faults of files, `cmh show --help` the lines of a journal,
@@ -284,6 +294,9 @@ pub struct Help {
 impl Help {
     /// After the words of `cmh` itself.
     pub const COMMANDS: &'static str = COMMANDS;
+
+    /// After the words of `cmh new-world`.
+    pub const NEW_WORLD: &'static str = NEW_WORLD;
 
     pub fn new(alloc: Global) -> Result<Help, AllocError> {
         Ok(Help {

@@ -10,6 +10,7 @@ mod files;
 mod help;
 mod kept_files;
 mod listener;
+mod new_world;
 mod options;
 mod paging;
 mod playing;
@@ -24,10 +25,11 @@ pub use crate::files::{
 };
 pub use crate::help::Help;
 pub use crate::listener::Listener;
+pub use crate::new_world::new_world;
 pub use crate::options::{
-    AUDIT, BACKLOG, CLUSTER, DRAW, EXPLAIN, FORMAT, FROM, JOURNAL, JOURNALS, KIND, NOTES, OUT,
-    PAGE, PATIENCE, PLAY, PORT, QUIET, RUN, SCRIPT, SERVE, SHOW, SITE, STRICT, TO, TOPOLOGY, WHY,
-    command,
+    AUDIT, BACKLOG, CLUSTER, DRAW, EXPLAIN, FORMAT, FROM, JOURNAL, JOURNALS, KIND, NEW_WORLD,
+    NOTES, OUT, PAGE, PATIENCE, PLAY, PORT, QUIET, RUN, SCRIPT, SERVE, SHOW, SITE, STRICT, TO,
+    TOPOLOGY, WHY, command,
 };
 pub use crate::paging::{draw_or_page, play_page};
 pub use crate::playing::play_into;

@@ -18,6 +18,8 @@ pub const CLUSTER: &str = "cluster";
 
 pub const SERVE: &str = "serve";
 
+pub const NEW_WORLD: &str = "new-world";
+
 pub const TOPOLOGY: &str = "topology";
 
 pub const JOURNALS: &str = "journals";
@@ -76,6 +78,7 @@ pub fn command<'a>(alloc: Global, help: &'a Help) -> Result<Command<'a>, Error> 
     let cmh = with(cmh, audit_command(alloc, help))?;
     let cmh = with(cmh, show_command(alloc, help))?;
     let cmh = with(cmh, draw_command(alloc, help))?;
+    let cmh = with(cmh, new_world_command(alloc))?;
     Ok(cmh)
 }
 
@@ -185,6 +188,16 @@ fn cluster_command<'a>(alloc: Global, help: &'a Help) -> Result<Command<'a>, Err
         .arg(out_arg(alloc))?
         .arg(strict_arg(alloc))?
         .arg(notes_arg(alloc))?
+        .arg(explain_arg(alloc))?;
+    Ok(command)
+}
+
+fn new_world_command<'a>(alloc: Global) -> Result<Command<'a>, Error> {
+    let command = Command::new(alloc, NEW_WORLD)
+        .about(
+            "Prints the number of a new world, drawn at random, for the topology file of edition 3",
+        )
+        .after_help(Help::NEW_WORLD)
         .arg(explain_arg(alloc))?;
     Ok(command)
 }
