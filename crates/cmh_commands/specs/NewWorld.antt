@@ -5,7 +5,7 @@ use Rattle.cmh_topology3.specs.World.{world_text}
 use Rattle.cmh_console.specs.Device.{Writing}
 use Rattle.cmh_console.specs.Faults.{NamesFault}
 use Rattle.cmh_console.specs.declared.faults.Fault.{Fault}
-use Rattle.cmh_console.specs.declared.faults.Fault.TheVariants.{Input, Output, Memory}
+use Rattle.cmh_console.specs.declared.faults.Fault.TheVariants.{Random, Output, Memory}
 
 -- one line was written, and it is the number of some world: 16 bytes
 abbrev pub TellsWorld : Option (List ℕ) → Option (List ℕ) → Type 0
@@ -13,7 +13,7 @@ TellsWorld old new = (world : List ℕ) × (length world ≡ 16) × Appends old 
 
 -- the system gave no random bytes, or memory was refused
 abbrev pub IsUndrawn : Fault → Type 0
-IsUndrawn Input = ⊤
+IsUndrawn Random = ⊤
 IsUndrawn Memory = ⊤
 IsUndrawn fault = ⊥
 

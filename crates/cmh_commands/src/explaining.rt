@@ -29,6 +29,7 @@ enum Subject {
     Page,
     Picture,
     Descriptors,
+    Random,
     Memory,
 }
 
@@ -87,6 +88,10 @@ const SUBJECTS: &[FaultWord] = &[
         word: "descriptors",
         subject: Subject::Descriptors,
     },
+    FaultWord {
+        word: "random",
+        subject: Subject::Random,
+    },
 ];
 
 /// What a line with this word speaks of; of memory, where it is no other.
@@ -123,6 +128,7 @@ pub fn explanation<R: AllocGlobal + Files>(
         Subject::Listen => explain_ports(rt, words, &mut text)?,
         Subject::Input => write!(text, "standard input can't be read")?,
         Subject::Output => write!(text, "standard output can't be written, or nobody reads it")?,
+        Subject::Random => write!(text, "/dev/urandom gives no random bytes")?,
         Subject::Page => write!(text, "a page tells at most 20,000 events")?,
         Subject::Picture => write!(
             text,

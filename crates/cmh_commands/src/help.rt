@@ -235,7 +235,7 @@ A topology file of edition 3 has the number of its world as `\"world\"`, so that
 never meet. Take a new one for each run that begins.
 
 Statuses: 0 where a number was printed, 1 where memory ran out, 2 for a command line that isn't understood, 3 at a fault,
-which is named on standard error: `fault input` (the system gives no random bytes), `fault output`.
+which is named on standard error: `fault random` (the system gives no random bytes), `fault output`.
 
 Example: cmh new-world
 ";

@@ -16,7 +16,7 @@ const RANDOM: &str = "/dev/urandom";
 /// Writes the number of a new world as a line: 16 bytes that the system draws, as 32 hexadecimal digits. Answers the
 /// status.
 ///
-/// The fault is `fault input` where the system gives no random bytes.
+/// The fault is `fault random` where the system gives no random bytes.
 pub fn new_world<R: AllocGlobal + Files, W: Write, E: Write>(
     rt: &R,
     out: &mut Output<W>,
@@ -51,7 +51,7 @@ fn draw_world<R: AllocGlobal + Files>(rt: &R) -> Result<World, Fault>
     match random_bytes(rt) {
         Ok(bytes) => Ok(World::new(bytes)),
         Err(error) if error.kind() == ErrorKind::OutOfMemory => Err(Fault::Memory),
-        Err(_) => Err(Fault::Input),
+        Err(_) => Err(Fault::Random),
     }
 }
 

@@ -7,7 +7,7 @@ use Rattle.cmh_journal.specs.declared.journal.JournalFault.TheVariants.{BadEntry
 use Rattle.cmh_journal.specs.SetFaults as set
 use Rattle.cmh_console.specs.Device.{Tells, Writing}
 use Rattle.cmh_console.specs.declared.faults.Fault.{Fault}
-use Rattle.cmh_console.specs.declared.faults.Fault.TheVariants.{TopologyFile, ScriptFile, OutFile, JournalFile, Json, Topology, Journal, Set, Site, JournalDisk, Listen, Input, Output, Memory}
+use Rattle.cmh_console.specs.declared.faults.Fault.TheVariants.{TopologyFile, ScriptFile, OutFile, JournalFile, Json, Topology, Journal, Set, OtherWorld, LaterEpoch, Random, Site, JournalDisk, Listen, Input, Output, Memory}
 
 -- the status with which the program ends: 1 where memory ran out, else 3
 abbrev pub status_of : Fault → ℕ
@@ -24,6 +24,9 @@ fault_text (Topology fault) = codes "fault topology " ++ decimal (fault_number f
 fault_text (Journal place (BadEntry byte)) = codes "fault journal " ++ decimal place ++ codes " 2 at " ++ decimal byte
 fault_text (Journal place fault) = codes "fault journal " ++ decimal place ++ codes " " ++ decimal (number_of fault)
 fault_text (Set fault) = codes "fault set " ++ decimal (set.number_of fault)
+fault_text OtherWorld = codes "fault set 5"
+fault_text LaterEpoch = codes "fault set 6"
+fault_text Random = codes "fault random"
 fault_text Site = codes "fault site"
 fault_text JournalDisk = codes "fault journal disk"
 fault_text Listen = codes "fault listen"

@@ -31,6 +31,12 @@ pub enum Fault {
     Journal(usize, JournalFault),
     /// The journals are not those of one world.
     Set(SetFault),
+    /// A journal of edition 3 is of another world than the topology.
+    OtherWorld,
+    /// A journal of edition 3 does not begin with its world: its segment is of a later epoch.
+    LaterEpoch,
+    /// The system gives no random bytes.
+    Random,
     /// The site isn't in the topology.
     Site,
     /// The journal of a running site can't be made.
@@ -96,6 +102,9 @@ impl fmt::Display for Fault {
                 let number = fault.number();
                 write!(f, "fault set {number}")
             }
+            Fault::OtherWorld => write!(f, "fault set 5"),
+            Fault::LaterEpoch => write!(f, "fault set 6"),
+            Fault::Random => write!(f, "fault random"),
             Fault::Site => write!(f, "fault site"),
             Fault::JournalDisk => write!(f, "fault journal disk"),
             Fault::Listen => write!(f, "fault listen"),
