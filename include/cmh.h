@@ -156,7 +156,7 @@ void cmh_site_free(cmh_site *site);
 
 /* ---- what an entry says ---- */
 
-/* A frame that an entry sends: the site that it goes to, and where its bytes stand in the entry. */
+/* A frame that an entry sends: the site that it goes to, and the place of its bytes in the entry. */
 typedef struct {
     uint16_t to;
     size_t offset;

@@ -239,7 +239,7 @@ def standing_connections(program):
 
 
 def silent_for_long(program):
-    """A connection that told no whole hello within 30 seconds is closed, and one that told it is not."""
+    """A connection that sent no whole hello within 30 seconds is closed, and one that sent it is not."""
     with World(program, PAIR) as world:
         site = world.start(2)
         site.await_listening()

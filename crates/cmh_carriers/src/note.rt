@@ -14,7 +14,7 @@ pub enum Note {
     RefusedHello(SiteId, LinkState),
     /// A connection told no hello of another site of this edition.
     StrangeHello,
-    /// A connection told no whole hello in time.
+    /// A connection sent no whole hello in time.
     NoHello,
     /// A connection came while as many stood as may.
     TurnedAway,
