@@ -6,7 +6,7 @@ use Rattle.cmh_shared.proofs.Paired.{ends_behind, firsts_seen, fresh_taps, paire
 use Rattle.cmh_shared.proofs.links.Links.open.Goals as goal
 
 pub loop-site-preserved : goal.loop-site-preserved
-loop-site-preserved c =
+loop-site-preserved g c =
     let i = c.loop-site.invariant in
     let at = c.loop-site.site-index in
     record {
@@ -23,10 +23,10 @@ loop-site-preserved c =
     }
 
 pub returns-clause-fresh : goal.returns-clause-fresh
-returns-clause-fresh c = firsts_seen AreFresh c.loop-site.links.items c.loop-site.taps.items c.loop-site.invariant.fresh
+returns-clause-fresh g c = firsts_seen AreFresh c.loop-site.links.items c.loop-site.taps.items c.loop-site.invariant.fresh
 
 pub returns-clause-taps : goal.returns-clause-taps
-returns-clause-taps c =
+returns-clause-taps g c =
     let links = c.loop-site.links.items in
     let taps = c.loop-site.taps.items in
     fresh_taps (map seen links) taps (firsts_seen AreFresh links taps c.loop-site.invariant.fresh)

@@ -5,7 +5,7 @@ use Rattle.cmh_shared.specs.Links.{AreFresh, ends_of}
 use Rattle.cmh_shared.proofs.links.Links.open.Given as goal
 
 abbrev pub invariant-loop-site : goal.invariant-loop-site
-invariant-loop-site l = record {
+invariant-loop-site g l = record {
   count : vec_len l.links ≡ l.site-index;
   count_taps : vec_len l.taps ≡ l.site-index;
   room : length l.sites ≤ vec_capacity l.links;
