@@ -1,5 +1,5 @@
 -- Two lists of one length, place by place.
-use Rattle.std.proofs.Common.{◌≡◌, ℕ, zero, suc, ◌+◌, ◌<◌, ◌≤◌, List, [], ◌∷◌, ◌++◌, length, get_or, map, refl, ap, sym, ◌∙◌, subst, arith}
+use Rattle.std.proofs.Common.{◌≡◌, ℕ, zero, suc, ◌<◌, List, [], ◌∷◌, ◌++◌, length, get_or, map, refl, ap, sym, subst, arith}
 use Rattle.cmh_shared.specs.Backlogs.{AtEach, seen}
 use Rattle.cmh_shared.specs.declared.link.Link.{Link as LinkFields}
 use Rattle.std.specs.List.{AllZip}

@@ -3,7 +3,7 @@ use Rattle.std.specs.Prelude.{ℕ, ◌≡◌, ◌-◌, ◌<◌, ◌≤◌, List,
 use Rattle.std.specs.VecDeque.{deque_len, deque_capacity}
 use Rattle.rtrb.specs.Ring.{sent, known_free}
 use Rattle.cmh_shared.specs.declared.link.Link.{Link as LinkFields}
-use Rattle.cmh_shared.specs.Links.{Link, Tap, IsTapOf}
+use Rattle.cmh_shared.specs.Links.{Link}
 
 abbrev pub seen : {F : Type 0} → LinkFields F → Link F
 seen l = record {

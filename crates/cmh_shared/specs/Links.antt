@@ -22,7 +22,7 @@ pub record Tap (F : Type 0) : Type 0 where
   pub known : List F
 
 -- all links of a site; each backlog takes up to `reserved` frames more with no further memory
-pub record Links (F : Type 0) : Type 0 where
+pub record SiteLinks (F : Type 0) : Type 0 where
   pub each : List (Link F)
   pub reserved : ℕ
 

@@ -13,28 +13,31 @@ use std::marker::Model;
 
 /// The site's ends of its links, in the order of the sites that they were made for.
 #[derive(Drop)]
-pub struct Links<F> {
+pub struct SiteLinks<F> {
     links: Vec<Link<F>>,
 
     /// For how many frames more each backlog has room.
     reserved: usize,
 }
 
-impl<F> Model for Links<F> {
+impl<F> Model for SiteLinks<F> {
     ghost use Rattle.std.specs.Prelude.{All, map};
     ghost use Rattle.cmh_shared.specs.Backlogs.{HasRoom, seen};
     ghost use Rattle.cmh_shared.specs.Links as spec;
 
-    ghost Value = { spec.Links F };
+    ghost Value = { spec.SiteLinks F };
 
     ghost view = { λ l. record { each = map seen l.links.items; reserved = l.reserved } };
 
     ghost invariant = { λ l. All (HasRoom l.reserved) l.links.items };
 }
 
-impl<F: Copy + Drop> Links<F> {
+impl<F: Copy + Drop> SiteLinks<F> {
     /// A link to each of these sites, and its tap, in their order.
-    pub fn open(alloc: Global, sites: &[SiteId]) -> Result<(Links<F>, Vec<LinkTap<F>>), AllocError>
+    pub fn open(
+        alloc: Global,
+        sites: &[SiteId],
+    ) -> Result<(SiteLinks<F>, Vec<LinkTap<F>>), AllocError>
         ensures to { IfOk result (λ opened. ends_of opened.0.each ≡ sites.now) }
         ensures fresh { IfOk result (λ opened. AllZip AreFresh opened.0.each opened.1.items) }
         ensures taps { IfOk result (λ opened. AllZip IsTapOf opened.0.each opened.1.items) }
@@ -46,7 +49,7 @@ impl<F: Copy + Drop> Links<F> {
             links.push_reserved(link);
             taps.push_reserved(tap);
         }
-        Ok((Links { links, reserved: 0 }, taps))
+        Ok((SiteLinks { links, reserved: 0 }, taps))
     }
 
     /// Makes room in each backlog for the frames of entries, so that `queue_all` of them right after it takes no memory.

@@ -1,4 +1,4 @@
-use Rattle.std.proofs.Common.{rules, ◌≡◌, ◌<◌, ℕ, length, arith, refl}
+use Rattle.std.proofs.Common.{rules, arith}
 use Rattle.cmh_shared.specs.Backlogs.{seen}
 use Rattle.cmh_shared.specs.Links.{Released}
 use Rattle.cmh_shared.proofs.Paired.{at_each_alike}

@@ -1,4 +1,4 @@
-use Rattle.std.proofs.Common.{◌≡◌, ℕ, ◌<◌, ◌≤◌, ◌+◌, length, get_or}
+use Rattle.std.proofs.Common.{◌≡◌, ℕ, ◌<◌, ◌≤◌, get_or}
 use Rattle.cmh_shared.specs.declared.link.Link.{Link}
 use Rattle.cmh_shared.specs.Backlogs.{seen}
 use Rattle.cmh_shared.specs.Links.{Released}

@@ -1,8 +1,7 @@
-use Rattle.std.proofs.Common.{subst}
-use Rattle.cmh_shared.specs.Links.{Link, Released}
+use Rattle.cmh_shared.specs.Links.{Released}
 use Rattle.cmh_shared.proofs.Paired.{both_seen}
 use Rattle.cmh_shared.proofs.Refill.{refilled}
-use Rattle.cmh_shared.proofs.links.Links.release.Goals as goal
+use Rattle.cmh_shared.proofs.links.SiteLinks.release.Goals as goal
 
 pub returns : goal.returns
 returns g c =

@@ -1,6 +1,6 @@
 use Rattle.cmh_shared.proofs.Paired.{all_same}
 use Rattle.cmh_shared.proofs.Refill.{refilled}
-use Rattle.cmh_shared.proofs.links.Links.reserve_for.Goals as goal
+use Rattle.cmh_shared.proofs.links.SiteLinks.reserve_for.Goals as goal
 
 pub returns-in_err-reserve_each-clause-same : goal.returns-in_err-reserve_each-clause-same
 returns-in_err-reserve_each-clause-same g c =

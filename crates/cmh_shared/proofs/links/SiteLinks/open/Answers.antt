@@ -1,9 +1,9 @@
-use Rattle.std.proofs.Common.{map, ◌≡◌, ℕ, List, ◌++◌, ◌∷◌, [], length, take, ap, sym, ◌∙◌, arith}
+use Rattle.std.proofs.Common.{map, ℕ, List, ◌++◌, ◌∷◌, [], take, ap, sym, ◌∙◌, arith}
 use Rattle.std.proofs.lemmas.List.{take_more}
 use Rattle.cmh_shared.specs.Backlogs.{seen}
 use Rattle.cmh_shared.specs.Links.{AreFresh}
 use Rattle.cmh_shared.proofs.Paired.{ends_behind, firsts_seen, fresh_taps, paired_behind}
-use Rattle.cmh_shared.proofs.links.Links.open.Goals as goal
+use Rattle.cmh_shared.proofs.links.SiteLinks.open.Goals as goal
 
 pub loop-site-preserved : goal.loop-site-preserved
 loop-site-preserved g c =

@@ -2,7 +2,7 @@ use Rattle.cmh_shared.specs.Links.{queued}
 use Rattle.cmh_shared.proofs.Paired.{all_changed}
 use Rattle.cmh_shared.proofs.Queuing.{sent_of}
 use Rattle.cmh_shared.proofs.Refill.{refilled}
-use Rattle.cmh_shared.proofs.links.Links.queue_all.Goals as goal
+use Rattle.cmh_shared.proofs.links.SiteLinks.queue_all.Goals as goal
 
 pub returns : goal.returns
 returns g c =
