@@ -8,7 +8,8 @@ use Rattle.cmh_frames.specs.declared.event.Event.{Event}
 use Rattle.cmh_frames.specs.Entries.{Entry, Outcome}
 use Rattle.cmh_shared.specs.Fronts.{Front}
 use Rattle.std.specs.List.{AllZip}
-use Rattle.cmh_shared.specs.Links.{IsTapOf, Link, Released, Tap, queued}
+use Rattle.cmh_shared.specs.Links.{IsTapOf, Released, queued}
+use Rattle.cmh_station.specs.LinkEnds.{Link, Tap}
 use Rattle.cmh_station.specs.Batches.{GrewByAny, NotSteppedAll, SteppedAll, made}
 use Rattle.cmh_station.specs.Journaled.{Journaled}
 use Rattle.cmh_station.specs.Stations.{Station}

@@ -1,7 +1,8 @@
 -- What a station's taps and readers keep.
 use Rattle.std.specs.Prelude.{◌≡◌, List, Option, IfSome}
 use Rattle.std.specs.List.{AllZip}
-use Rattle.cmh_shared.specs.Links.{IsTapOf, Tap}
+use Rattle.cmh_shared.specs.Links.{IsTapOf}
+use Rattle.cmh_station.specs.LinkEnds.{Tap}
 use Rattle.cmh_shared.specs.Fronts.{Front}
 use Rattle.cmh_station.specs.Stations.{Station}
 

@@ -1,7 +1,7 @@
 -- The links of a site's threads, and where their taps are.
 use Rattle.std.specs.Prelude.{ℕ, ◌==◌, Bool, true, false, List, ◌++◌, map, reverse}
 use Rattle.std.specs.List.{filter, sum_by}
-use Rattle.cmh_shared.specs.Links.{Tap}
+use Rattle.cmh_station.specs.LinkEnds.{Tap}
 use Rattle.cmh_carriers.specs.Table.{number_of}
 use Rattle.cmh_links.specs.declared.opening.Place.{Place}
 use Rattle.cmh_links.specs.declared.opening.Place.TheVariants.{Idle, Closed, Draining, Writing}

@@ -4,7 +4,7 @@ use Rattle.std.proofs.lemmas.List.{append-nil}
 use Rattle.std.proofs.lemmas.Bool.Decides.{nat_tests}
 use prog.Atomic.{either}
 use Rattle.logbook.specs.Pages.{Cell, cell, keeps, no_nib, step, Moves, Goes}
-use Rattle.cmh_frames.specs.Runs.{IsBeginningOf}
+use Rattle.cmh_runs.specs.Runs.{IsBeginningOf}
 use Rattle.cmh_shared.specs.History.{IsKept, Adds}
 use Rattle.cmh_shared.proofs.Fronts.{whole}
 

@@ -1,7 +1,7 @@
 -- Lists that begin the history of a board: the first so many of its entries.
 use Rattle.std.proofs.Common.{◌≡◌, ℕ, zero, suc, ◌≤◌, List, [], ◌∷◌, length, take, refl, ap, sym, ◌∙◌, subst, arith}
-use Rattle.cmh_frames.specs.Runs.{IsBeginningOf}
-use Rattle.cmh_frames.proofs.Beginnings.{beginning_refl, length-beginning}
+use Rattle.cmh_runs.specs.Runs.{IsBeginningOf}
+use Rattle.cmh_runs.proofs.Beginnings.{beginning_refl, length-beginning}
 
 -- of a beginning of a list so many are the list's first so many
 pub take_front : {A : Type 0} (n : ℕ) (xs zs : List A) → IsBeginningOf xs zs → n ≤ length xs → take n xs ≡ take n zs

@@ -3,7 +3,7 @@ use Rattle.std.proofs.Common.{◌≡◌, ℕ, ◌+◌, ◌<◌, Bool, true, fals
 use Rattle.std.proofs.lemmas.Bool.Decides.{nat_tests}
 use Rattle.std.proofs.lemmas.List.{append-nil}
 use Rattle.std.specs.Option.{option_to_list}
-use Rattle.cmh_frames.specs.Runs.{IsBeginningOf}
+use Rattle.cmh_runs.specs.Runs.{IsBeginningOf}
 use Rattle.logbook.specs.Pages.{Book}
 use Rattle.logbook.specs.declared.tokens.Seen.{Seen}
 use Rattle.cmh_shared.specs.declared.history.History.{History}
@@ -12,7 +12,7 @@ use Rattle.cmh_shared.specs.declared.published.Add.{Add}
 use Rattle.cmh_shared.specs.Lists.{added}
 use Rattle.cmh_shared.specs.Rule.{named}
 use Rattle.cmh_shared.specs.Boards.{State, state_of, apply, final, with_stuck, Leads, Keeps}
-use Rattle.cmh_frames.proofs.Beginnings.{beginning_nil, beginning_refl, beginning_trans}
+use Rattle.cmh_runs.proofs.Beginnings.{beginning_nil, beginning_refl, beginning_trans}
 use Rattle.cmh_shared.proofs.Fronts.{same_length, whole}
 
 fold_more : (s : State) (ops : List Add) (o : Add) → fold apply s (ops ++ o ∷ []) ≡ apply (fold apply s ops) o

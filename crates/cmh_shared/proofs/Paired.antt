@@ -1,5 +1,5 @@
 -- Two lists of one length, place by place.
-use Rattle.std.proofs.Common.{◌≡◌, ℕ, zero, suc, ◌+◌, ◌<◌, ◌≤◌, List, [], ◌∷◌, ◌++◌, length, get_or, map, refl, ap, sym, ◌∙◌, subst, arith}
+use Rattle.std.proofs.Common.{◌≡◌, ℕ, zero, suc, ◌<◌, List, [], ◌∷◌, ◌++◌, length, get_or, map, refl, ap, sym, subst, arith}
 use Rattle.cmh_shared.specs.Backlogs.{AtEach, seen}
 use Rattle.cmh_shared.specs.declared.link.Link.{Link as LinkFields}
 use Rattle.std.specs.List.{AllZip}
@@ -25,33 +25,33 @@ paired_at_each {X} {Y} R (x ∷ xs) (y ∷ ys) h =
     each below (suc k) d e lt = below k d e (omega arith)
 
 -- what is seen of the first of each pair
-pub firsts_seen : {Y : Type 0} (R : Link → Y → Type 0) (xs : List LinkFields) (ys : List Y) → AllZip (λ a b. R (seen a) b) xs ys → AllZip R (map seen xs) ys
+pub firsts_seen : {F Y : Type 0} (R : Link F → Y → Type 0) (xs : List (LinkFields F)) (ys : List Y) → AllZip (λ a b. R (seen a) b) xs ys → AllZip R (map seen xs) ys
 firsts_seen R [] [] h = tt
 firsts_seen R [] (y ∷ ys) h = absurd h
 firsts_seen R (x ∷ xs) [] h = absurd h
 firsts_seen R (x ∷ xs) (y ∷ ys) h = (h.0, firsts_seen R xs ys h.1)
 
-pub firsts_fields : {Y : Type 0} (R : Link → Y → Type 0) (xs : List LinkFields) (ys : List Y) → AllZip R (map seen xs) ys → AllZip (λ a b. R (seen a) b) xs ys
+pub firsts_fields : {F Y : Type 0} (R : Link F → Y → Type 0) (xs : List (LinkFields F)) (ys : List Y) → AllZip R (map seen xs) ys → AllZip (λ a b. R (seen a) b) xs ys
 firsts_fields R [] [] h = tt
 firsts_fields R [] (y ∷ ys) h = absurd h
 firsts_fields R (x ∷ xs) [] h = absurd h
 firsts_fields R (x ∷ xs) (y ∷ ys) h = (h.0, firsts_fields R xs ys h.1)
 
 -- what is seen of both
-pub both_seen : (R : Link → Link → Type 0) (xs ys : List LinkFields) → AtEach (λ a b. R (seen a) (seen b)) xs ys → AllZip R (map seen xs) (map seen ys)
-both_seen R xs ys h = of xs ys (at_each_paired (λ a b. R (seen a) (seen b)) xs ys h)
+pub both_seen : {F : Type 0} (R : Link F → Link F → Type 0) (xs ys : List (LinkFields F)) → AtEach (λ a b. R (seen a) (seen b)) xs ys → AllZip R (map seen xs) (map seen ys)
+both_seen {F} R xs ys h = of xs ys (at_each_paired (λ a b. R (seen a) (seen b)) xs ys h)
   where
-    of : (xs ys : List LinkFields) → AllZip (λ a b. R (seen a) (seen b)) xs ys → AllZip R (map seen xs) (map seen ys)
+    of : (xs ys : List (LinkFields F)) → AllZip (λ a b. R (seen a) (seen b)) xs ys → AllZip R (map seen xs) (map seen ys)
     of [] [] h = tt
     of [] (y ∷ ys) h = absurd h
     of (x ∷ xs) [] h = absurd h
     of (x ∷ xs) (y ∷ ys) h = (h.0, of xs ys h.1)
 
 -- what is seen of each is a function of what was seen of it
-pub all_changed : (f : Link → Link) (xs ys : List LinkFields) → AtEach (λ a b. seen b ≡ f (seen a)) xs ys → map seen ys ≡ map f (map seen xs)
-all_changed f xs ys h = of xs ys (at_each_paired (λ a b. seen b ≡ f (seen a)) xs ys h)
+pub all_changed : {F : Type 0} (f : Link F → Link F) (xs ys : List (LinkFields F)) → AtEach (λ a b. seen b ≡ f (seen a)) xs ys → map seen ys ≡ map f (map seen xs)
+all_changed {F} f xs ys h = of xs ys (at_each_paired (λ a b. seen b ≡ f (seen a)) xs ys h)
   where
-    of : (xs ys : List LinkFields) → AllZip (λ a b. seen b ≡ f (seen a)) xs ys → map seen ys ≡ map f (map seen xs)
+    of : (xs ys : List (LinkFields F)) → AllZip (λ a b. seen b ≡ f (seen a)) xs ys → map seen ys ≡ map f (map seen xs)
     of [] [] h = refl
     of [] (y ∷ ys) h = absurd h
     of (x ∷ xs) [] h = absurd h
@@ -60,10 +60,10 @@ all_changed f xs ys h = of xs ys (at_each_paired (λ a b. seen b ≡ f (seen a))
         let rest : map seen ys ≡ map f (map seen xs) = of xs ys h.1 in
         cc
 
-pub all_same : (xs ys : List LinkFields) → AtEach (λ a b. seen b ≡ seen a) xs ys → map seen ys ≡ map seen xs
-all_same xs ys h = of xs ys (at_each_paired (λ a b. seen b ≡ seen a) xs ys h)
+pub all_same : {F : Type 0} (xs ys : List (LinkFields F)) → AtEach (λ a b. seen b ≡ seen a) xs ys → map seen ys ≡ map seen xs
+all_same {F} xs ys h = of xs ys (at_each_paired (λ a b. seen b ≡ seen a) xs ys h)
   where
-    of : (xs ys : List LinkFields) → AllZip (λ a b. seen b ≡ seen a) xs ys → map seen ys ≡ map seen xs
+    of : (xs ys : List (LinkFields F)) → AllZip (λ a b. seen b ≡ seen a) xs ys → map seen ys ≡ map seen xs
     of [] [] h = refl
     of [] (y ∷ ys) h = absurd h
     of (x ∷ xs) [] h = absurd h
@@ -79,7 +79,7 @@ paired_behind R [] (b ∷ ys) x y h r = absurd h
 paired_behind R (a ∷ xs) [] x y h r = absurd h
 paired_behind R (a ∷ xs) (b ∷ ys) x y h r = (h.0, paired_behind R xs ys x y h.1 r)
 
-pub ends_behind : (xs : List LinkFields) (x : LinkFields) → ends_of (map seen (xs ++ x ∷ [])) ≡ ends_of (map seen xs) ++ x.to ∷ []
+pub ends_behind : {F : Type 0} (xs : List (LinkFields F)) (x : LinkFields F) → ends_of (map seen (xs ++ x ∷ [])) ≡ ends_of (map seen xs) ++ x.to ∷ []
 ends_behind [] x = refl
 ends_behind (a ∷ xs) x = ap (λ (sites : List ℕ). a.to ∷ sites) (ends_behind xs x)
 
@@ -94,9 +94,9 @@ pub at_each_alike : {X : Type 0} (R : X → X → Type 0) (xs ys : List X) → l
 at_each_alike {X} R xs ys count h = (count, λ k d e lt. subst (λ (y : X). R (get_or xs k d) y) (any_default ys k d e (omega (arith, count))) (h k d lt))
 
 -- fresh taps are taps
-pub fresh_taps : (links : List Link) (taps : List Tap) → AllZip AreFresh links taps → AllZip IsTapOf links taps
+pub fresh_taps : {F : Type 0} (links : List (Link F)) (taps : List (Tap F)) → AllZip AreFresh links taps → AllZip IsTapOf links taps
 fresh_taps [] [] h = tt
 fresh_taps [] (tap ∷ taps) h = absurd h
 fresh_taps (link ∷ links) [] h = absurd h
-fresh_taps (link ∷ links) (tap ∷ taps) h =
-    (record { to = ap (λ (l : Link). l.to) (sym h.0.link_is); ring = ap (λ (l : Link). l.ring) (sym h.0.link_is) }, fresh_taps links taps h.1)
+fresh_taps {F} (link ∷ links) (tap ∷ taps) h =
+    (record { to = ap (λ (l : Link F). l.to) (sym h.0.link_is); ring = ap (λ (l : Link F). l.ring) (sym h.0.link_is) }, fresh_taps links taps h.1)

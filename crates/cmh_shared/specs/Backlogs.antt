@@ -3,9 +3,9 @@ use Rattle.std.specs.Prelude.{ℕ, ◌≡◌, ◌-◌, ◌<◌, ◌≤◌, List,
 use Rattle.std.specs.VecDeque.{deque_len, deque_capacity}
 use Rattle.rtrb.specs.Ring.{sent, known_free}
 use Rattle.cmh_shared.specs.declared.link.Link.{Link as LinkFields}
-use Rattle.cmh_shared.specs.Links.{Link, Tap, IsTapOf}
+use Rattle.cmh_shared.specs.Links.{Link}
 
-abbrev pub seen : LinkFields → Link
+abbrev pub seen : {F : Type 0} → LinkFields F → Link F
 seen l = record {
   to = l.to;
   ring = (l.producer.end.words, l.producer.end.slots, l.producer.end.names);
@@ -15,7 +15,7 @@ seen l = record {
 }
 
 -- the backlog has room for so many frames more
-abbrev pub HasRoom : ℕ → LinkFields → Type 0
+abbrev pub HasRoom : {F : Type 0} → ℕ → LinkFields F → Type 0
 HasRoom count l = count ≤ deque_capacity l.backlog - deque_len l.backlog
 
 -- R at each place of two lists of one length, by its index

@@ -1,6 +1,6 @@
 -- What contracts see of the writer's side of a board, and what it keeps.
 use Rattle.std.specs.Prelude.{ℕ, ◌≡◌, Bool, List, [], length, fold, Option, Some, None, IfSome}
-use Rattle.cmh_frames.specs.Runs.{IsBeginningOf}
+use Rattle.cmh_runs.specs.Runs.{IsBeginningOf}
 use Rattle.logbook.specs.Pages.{Book}
 use Rattle.logbook.specs.declared.tokens.Seen.{Seen}
 use Rattle.cmh_shared.specs.declared.history.History.{History}

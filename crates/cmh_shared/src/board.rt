@@ -8,7 +8,7 @@ use crate::history::{Head, SeenHistory, begin, grow};
 use crate::published::Add;
 use crate::reader::{BoardReader, Told};
 use crate::writer::{PublishedWriter, add_readers, open_writer, publish_all, publish_in, unstick};
-use cmh_frames::ProcId;
+use cmh_runs::ProcId;
 use std::alloc::{AllocError, Global};
 use std::marker::Model;
 use std::sync::Wait;

@@ -3,7 +3,7 @@
 ghost use Rattle.std.specs.Prelude.{◌≡◌, ◌≤◌, [], length};
 ghost use Rattle.cmh_shared.specs.Lists.{added};
 
-use cmh_frames::ProcId;
+use cmh_runs::ProcId;
 use std::marker::Model;
 
 /// The most processes that stand on a board: as many as a site has at most, each of which is declared once.

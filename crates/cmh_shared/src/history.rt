@@ -2,10 +2,10 @@
 //! is its length.
 
 ghost use Rattle.std.specs.Prelude.{◌≡◌, ◌+◌, ◌<◌, ◌^◌, ◌++◌, [], ◌∷◌, length as list_length, IfErr, MatchResult};
-ghost use Rattle.cmh_frames.specs.Runs.{IsBeginningOf};
+ghost use Rattle.cmh_runs.specs.Runs.{IsBeginningOf};
 ghost use Rattle.cmh_shared.specs.History.{head_of};
 
-use cmh_frames::ProcId;
+use cmh_runs::ProcId;
 use logbook::{Gain, Offer, Plain, Play, Rule, Seen, Start, Word};
 
 /// The rule of the history: the shared word is its length.

@@ -5,7 +5,7 @@ ghost use Rattle.cmh_shared.specs.KeptBoard.{kept_board};
 
 use crate::board::Board;
 use crate::reader::Told;
-use cmh_frames::ProcId;
+use cmh_runs::ProcId;
 use std::alloc::AllocError;
 use std::sync::Wait;
 

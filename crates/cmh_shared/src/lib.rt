@@ -6,6 +6,7 @@
 mod board;
 mod declared;
 mod history;
+pub mod instances;
 mod kept_board;
 mod link;
 mod links;
@@ -18,6 +19,6 @@ mod writer;
 pub use crate::board::Board;
 pub use crate::declared::Declared;
 pub use crate::kept_board::{KeptBoard, Listing};
-pub use crate::links::Links;
+pub use crate::links::SiteLinks;
 pub use crate::reader::{BoardReader, Told};
 pub use crate::tap::LinkTap;

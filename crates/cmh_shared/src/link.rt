@@ -3,7 +3,7 @@
 ghost use Rattle.std.specs.Prelude.{◌==◌, ◌≡◌, ◌+◌, ℕ, length, flat_map, IfOk, OnOk};
 
 use crate::tap::LinkTap;
-use cmh_frames::{Entry, Frame, SiteId};
+use cmh_runs::{Entry, SiteId};
 use rtrb::{Producer, RingBuffer};
 use std::alloc::{AllocError, Global};
 use std::collections::VecDeque;
@@ -18,10 +18,10 @@ const MOST_KEPT_ROOM: usize = 8192;
 
 /// The ring's producer, and the frames that are not in the ring yet.
 #[derive(Drop)]
-pub(crate) struct Link {
+pub(crate) struct Link<F> {
     to: SiteId,
-    pub(crate) producer: Producer<Frame>,
-    backlog: VecDeque<Frame>,
+    pub(crate) producer: Producer<F>,
+    backlog: VecDeque<F>,
     /// How many frames the backlog has, for those who look at it from other threads.
     waiting: Arc<AtomicUsize>,
 }
@@ -32,12 +32,12 @@ fn is_same(a: SiteId, b: SiteId) -> bool
     a == b
 }
 
-impl Link {
+impl<F: Copy + Drop> Link<F> {
     ghost use Rattle.cmh_shared.specs.Backlogs.{HasRoom, seen};
     ghost use Rattle.cmh_shared.specs.Links.{AreFresh, Released, queued};
 
     /// A link to a site, and its tap.
-    pub fn open(alloc: Global, to: SiteId) -> Result<(Link, LinkTap), AllocError>
+    pub fn open(alloc: Global, to: SiteId) -> Result<(Link<F>, LinkTap<F>), AllocError>
         ensures to { IfOk result (λ opened. (seen opened.0).to ≡ to) }
         ensures fresh { IfOk result (λ opened. AreFresh (seen opened.0) opened.1) }
     {
@@ -62,7 +62,7 @@ impl Link {
     }
 
     /// The frames of entries for the link's site go to the end of the backlog, in their order. It takes no memory.
-    pub fn queue_all(&mut self, entries: &[Entry])
+    pub fn queue_all<E>(&mut self, entries: &[Entry<E, F>])
         requires { HasRoom (length (flat_map (λ entry. entry.sent) entries.now)) self.old }
         ensures { seen self.new ≡ queued (flat_map (λ entry. entry.sent) entries.now) (seen self.old) }
     {
@@ -74,7 +74,7 @@ impl Link {
 
     /// The same of one entry; what room it does not take is left.
     #[tactic(auto, using(crate::proofs::Sites::frames_to_here, crate::proofs::Sites::frames_to_other))]
-    fn queue(&mut self, sent: &[(SiteId, Frame)])
+    fn queue(&mut self, sent: &[(SiteId, F)])
         requires { HasRoom (length sent.now) self.old }
         ensures backlog { seen self.new ≡ queued sent.now (seen self.old) }
         ensures room { (more : ℕ) → HasRoom (length sent.now + more) self.old → HasRoom more self.new }

@@ -7,34 +7,37 @@ ghost use Rattle.cmh_shared.specs.Links.{AreFresh, IsTapOf, Released, Through, e
 
 use crate::link::Link;
 use crate::tap::LinkTap;
-use cmh_frames::{Entry, SiteId};
+use cmh_runs::{Entry, SiteId};
 use std::alloc::{AllocError, Global};
 use std::marker::Model;
 
 /// The site's ends of its links, in the order of the sites that they were made for.
 #[derive(Drop)]
-pub struct Links {
-    links: Vec<Link>,
+pub struct SiteLinks<F> {
+    links: Vec<Link<F>>,
 
     /// For how many frames more each backlog has room.
     reserved: usize,
 }
 
-impl Model for Links {
+impl<F> Model for SiteLinks<F> {
     ghost use Rattle.std.specs.Prelude.{All, map};
     ghost use Rattle.cmh_shared.specs.Backlogs.{HasRoom, seen};
     ghost use Rattle.cmh_shared.specs.Links as spec;
 
-    ghost Value = { spec.Links };
+    ghost Value = { spec.SiteLinks F };
 
     ghost view = { λ l. record { each = map seen l.links.items; reserved = l.reserved } };
 
     ghost invariant = { λ l. All (HasRoom l.reserved) l.links.items };
 }
 
-impl Links {
+impl<F: Copy + Drop> SiteLinks<F> {
     /// A link to each of these sites, and its tap, in their order.
-    pub fn open(alloc: Global, sites: &[SiteId]) -> Result<(Links, Vec<LinkTap>), AllocError>
+    pub fn open(
+        alloc: Global,
+        sites: &[SiteId],
+    ) -> Result<(SiteLinks<F>, Vec<LinkTap<F>>), AllocError>
         ensures to { IfOk result (λ opened. ends_of opened.0.each ≡ sites.now) }
         ensures fresh { IfOk result (λ opened. AllZip AreFresh opened.0.each opened.1.items) }
         ensures taps { IfOk result (λ opened. AllZip IsTapOf opened.0.each opened.1.items) }
@@ -46,11 +49,11 @@ impl Links {
             links.push_reserved(link);
             taps.push_reserved(tap);
         }
-        Ok((Links { links, reserved: 0 }, taps))
+        Ok((SiteLinks { links, reserved: 0 }, taps))
     }
 
     /// Makes room in each backlog for the frames of entries, so that `queue_all` of them right after it takes no memory.
-    pub fn reserve_for(&mut self, entries: &[Entry]) -> Result<(), AllocError>
+    pub fn reserve_for<E>(&mut self, entries: &[Entry<E, F>]) -> Result<(), AllocError>
         ensures same { self.new.each ≡ self.old.each }
         ensures room { OnOk result (length (flat_map (λ entry. entry.sent) entries.now) ≤ self.new.reserved) }
     {
@@ -62,7 +65,7 @@ impl Links {
     }
 
     /// Each frame of the entries goes to the end of the backlog of its site, in their order. It takes no memory.
-    pub fn queue_all(&mut self, entries: &[Entry])
+    pub fn queue_all<E>(&mut self, entries: &[Entry<E, F>])
         requires { length (flat_map (λ entry. entry.sent) entries.now) ≤ self.old.reserved }
         ensures { self.new.each ≡ map (queued (flat_map (λ entry. entry.sent) entries.now)) self.old.each }
     {
@@ -79,7 +82,7 @@ impl Links {
     }
 
     /// With both ends of each ring in one thread: what was taken and what is left in the rings is what was released.
-    pub fn reconcile(&mut self, taps: &mut Vec<LinkTap>)
+    pub fn reconcile(&mut self, taps: &mut Vec<LinkTap<F>>)
         requires { AllZip IsTapOf self.old.each taps.old.items }
         ensures { AllZip Through self.old.each taps.old.items }
     {
@@ -89,7 +92,7 @@ impl Links {
 }
 
 /// How many frames entries send. A count that doesn't fit is out of memory, too.
-fn count_frames(entries: &[Entry]) -> Result<usize, AllocError>
+fn count_frames<E, F>(entries: &[Entry<E, F>]) -> Result<usize, AllocError>
     ensures { IfOk result (λ count. count ≡ length (flat_map (λ entry. entry.sent) entries.now)) }
 {
     let mut count: usize = 0;
@@ -102,7 +105,7 @@ fn count_frames(entries: &[Entry]) -> Result<usize, AllocError>
     Ok(count)
 }
 
-fn reserve_each(links: &mut [Link], count: usize) -> Result<(), AllocError>
+fn reserve_each<F: Copy + Drop>(links: &mut [Link<F>], count: usize) -> Result<(), AllocError>
     ensures same { AtEach (λ a b. seen b ≡ seen a) links.old links.new }
     ensures room { OnOk result (All (HasRoom count) links.new) }
 {
@@ -112,7 +115,7 @@ fn reserve_each(links: &mut [Link], count: usize) -> Result<(), AllocError>
     Ok(())
 }
 
-fn queue_each(links: &mut [Link], entries: &[Entry])
+fn queue_each<E, F: Copy + Drop>(links: &mut [Link<F>], entries: &[Entry<E, F>])
     requires { All (HasRoom (length (flat_map (λ entry. entry.sent) entries.now))) links.old }
     ensures { AtEach (λ a b. seen b ≡ queued (flat_map (λ entry. entry.sent) entries.now) (seen a))
         links.old links.new }
@@ -122,7 +125,7 @@ fn queue_each(links: &mut [Link], entries: &[Entry])
     }
 }
 
-fn release_each(links: &mut [Link])
+fn release_each<F: Copy + Drop>(links: &mut [Link<F>])
     ensures { AtEach (λ a b. Released (seen a) (seen b)) links.old links.new }
 {
     for link in links.iter_mut() {
@@ -130,7 +133,7 @@ fn release_each(links: &mut [Link])
     }
 }
 
-fn reconcile_each(links: &mut Vec<Link>, taps: &mut Vec<LinkTap>)
+fn reconcile_each<F: Copy + Drop>(links: &mut Vec<Link<F>>, taps: &mut Vec<LinkTap<F>>)
     requires { AtEach (λ a b. IsTapOf (seen a) b) links.old.items taps.old.items }
     ensures { AtEach (λ a b. Through (seen a) b) links.old.items taps.old.items }
 {

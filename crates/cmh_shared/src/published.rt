@@ -4,7 +4,7 @@ ghost use Rattle.std.specs.Prelude.{◌≡◌};
 
 use crate::declared::Declared;
 use crate::history::SeenHistory;
-use cmh_frames::ProcId;
+use cmh_runs::ProcId;
 use left_right::Absorb;
 use std::alloc::AllocError;
 

@@ -2,7 +2,7 @@
 
 ghost use Rattle.std.specs.Prelude.{◌≡◌, ◌⊎◌, IfSome, IfNone, length};
 ghost use Rattle.left_right.specs.Sides.{view as seat_view};
-ghost use Rattle.cmh_frames.specs.Runs.{IsBeginningOf};
+ghost use Rattle.cmh_runs.specs.Runs.{IsBeginningOf};
 ghost use Rattle.cmh_shared.specs.Rule.{Saw};
 
 use crate::declared::Declared;

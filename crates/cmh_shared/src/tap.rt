@@ -4,7 +4,7 @@ ghost use Rattle.std.specs.Prelude.{◌≡◌, [], ◌∷◌, ◌++◌, IfNone, 
 ghost use Rattle.rtrb.specs.Ring.{known_items, received};
 
 use crate::link::Link;
-use cmh_frames::{Frame, SiteId};
+use cmh_runs::SiteId;
 use rtrb::Consumer;
 use std::alloc::AllocError;
 use std::marker::Model;
@@ -14,17 +14,17 @@ use std::sync::atomic::AtomicUsize;
 /// The end of a link that takes its frames. It may be in another thread than the station: it locks nothing, waits for
 /// nobody and takes no memory.
 #[derive(Drop)]
-pub struct LinkTap {
+pub struct LinkTap<F> {
     to: SiteId,
-    consumer: Consumer<Frame>,
+    consumer: Consumer<F>,
     waiting: Arc<AtomicUsize>,
 }
 
-impl Model for LinkTap {
+impl<F> Model for LinkTap<F> {
     ghost use Rattle.rtrb.specs.Ring.{known_items, received};
     ghost use Rattle.cmh_shared.specs.Links as spec;
 
-    ghost Value = { spec.Tap };
+    ghost Value = { spec.Tap F };
 
     ghost view = { λ t. record {
       to = t.to;
@@ -34,11 +34,11 @@ impl Model for LinkTap {
     } };
 }
 
-impl LinkTap {
+impl<F: Copy + Drop> LinkTap<F> {
     ghost use Rattle.cmh_shared.specs.Backlogs.{seen};
     ghost use Rattle.cmh_shared.specs.Links.{IsTapOf, Through};
 
-    pub(crate) fn new(to: SiteId, consumer: Consumer<Frame>, waiting: Arc<AtomicUsize>) -> LinkTap
+    pub(crate) fn new(to: SiteId, consumer: Consumer<F>, waiting: Arc<AtomicUsize>) -> LinkTap<F>
         ensures to { result.to ≡ to }
         ensures ring { result.ring ≡ (consumer.end.words, consumer.end.slots, consumer.end.names) }
         ensures taken { result.taken ≡ received consumer }
@@ -64,7 +64,7 @@ impl LinkTap {
     }
 
     /// The next frame of the ring, or `None` where none is seen there.
-    pub fn take(&mut self) -> Option<Frame>
+    pub fn take(&mut self) -> Option<F>
         ensures to { self.new.to ≡ self.old.to }
         ensures ring { self.new.ring ≡ self.old.ring }
         ensures some { IfSome result (λ frame. self.new.taken ≡ self.old.taken ++ frame ∷ []) }
@@ -74,7 +74,7 @@ impl LinkTap {
     }
 
     /// With both ends in one thread: what was taken and what is left in the ring is what was released.
-    pub(crate) fn reconcile(&mut self, link: &mut Link)
+    pub(crate) fn reconcile(&mut self, link: &mut Link<F>)
         requires { IsTapOf (seen link.old) self.old }
         ensures { Through (seen link.old) self.old }
     {

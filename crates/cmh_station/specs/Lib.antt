@@ -1,3 +1,4 @@
+pub mod LinkEnds
 pub mod Journaled
 pub mod Steps
 pub mod Batches

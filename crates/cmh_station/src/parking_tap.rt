@@ -3,10 +3,12 @@
 ghost use Rattle.std.specs.Prelude.{◌≡◌, [], ◌∷◌, ◌++◌, IfSome, IfNone};
 
 use cmh_frames::{Frame, SiteId};
-use cmh_shared::LinkTap;
 use crossbeam_utils::sync::Parker;
 use std::marker::Model;
 use std::sync::Wait;
+
+/// The end of a link that takes its frames: those of this model.
+pub type LinkTap = cmh_shared::LinkTap<Frame>;
 
 /// A tap of a shared station. Contracts see the tap.
 #[derive(Drop)]
@@ -16,7 +18,7 @@ pub struct ParkingTap {
 }
 
 impl Model for ParkingTap {
-    ghost use Rattle.cmh_shared.specs.Links.{Tap};
+    ghost use Rattle.cmh_station.specs.LinkEnds.{Tap};
 
     ghost Value = { Tap };
 

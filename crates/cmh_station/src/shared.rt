@@ -3,11 +3,11 @@
 ghost use Rattle.std.specs.Prelude.{◌≡◌, ◌≤◌, [], length, IfOk, IfErr};
 ghost use Rattle.std.specs.Vec.{vec_len, vec_capacity};
 
-use crate::parking_tap::ParkingTap;
+use crate::parking_tap::{LinkTap, ParkingTap};
 use crate::station::Station;
 use cmh_frames::SiteId;
 use cmh_journal::Sink;
-use cmh_shared::{LinkTap, Listing};
+use cmh_shared::Listing;
 use crossbeam_utils::sync::{Parker, Unparker};
 use std::alloc::{AllocError, Global};
 use std::sync::atomic::{AtomicUsize, Ordering};

@@ -1,5 +1,5 @@
 use Rattle.std.proofs.Common.{◌<◌, length, subst, arith}
-use Rattle.cmh_shared.specs.Links.{Tap}
+use Rattle.cmh_station.specs.LinkEnds.{Tap}
 use Rattle.cmh_lab_stations.specs.Pairs.{IsSameTap}
 use Rattle.cmh_lab_stations.proofs.Belonging.{all_same, same_at}
 use Rattle.cmh_lab_stations.proofs.taps.take_from.Goals as goal

@@ -1,11 +1,11 @@
-use Rattle.std.proofs.Common.{◌≡◌, ℕ, ◌<◌, ◌≤◌, ◌+◌, length, get_or}
+use Rattle.std.proofs.Common.{◌≡◌, ℕ, ◌<◌, ◌≤◌, get_or}
 use Rattle.cmh_shared.specs.declared.link.Link.{Link}
 use Rattle.cmh_shared.specs.Backlogs.{seen}
 use Rattle.cmh_shared.specs.Links.{Released}
 use Rattle.cmh_shared.proofs.links.release_each.Given as goal
 
 abbrev pub invariant-loop-link : goal.invariant-loop-link
-invariant-loop-link l = record {
-  done : (k : ℕ) (d : Link) → k < l.link-index → Released (seen (get_or l.initial.links k d)) (seen (get_or l.links k d));
-  rest : (k : ℕ) (d : Link) → l.link-index ≤ k → get_or l.links k d ≡ get_or l.initial.links k d;
+invariant-loop-link g l = record {
+  done : (k : ℕ) (d : Link g.row.F.Denot) → k < l.link-index → Released (seen (get_or l.initial.links k d)) (seen (get_or l.links k d));
+  rest : (k : ℕ) (d : Link g.row.F.Denot) → l.link-index ≤ k → get_or l.links k d ≡ get_or l.initial.links k d;
 }

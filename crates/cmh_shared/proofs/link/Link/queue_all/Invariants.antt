@@ -6,7 +6,7 @@ use Rattle.cmh_shared.proofs.link.Link.queue_all.Given as goal
 
 -- with the frames of the entries that are left, it is as with all
 abbrev pub invariant-loop-entry : goal.invariant-loop-entry
-invariant-loop-entry l = record {
+invariant-loop-entry g l = record {
   all : queued (sent_of (drop l.entry-index l.entries)) (seen l.self) ≡ queued (sent_of l.entries) (seen l.initial.self);
   room : HasRoom (length (sent_of (drop l.entry-index l.entries))) l.self;
 }

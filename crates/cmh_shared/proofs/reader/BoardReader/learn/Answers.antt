@@ -1,5 +1,5 @@
 use Rattle.std.proofs.Common.{ℕ, List, ap, subst, arith}
-use Rattle.cmh_frames.specs.Runs.{IsBeginningOf}
+use Rattle.cmh_runs.specs.Runs.{IsBeginningOf}
 use Rattle.cmh_shared.proofs.Fronts.{fronts}
 use Rattle.cmh_shared.proofs.reader.BoardReader.learn.Goals as goal
 

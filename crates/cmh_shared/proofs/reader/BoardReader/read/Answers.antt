@@ -1,7 +1,7 @@
 use Rattle.std.proofs.Common.{◌≡◌, ℕ, ◌≤◌, List, length, take, ap, ◌∙◌, subst, arith}
-use Rattle.cmh_frames.specs.Runs.{IsBeginningOf}
+use Rattle.cmh_runs.specs.Runs.{IsBeginningOf}
 use Rattle.cmh_shared.proofs.Fronts.{beginning_same, fronts, take_whole}
-use Rattle.cmh_frames.proofs.Beginnings.{length-beginning}
+use Rattle.cmh_runs.proofs.Beginnings.{length-beginning}
 use Rattle.cmh_shared.proofs.reader.BoardReader.read.Goals as goal
 
 pub returns-clause-some : goal.returns-clause-some

@@ -1,12 +1,12 @@
-use Rattle.std.proofs.Common.{map, ◌≡◌, ℕ, List, ◌++◌, ◌∷◌, [], length, take, ap, sym, ◌∙◌, arith}
+use Rattle.std.proofs.Common.{map, ℕ, List, ◌++◌, ◌∷◌, [], take, ap, sym, ◌∙◌, arith}
 use Rattle.std.proofs.lemmas.List.{take_more}
 use Rattle.cmh_shared.specs.Backlogs.{seen}
 use Rattle.cmh_shared.specs.Links.{AreFresh}
 use Rattle.cmh_shared.proofs.Paired.{ends_behind, firsts_seen, fresh_taps, paired_behind}
-use Rattle.cmh_shared.proofs.links.Links.open.Goals as goal
+use Rattle.cmh_shared.proofs.links.SiteLinks.open.Goals as goal
 
 pub loop-site-preserved : goal.loop-site-preserved
-loop-site-preserved c =
+loop-site-preserved g c =
     let i = c.loop-site.invariant in
     let at = c.loop-site.site-index in
     record {
@@ -23,10 +23,10 @@ loop-site-preserved c =
     }
 
 pub returns-clause-fresh : goal.returns-clause-fresh
-returns-clause-fresh c = firsts_seen AreFresh c.loop-site.links.items c.loop-site.taps.items c.loop-site.invariant.fresh
+returns-clause-fresh g c = firsts_seen AreFresh c.loop-site.links.items c.loop-site.taps.items c.loop-site.invariant.fresh
 
 pub returns-clause-taps : goal.returns-clause-taps
-returns-clause-taps c =
+returns-clause-taps g c =
     let links = c.loop-site.links.items in
     let taps = c.loop-site.taps.items in
     fresh_taps (map seen links) taps (firsts_seen AreFresh links taps c.loop-site.invariant.fresh)

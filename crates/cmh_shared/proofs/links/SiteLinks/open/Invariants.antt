@@ -1,11 +1,11 @@
-use Rattle.std.proofs.Common.{◌≡◌, ◌≤◌, ℕ, vec_len, vec_capacity, length, take, map}
+use Rattle.std.proofs.Common.{◌≡◌, ◌≤◌, vec_len, vec_capacity, length, take, map}
 use Rattle.cmh_shared.specs.Backlogs.{seen}
 use Rattle.std.specs.List.{AllZip}
 use Rattle.cmh_shared.specs.Links.{AreFresh, ends_of}
-use Rattle.cmh_shared.proofs.links.Links.open.Given as goal
+use Rattle.cmh_shared.proofs.links.SiteLinks.open.Given as goal
 
 abbrev pub invariant-loop-site : goal.invariant-loop-site
-invariant-loop-site l = record {
+invariant-loop-site g l = record {
   count : vec_len l.links ≡ l.site-index;
   count_taps : vec_len l.taps ≡ l.site-index;
   room : length l.sites ≤ vec_capacity l.links;
