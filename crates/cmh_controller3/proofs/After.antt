@@ -34,21 +34,6 @@ module _ (home : ℕ → ℕ) (s : ℕ) (waits : Held) where
       ∙ swap (home y == s) ((x == k) && (y == j)) b ((home x == s) && in_list (waits_of waits y) x) (pairs_of old x y)
       (λ here. false_from_ne_true _ (λ both. away (ap home (sym (eqb-true y j (and_parts (x == k) (y == j) both).1)) ∙ eqb-true (home y) s here)))
 
-  -- what is not owed is taken out
-  pub owed_none : (owed : List (List ℕ)) (k j : ℕ) → home j ≢ s → pairs_of owed k j ≡ false → owed_of home s waits owed ≡ set_pair (owed_of home s waits owed) k j false
-  owed_none owed k j away none = fun_ext λ x. fun_ext λ y. go x y ((x == k) && (y == j)) refl
-    where
-      go : (x y : ℕ) (w : Bool) → ((x == k) && (y == j)) ≡ w → owed_of home s waits owed x y ≡ (if w then false else owed_of home s waits owed x y)
-      go x y false e = refl
-      go x y true e =
-          let parts = and_parts (x == k) (y == j) e in
-          ap (λ q. owed_of home s waits owed q y) (eqb-true x k parts.0) ∙ ap (owed_of home s waits owed k) (eqb-true y j parts.1)
-          ∙ ap (λ z. if z then (home k == s) && in_list (waits_of waits j) k else pairs_of owed k j) (ne_eqb (home j) s away) ∙ none
-
-  -- whether one of another site is owed
-  pub owed_away : (owed : List (List ℕ)) (k j : ℕ) → home j ≢ s → owed_of home s waits owed k j ≡ pairs_of owed k j
-  owed_away owed k j away = ap (λ z. if z then (home k == s) && in_list (waits_of waits j) k else pairs_of owed k j) (ne_eqb (home j) s away)
-
 -- the waits of j within the site are others
 module _ (home : ℕ → ℕ) (s : ℕ) (waits new : Held) (owed : List (List ℕ)) (j : ℕ) (ks : List ℕ) (at : home j ≡ s) (set : waits_of new ≡ set_at (waits_of waits) j ks) where
   set_there : (x y : ℕ) → y ≡ j → owed_of home s new owed x y ≡ ((home x == s) && in_list ks x)
@@ -112,10 +97,6 @@ module _ (home : ℕ → ℕ) (s : ℕ) (v : Kept) where
   after_turn c h =
       let later : c ≡ max v.clock c = omega arith in
       kept_is home s _ _ refl refl refl refl refl refl later refl
-
-  pub after_withdraw_none : (a c j k : ℕ) → home j ≢ s → pairs_of v.owed k j ≡ false
-      → state_kept home s (record v { clock = max v.clock c }) ≡ after home s before (Got a c (Withdraw_frame j k)) None
-  after_withdraw_none a c j k away none = kept_is home s _ _ refl refl refl (owed_none home s v.waits v.owed k j away none) refl refl refl refl
 
   pub after_withdraw_owed : (owed : List (List ℕ)) (a c j k : ℕ) → home j ≢ s → pairs_of owed ≡ set_pair (pairs_of v.owed) k j false
       → state_kept home s (record v { owed = owed; clock = max v.clock c }) ≡ after home s before (Got a c (Withdraw_frame j k)) None

@@ -11,7 +11,8 @@ use Rattle.cmh_model3.proofs.Facts.{lawful_states}
 use Rattle.cmh_waits3.specs.Held.{Held, is_member, nothing_held, row_in, since_of, waits_of}
 use Rattle.cmh_waits3.specs.Rows.{since_in, targets_of}
 use Rattle.cmh_waits3.specs.declared.wait.Wait.{Wait}
-use Rattle.cmh_controller3.specs.Controller.{HasRoom, IsKept, Kept, owed_of, state_kept}
+use Rattle.cmh_controller3.specs.Controller.{Kept, owed_of, state_kept}
+use Rattle.cmh_controller3.specs.Inner.Kept.{HasRoom, IsKept}
 use Rattle.cmh_controller3.specs.Tables.{flags_of, marks_of, pairs_of, stamps_of}
 use Rattle.cmh_controller3.proofs.After.{kept_is}
 

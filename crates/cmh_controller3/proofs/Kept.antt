@@ -7,7 +7,8 @@ use Rattle.cmh_model3.specs.Lists.{in_list, set_pair}
 use Rattle.cmh_model3.specs.Rules.{Accepts, Sends, after}
 use Rattle.cmh_model3.specs.Laws.{JournalFacts}
 use Rattle.cmh_model3.proofs.Facts.{facts_after}
-use Rattle.cmh_controller3.specs.Controller.{HasRoom, IsKept, Kept, state_kept}
+use Rattle.cmh_controller3.specs.Controller.{Kept, state_kept}
+use Rattle.cmh_controller3.specs.Inner.Kept.{HasRoom, IsKept}
 use Rattle.cmh_controller3.specs.Tables.{pairs_of}
 
 -- of the same processes, and with as much room
@@ -21,7 +22,7 @@ pub record AsLarge (old new : Kept) : Type 0 where
 
 pub still_kept : (home : ℕ → ℕ) (s : ℕ) (old new : Kept) (event : Event) (sent : List (ℕ × Message)) (d : Option ℕ) → IsKept home s old
     → Accepts home s (state_kept home s old) event → Sends home s (state_kept home s old) event sent d → state_kept home s new ≡ after home s (state_kept home s old) event d
-    → AsLarge old new → ((k j : ℕ) → pairs_of new.owed k j ≡ true → home j ≢ 0) → IsKept home s new
+    → AsLarge old new → ((k j : ℕ) → pairs_of new.owed k j ≡ true → (home j ≢ 0) × (home j ≢ s)) → IsKept home s new
 still_kept home s old new event sent d kept accepted sends is large askers = record {
   site = kept.site;
   facts = subst (JournalFacts home s) (sym is) (facts_after home s (state_kept home s old) event sent d kept.facts accepted sends);
@@ -34,18 +35,20 @@ still_kept home s old new event sent d kept accepted sends is large askers = rec
   stamps_room = subst (HasRoom home s) (sym large.stamps) kept.stamps_room;
 }
 
--- who is owed a reply is known: with one pair more, and with one less
-module _ (home : ℕ → ℕ) (old new : List (List ℕ)) (k j : ℕ) (known : (x y : ℕ) → pairs_of old x y ≡ true → home y ≢ 0) where
-  pub askers_more : home j ≢ 0 → pairs_of new ≡ set_pair (pairs_of old) k j true → (x y : ℕ) → pairs_of new x y ≡ true → home y ≢ 0
-  askers_more here is x y h = go ((x == k) && (y == j)) refl (sym (ap (λ (f : ℕ → ℕ → Bool). f x y) is) ∙ h)
+-- who is in the table of the owed is known and of another site: with one pair more, and with one less
+module _ (home : ℕ → ℕ) (s : ℕ) (old new : List (List ℕ)) (k j : ℕ) (known : (x y : ℕ) → pairs_of old x y ≡ true → (home y ≢ 0) × (home y ≢ s)) where
+  pub askers_more : home j ≢ 0 → home j ≢ s → pairs_of new ≡ set_pair (pairs_of old) k j true → (x y : ℕ) → pairs_of new x y ≡ true → (home y ≢ 0) × (home y ≢ s)
+  askers_more here away is x y h = go ((x == k) && (y == j)) refl (sym (ap (λ (f : ℕ → ℕ → Bool). f x y) is) ∙ h)
     where
-      go : (z : Bool) → ((x == k) && (y == j)) ≡ z → (if z then true else pairs_of old x y) ≡ true → home y ≢ 0
-      go true e g = λ none. here (ap home (sym (eqb-true y j (and_parts (x == k) (y == j) e).1)) ∙ none)
+      go : (z : Bool) → ((x == k) && (y == j)) ≡ z → (if z then true else pairs_of old x y) ≡ true → (home y ≢ 0) × (home y ≢ s)
+      go true e g =
+          let same = ap home (sym (eqb-true y j (and_parts (x == k) (y == j) e).1)) in
+          (λ none. here (same ∙ none), λ at. away (same ∙ at))
       go false e g = known x y g
 
-  pub askers_less : pairs_of new ≡ set_pair (pairs_of old) k j false → (x y : ℕ) → pairs_of new x y ≡ true → home y ≢ 0
+  pub askers_less : pairs_of new ≡ set_pair (pairs_of old) k j false → (x y : ℕ) → pairs_of new x y ≡ true → (home y ≢ 0) × (home y ≢ s)
   askers_less is x y h = go ((x == k) && (y == j)) (sym (ap (λ (f : ℕ → ℕ → Bool). f x y) is) ∙ h)
     where
-      go : (z : Bool) → (if z then false else pairs_of old x y) ≡ true → home y ≢ 0
+      go : (z : Bool) → (if z then false else pairs_of old x y) ≡ true → (home y ≢ 0) × (home y ≢ s)
       go true g = absurd (true≢false (sym g))
       go false g = known x y g

@@ -10,3 +10,6 @@ pub mod Seeing
 pub mod Naming
 pub mod Looking
 pub mod Listing
+pub mod Halves
+pub mod Back
+pub mod TakenBack

@@ -8,7 +8,8 @@ use Rattle.std.proofs.lemmas.Map.Views.{any-filter_same}
 use Rattle.cmh_model3.specs.Lists.{in_list}
 use Rattle.cmh_model3.specs.State.{is_blocked}
 use Rattle.cmh_model3.proofs.Marks.{some_in}
-use Rattle.cmh_controller3.specs.Controller.{Controller, IsKept, home_of, state_of}
+use Rattle.cmh_controller3.specs.Controller.{Controller, home_of, state_of}
+use Rattle.cmh_controller3.specs.Inner.Kept.{IsKept}
 use Rattle.cmh_controller3.specs.Tables.{flags_of}
 
 -- one more of a list, if it passes the test

@@ -8,8 +8,9 @@ use Rattle.cmh_model3.specs.State.{passes}
 use Rattle.cmh_model3.proofs.Counts.{in_with}
 use Rattle.cmh_model3.proofs.Marks.{passes_in}
 use Rattle.cmh_waits3.specs.Held.{AreWaitsOf, Held, since_of, waits_of}
-use Rattle.cmh_controller3.specs.Controller.{Controller, IsKept, home_of, state_of}
-use Rattle.cmh_controller3.specs.Looks.{AreOfSite}
+use Rattle.cmh_controller3.specs.Controller.{Controller, home_of, state_of}
+use Rattle.cmh_controller3.specs.Inner.Kept.{IsKept}
+use Rattle.cmh_controller3.specs.Inner.Looks.{AreOfSite}
 use Rattle.cmh_controller3.specs.Steps.{CanTake}
 
 module _ (c : Controller) (kept : IsKept (home_of c) c.site c.kept) where

@@ -14,11 +14,12 @@ use Rattle.cmh_model3.specs.Stops.{declared_at}
 use Rattle.cmh_waits3.specs.Held.{Held, since_of, waits_of}
 use Rattle.cmh_controller3.specs.declared.outcome.Declaration.{Declaration}
 use Rattle.cmh_controller3.specs.declared.outcome.Outcome.{Outcome}
-use Rattle.cmh_controller3.specs.Controller.{Controller, IsKept, Kept, home_of, state_kept, state_of}
-use Rattle.cmh_controller3.specs.Looks.{Sees}
+use Rattle.cmh_controller3.specs.Controller.{Controller, Kept, home_of, state_kept, state_of}
+use Rattle.cmh_controller3.specs.Inner.Kept.{IsKept}
+use Rattle.cmh_controller3.specs.Inner.Looks.{Sees}
 use Rattle.cmh_controller3.specs.Steps.{CanTake, Steps, process_in}
 use Rattle.cmh_controller3.specs.Tables.{flags_of, marks_of, pairs_of, stamps_of}
-use Rattle.cmh_controller3.proofs.After.{Woken, after_ask, after_got_reply, after_ignored, after_left, after_probe, after_reply_away, after_reply_here, after_request, after_turn, after_withdraw, after_withdraw_none, after_withdraw_owed, owed_away}
+use Rattle.cmh_controller3.proofs.After.{Woken, after_ask, after_got_reply, after_ignored, after_left, after_probe, after_reply_away, after_reply_here, after_request, after_turn, after_withdraw, after_withdraw_owed}
 use Rattle.cmh_controller3.proofs.Kept.{AsLarge, askers_less, askers_more, still_kept}
 use Rattle.cmh_controller3.proofs.Saying.{ask_says, declaration_of, ignored_says, probe_says, process_of, stop_is}
 
@@ -32,7 +33,7 @@ pub steps_from : (event : Event) (o : Outcome) (old now new : Controller) → ol
 steps_from event o old now new same steps = subst (λ (c : Controller). Steps c event o new) same steps
 
 -- nothing is declared
-none_stops : (m : ℕ) (o : Option Declaration) → o ≡ None → (d : Declaration) → o ≡ Some d → d.stop ≡ m
+pub none_stops : (m : ℕ) (o : Option Declaration) → o ≡ None → (d : Declaration) → o ≡ Some d → d.stop ≡ m
 none_stops m o none d some = absurd (none_some d (sym none ∙ some))
   where
     none_some : (x : Declaration) → None ≡ Some x → ⊥
@@ -51,7 +52,7 @@ module _ (c : Controller) (kept : IsKept (home_of c) c.site c.kept) where
   -- a step that declares nobody
   pub quiet : (event : Event) (o : Outcome) (sent : List (ℕ × Message)) (new : Kept) → CanTake c event → o.sent ≡ sent → o.declared ≡ None
       → Sends home c.site before event sent None → state_kept home c.site new ≡ after home c.site before event None
-      → AsLarge v new → ((k j : ℕ) → pairs_of new.owed k j ≡ true → home j ≢ 0) → Moves c event o new
+      → AsLarge v new → ((k j : ℕ) → pairs_of new.owed k j ≡ true → (home j ≢ 0) × (home j ≢ c.site)) → Moves c event o new
   quiet event o sent new accepted sent_is none sends is large askers =
       let nobody : process_in o.declared ≡ None = ap process_in none in
       record {
@@ -70,7 +71,7 @@ module _ (c : Controller) (kept : IsKept (home_of c) c.site c.kept) where
   pub loud : (event : Event) (o : Outcome) (sent : List (ℕ × Message)) (declared : Bool) (i n : ℕ) (new : Kept) → CanTake c event → o.sent ≡ sent → o.declared ≡ declaration_of declared i n
       → n ≡ declared_at v.clock event → Sends home c.site before event sent (if declared then Some i else None)
       → state_kept home c.site new ≡ after home c.site before event (if declared then Some i else None)
-      → AsLarge v new → ((k j : ℕ) → pairs_of new.owed k j ≡ true → home j ≢ 0) → Moves c event o new
+      → AsLarge v new → ((k j : ℕ) → pairs_of new.owed k j ≡ true → (home j ≢ 0) × (home j ≢ c.site)) → Moves c event o new
   loud event o sent declared i n new accepted sent_is declared_is at sends is large askers =
       let who : process_in o.declared ≡ (if declared then Some i else None) = ap process_in declared_is ∙ process_of declared i n in
       record {
@@ -99,32 +100,19 @@ module _ (c : Controller) (kept : IsKept (home_of c) c.site c.kept) where
       (quiet (Got a n (Request j k)) o [] (record v { owed = owed; clock = max v.clock n }) accepted none nobody (refl, refl)
       (after_request home c.site v owed a n j k (λ here. accepted.0 (sym accepted.1 ∙ here)) row)
       (record { members = refl; leaving = refl; owed = room; marks = refl; declared = refl; stamps = refl })
-      (askers_more home v.owed owed k j kept.askers (λ no_site. let zero : a ≡ 0 = sym accepted.1 ∙ no_site in absurd (omega arith)) row))
+      (askers_more home c.site v.owed owed k j kept.askers (λ no_site. let zero : a ≡ 0 = sym accepted.1 ∙ no_site in absurd (omega arith)) (λ here. accepted.0 (sym accepted.1 ∙ here)) row))
 
-  pub unanswered_moves : (a n j k clock : ℕ) (o : Outcome) → CanTake c (Got a n (Withdraw_frame j k)) → o.sent ≡ [] → o.declared ≡ None
-      → pairs_of v.owed k j ≡ false → clock ≡ max v.clock n → Moves c (Got a n (Withdraw_frame j k)) o (record v { clock = clock })
-  unanswered_moves a n j k clock o accepted none nobody free later =
-      let away : home j ≢ c.site = λ here. accepted.0 (sym accepted.1 ∙ here) in
-      let is_free : before.owed k j ≡ false = owed_away home c.site v.waits v.owed k j away ∙ free in
-      subst (λ (x : ℕ). Moves c (Got a n (Withdraw_frame j k)) o (record v { clock = x })) (sym later)
-      (quiet (Got a n (Withdraw_frame j k)) o [] (record v { clock = max v.clock n }) accepted none nobody
-      (sym (ap (λ (z : Bool). if z then (a, message (max v.clock n) (Reply_frame k j)) ∷ [] else []) is_free), refl)
-      (after_withdraw_none home c.site v a n j k away free)
-      (record { members = refl; leaving = refl; owed = refl; marks = refl; declared = refl; stamps = refl }) kept.askers)
-
-  pub answered_moves : (a n j k clock : ℕ) (owed : List (List ℕ)) (o : Outcome) → CanTake c (Got a n (Withdraw_frame j k)) → o.sent ≡ (a, message clock (Reply_frame k j)) ∷ [] → o.declared ≡ None
-      → pairs_of v.owed k j ≡ true → pairs_of owed ≡ set_pair (pairs_of v.owed) k j false → length owed ≡ length v.owed → clock ≡ max v.clock n
-      → Moves c (Got a n (Withdraw_frame j k)) o (record v { owed = owed; clock = clock })
-  answered_moves a n j k clock owed o accepted one nobody owes row room later =
-      let away : home j ≢ c.site = λ here. accepted.0 (sym accepted.1 ∙ here) in
-      let is_owed : before.owed k j ≡ true = owed_away home c.site v.waits v.owed k j away ∙ owes in
+  -- whether it was owed or not
+  pub withdrawn_moves : (a n j k clock : ℕ) (owed : List (List ℕ)) → CanTake c (Got a n (Withdraw_frame j k))
+      → pairs_of owed ≡ set_pair (pairs_of v.owed) k j false → length owed ≡ length v.owed → clock ≡ max v.clock n
+      → Moves c (Got a n (Withdraw_frame j k)) (record { sent = (if before.owed k j then (a, message (max v.clock n) (Reply_frame k j)) ∷ [] else []); declared = None }) (record v { owed = owed; clock = clock })
+  withdrawn_moves a n j k clock owed accepted row room later =
+      let o : Outcome = record { sent = (if before.owed k j then (a, message (max v.clock n) (Reply_frame k j)) ∷ [] else []); declared = None } in
       subst (λ (x : ℕ). Moves c (Got a n (Withdraw_frame j k)) o (record v { owed = owed; clock = x })) (sym later)
-      (quiet (Got a n (Withdraw_frame j k)) o ((a, message (max v.clock n) (Reply_frame k j)) ∷ []) (record v { owed = owed; clock = max v.clock n }) accepted
-      (one ∙ ap (λ x. (a, message x (Reply_frame k j)) ∷ []) later) nobody
-      (sym (ap (λ (z : Bool). if z then (a, message (max v.clock n) (Reply_frame k j)) ∷ [] else []) is_owed), refl)
-      (after_withdraw_owed home c.site v owed a n j k away row)
+      (quiet (Got a n (Withdraw_frame j k)) o o.sent (record v { owed = owed; clock = max v.clock n }) accepted refl refl (refl, refl)
+      (after_withdraw_owed home c.site v owed a n j k (λ here. accepted.0 (sym accepted.1 ∙ here)) row)
       (record { members = refl; leaving = refl; owed = room; marks = refl; declared = refl; stamps = refl })
-      (askers_less home v.owed owed k j kept.askers row))
+      (askers_less home c.site v.owed owed k j kept.askers row))
 
   pub away_moves : (k j : ℕ) (owed : List (List ℕ)) (o : Outcome) → CanTake c (Reply k j) → home j ≢ c.site → o.sent ≡ (home j, message v.clock (Reply_frame k j)) ∷ [] → o.declared ≡ None
       → pairs_of owed ≡ set_pair (pairs_of v.owed) k j false → length owed ≡ length v.owed → Moves c (Reply k j) o (record v { owed = owed })
@@ -133,7 +121,7 @@ module _ (c : Controller) (kept : IsKept (home_of c) c.site c.kept) where
       (sym (ap (λ (z : Bool). if z then [] else (home j, message v.clock (Reply_frame k j)) ∷ []) (ne_eqb (home j) c.site away)), refl)
       (after_reply_away home c.site v owed k j away row)
       (record { members = refl; leaving = refl; owed = room; marks = refl; declared = refl; stamps = refl })
-      (askers_less home v.owed owed k j kept.askers row)
+      (askers_less home c.site v.owed owed k j kept.askers row)
 
   pub here_moves : (k j : ℕ) (waits : Held) (marks : List (List ℕ)) (declared : List Bool) (o : Outcome) → CanTake c (Reply k j) → home j ≡ c.site → o.sent ≡ [] → o.declared ≡ None
       → Woken home c.site v j (without (waits_of v.waits j) k) waits marks declared

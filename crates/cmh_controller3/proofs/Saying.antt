@@ -8,7 +8,7 @@ use Rattle.cmh_model3.specs.declared.event.Event.TheVariants.{Ask, Got}
 use Rattle.cmh_model3.specs.State.{State, passes}
 use Rattle.cmh_model3.specs.Paths.{DependsOnItself, ReachesLocally}
 use Rattle.cmh_model3.specs.Rules.{AreProbes, DeclaresOrProbes, Sends, changed, probe_acts, requests}
-use Rattle.cmh_controller3.specs.Looks.{Sees}
+use Rattle.cmh_controller3.specs.Inner.Looks.{Sees}
 use Rattle.cmh_controller3.specs.Steps.{process_in}
 use Rattle.cmh_controller3.specs.declared.outcome.Declaration.{Declaration}
 

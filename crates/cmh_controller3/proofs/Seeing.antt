@@ -8,7 +8,7 @@ use Rattle.cmh_model3.specs.Rules.{probe_along}
 use Rattle.cmh_topology3.specs.Topology.{Topology, site_of}
 use Rattle.cmh_waits3.specs.Findings.{AreEdges}
 use Rattle.cmh_waits3.specs.Held.{AreWaitsOf, Held, state_of, waits_of}
-use Rattle.cmh_controller3.specs.Looks.{AreOfSite, Sees}
+use Rattle.cmh_controller3.specs.Inner.Looks.{AreOfSite, Sees}
 
 -- the waits of a site are those of a state with nothing else
 pub waits_alone : (t : Topology) (s : ℕ) (held : Held) → AreOfSite t s held → AreWaitsOf (site_of t) s (state_of held) held

@@ -1,10 +1,9 @@
 -- What a caller sees of a controller, and what it keeps of its site.
-use Rattle.std.specs.Prelude.{◌≡◌, ◌≢◌, ℕ, ◌<◌, Bool, true, ◌&&◌, List, length, ◌==◌, if◌then◌else◌}
+use Rattle.std.specs.Prelude.{◌≡◌, ℕ, Bool, ◌&&◌, List, ◌==◌, if◌then◌else◌}
 use Rattle.cmh_model3.specs.Lists.{in_list}
 use Rattle.cmh_model3.specs.State.{State, empty_state}
-use Rattle.cmh_model3.specs.Laws.{JournalFacts}
 use Rattle.cmh_topology3.specs.Topology.{Topology, site_of}
-use Rattle.cmh_waits3.specs.Held.{Held, is_member, since_of, waits_of}
+use Rattle.cmh_waits3.specs.Held.{Held, since_of, waits_of}
 use Rattle.cmh_controller3.specs.Tables.{flags_of, marks_of, pairs_of, stamps_of}
 
 -- What is kept of the processes of a site, as data; `state_of` says what it means. Of those that processes owe a reply
@@ -53,22 +52,3 @@ pub record IsNew (t : Topology) (s : ℕ) (c : Controller) : Type 0 where
   pub topology : c.topology ≡ t
   pub site : c.site ≡ s
   pub state : state_of c ≡ empty_state
-
--- ---- what every controller keeps
-
--- the numbers of the site's processes are below this
-abbrev pub HasRoom : (ℕ → ℕ) → ℕ → ℕ → Type 0
-HasRoom home s room = (p : ℕ) → home p ≡ s → p < room
-
--- The facts of the state of every journal hold, whoever is owed a reply is known, and there is room for each process of
--- the site.
-pub record IsKept (home : ℕ → ℕ) (s : ℕ) (kept : Kept) : Type 0 where
-  pub site : 0 < s
-  pub facts : JournalFacts home s (state_kept home s kept)
-  pub members : (p : ℕ) → (home p == s) ≡ is_member kept.waits p
-  pub askers : (k j : ℕ) → pairs_of kept.owed k j ≡ true → home j ≢ 0
-  pub leaving_room : HasRoom home s (length kept.leaving)
-  pub owed_room : HasRoom home s (length kept.owed)
-  pub marks_room : HasRoom home s (length kept.marks)
-  pub declared_room : HasRoom home s (length kept.declared)
-  pub stamps_room : HasRoom home s (length kept.stamps)

@@ -40,12 +40,6 @@ module _ (home : ℕ → ℕ) (s : ℕ) where
   abbrev pub IsElsewhere : ℕ → Type 0
   IsElsewhere p = (home p ≢ 0) × (home p ≢ s)
 
-  -- why a process is none of the site
-  abbrev pub IsNoneOfSite : ℕ → Refusal → Type 0
-  IsNoneOfSite p UnknownProcess = home p ≡ 0
-  IsNoneOfSite p NotHere = IsElsewhere p
-  IsNoneOfSite p reason = ⊥
-
   -- a blocked process may ask of nobody, and any process of those that it may name
   abbrev pub MayAsk : State → ℕ → List ℕ → Type 0
   MayAsk v j ks = (home j ≡ s) × ((is_blocked v j || is_nonempty ks) ≡ true) × CanName home v j ks

@@ -4,16 +4,20 @@
 //! accept, and sends and declares what they say.
 #![tactic(auto)]
 
+mod changes;
 mod controller;
 mod mark_table;
 mod outcome;
 mod pair_table;
+mod prepared;
 mod refusal;
 mod replayed;
+mod second_half;
 mod sending;
 mod targets;
 
 pub use crate::controller::Controller;
 pub use crate::outcome::{Declaration, Outcome};
+pub use crate::prepared::Prepared;
 pub use crate::refusal::Refusal;
 pub use crate::replayed::{Replayed, replay};

@@ -45,6 +45,17 @@ impl MarkRow {
         Ok(())
     }
 
+    /// Puts the stamp of a mark back. It takes no memory: where there is no mark, there was none.
+    fn put_back(&mut self, origin: ProcId, stamp: Stamp)
+        requires { slice_index_or self.old origin 0 ≡ 0 → stamp ≡ 0 }
+        ensures { (i : ℕ) → slice_index_or self.new i 0
+            ≡ if i == origin then stamp else slice_index_or self.old i 0 }
+    {
+        if let Some(place) = self.stamps.get_mut(origin.get() as usize) {
+            *place = stamp;
+        }
+    }
+
     fn clear(&mut self)
         ensures { self.new ≡ [] }
     {
@@ -109,6 +120,17 @@ impl MarkTable {
         ensures err { OnErr result (self.new ≡ self.old) }
     {
         self.rows[process.get() as usize].put(origin, stamp)
+    }
+
+    /// Puts a mark that was there before back. It takes no memory.
+    pub fn put_back(&mut self, process: ProcId, origin: ProcId, stamp: Stamp)
+        requires inside { process < length self.old }
+        requires some { marks_of self.old process origin ≡ 0 → stamp ≡ 0 }
+        ensures marks { marks_of self.new
+            ≡ set_at (marks_of self.old) process (set_at (marks_of self.old process) origin stamp) }
+        ensures room { length self.new ≡ length self.old }
+    {
+        self.rows[process.get() as usize].put_back(origin, stamp);
     }
 
     /// Forgets the marks of a process.

@@ -9,6 +9,7 @@ use cmh_model3::ProcId;
 use cmh_waits::ProcList;
 use std::alloc::{AllocError, Global};
 use std::marker::Model;
+use std::mem;
 
 /// Pairs of processes: at the number of each process of the site those with which it is a pair, ascending.
 ///
@@ -84,13 +85,14 @@ impl PairTable {
         self.rows[first.get() as usize].copy(alloc)
     }
 
-    /// From now on a process is a pair with just these.
-    pub fn put_row(&mut self, first: ProcId, row: ProcList)
+    /// From now on a process is a pair with just these. It gives those before.
+    pub fn put_row(&mut self, first: ProcId, row: ProcList) -> ProcList
         requires { first < length self.old }
+        ensures before { (second : ℕ) → in_list result second ≡ pairs_of self.old first second }
         ensures pairs { pairs_of self.new ≡ set_at (pairs_of self.old) first (in_list row) }
         ensures room { length self.new ≡ length self.old }
     {
-        self.rows[first.get() as usize] = row;
+        mem::replace(&mut self.rows[first.get() as usize], row)
     }
 
     /// Another table of the same pairs.

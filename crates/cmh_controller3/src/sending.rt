@@ -5,7 +5,7 @@ ghost use Rattle.cmh_model3.specs.Lists.{in_list};
 ghost use Rattle.cmh_model3.specs.Paths.{DependsOnItself, ReachesLocally};
 ghost use Rattle.cmh_model3.specs.Rules as rules;
 ghost use Rattle.cmh_model3.specs.State.{State, passes};
-ghost use Rattle.cmh_controller3.specs.Looks.{AreOfSite, Sees};
+ghost use Rattle.cmh_controller3.specs.Inner.Looks.{AreOfSite, Sees};
 ghost use Rattle.cmh_topology3.specs.Topology.{site_of};
 ghost use Rattle.cmh_waits3.specs.Held.{AreWaitsOf, is_member};
 

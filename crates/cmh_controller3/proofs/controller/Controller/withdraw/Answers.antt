@@ -1,38 +1,35 @@
-use Rattle.std.proofs.Common.{◌∙◌, sym, ap, subst}
+use Rattle.std.proofs.Common.{◌≡◌, ℕ, true, None, [], get_or, refl, sym, ap, subst}
 use Rattle.cmh_model3.specs.declared.event.Event.TheVariants.{Withdraw}
-use Rattle.cmh_controller3.specs.Controller.{Controller, home_of}
+use Rattle.cmh_model3.specs.Rules.{targets_away, withdraws}
+use Rattle.cmh_waits3.specs.Held.{Held}
+use Rattle.cmh_controller3.specs.Controller.{Controller, home_of, state_of}
 use Rattle.cmh_controller3.specs.Steps.{CanTake}
 use Rattle.cmh_controller3.specs.contracts.controller.Controller.{the_view}
-use Rattle.std.proofs.Common.{ℕ, not, ◌&&◌, ◌||◌, ◌==◌}
-use Rattle.cmh_model3.specs.Lists.{in_list}
-use Rattle.cmh_topology3.specs.Topology.{site_of}
-use Rattle.cmh_waits3.specs.Held.{Held}
 use Rattle.cmh_controller3.proofs.After.{woken}
-use Rattle.cmh_controller3.proofs.Moving.{steps_from, withdraw_moves}
+use Rattle.cmh_controller3.proofs.Halves.{leads_from, moves_lead, row_again, row_holds}
+use Rattle.cmh_controller3.proofs.Moving.{withdraw_moves}
 use Rattle.cmh_controller3.proofs.controller.Controller.withdraw.Goals as goal
-
-pub withdraws-requires : goal.withdraws-requires
-withdraws-requires c = record {
-  known = λ k named.
-      let accepted = subst (λ (v : Controller). CanTake v (Withdraw c.args.asker c.args.targets.now)) (sym c.self.view_is) c.requires in
-      (c.self.invariant.facts.waits_home c.args.asker k (accepted.3 k named)).1;
-}
 
 pub invariant_of-self : goal.invariant_of-self
 invariant_of-self c =
-    let accepted = subst (λ (v : Controller). CanTake v (Withdraw c.args.asker c.args.targets.now)) (sym c.self.view_is) c.requires in
+    let accepted = subst (λ (v : Controller). CanTake v (Withdraw c.args.asker c.args.targets.now)) (sym c.self.view_is) c.requires.accepted in
+    let left = subst (λ (v : Controller). (k : ℕ) → targets_away (home_of v) v.site c.args.asker c.args.targets.now c.args.asker k ≡ true → (state_of v).leaving c.args.asker k ≡ true) (sym c.self.view_is) c.requires.left in
     let awake = woken (home_of (the_view c.self.inside)) c.self.inside.site (the_view c.self.inside).kept c.args.asker _ c.end_all.new.self c.forget.new.marks c.forget.new.declared.items c.is_blocked-blocked.result
     c.end_all.ensures.waits c.end_all.ensures.since c.is_blocked-blocked.ensures c.forget.ensures.marks c.forget.ensures.declared in
-    let more = λ (k : ℕ). c.in_ok-row-2.ensures k ∙ ap (λ z. (not (site_of c.self.inside.topology k == c.self.inside.site) && in_list c.args.targets.now k) || z) (c.in_ok-row.ensures k) in
-    (withdraw_moves (the_view c.self.inside) c.self.invariant c.args.asker c.args.targets.now c.end_all.new.self c.put_row.new.self c.forget.new.marks c.forget.new.declared.items c.in_ok-row-2.row c.said.result accepted
-    (c.said.ensures.sent ∙ c.in_ok-sent.ensures) c.said.ensures.declared more c.put_row.ensures.pairs c.put_row.ensures.room awake (ap (λ (x : Held). x.members) c.end_all.ensures.value) c.forget.ensures.marks_length c.forget.ensures.declared_length).kept
+    let moves = withdraw_moves (the_view c.self.inside) c.self.invariant c.args.asker c.args.targets.now c.end_all.new.self c.self.inside.leaving c.forget.new.marks c.forget.new.declared.items (get_or c.self.inside.leaving c.args.asker [])
+    (record { sent = withdraws (home_of (the_view c.self.inside)) c.self.inside.site c.self.inside.clock c.args.asker c.args.targets.now; declared = None }) accepted refl refl
+    (row_holds (home_of (the_view c.self.inside)) c.self.inside.site c.args.asker c.args.targets.now c.self.inside.leaving left) (row_again c.self.inside.leaving c.args.asker) refl
+    awake (ap (λ (x : Held). x.members) c.end_all.ensures.value) c.forget.ensures.marks_length c.forget.ensures.declared_length in
+    moves.kept
 
-pub returns-clause-ok : goal.returns-clause-ok
-returns-clause-ok c =
-    let accepted = subst (λ (v : Controller). CanTake v (Withdraw c.args.asker c.args.targets.now)) (sym c.self.view_is) c.requires in
+pub returns : goal.returns
+returns c =
+    let accepted = subst (λ (v : Controller). CanTake v (Withdraw c.args.asker c.args.targets.now)) (sym c.self.view_is) c.requires.accepted in
+    let left = subst (λ (v : Controller). (k : ℕ) → targets_away (home_of v) v.site c.args.asker c.args.targets.now c.args.asker k ≡ true → (state_of v).leaving c.args.asker k ≡ true) (sym c.self.view_is) c.requires.left in
     let awake = woken (home_of (the_view c.self.inside)) c.self.inside.site (the_view c.self.inside).kept c.args.asker _ c.end_all.new.self c.forget.new.marks c.forget.new.declared.items c.is_blocked-blocked.result
     c.end_all.ensures.waits c.end_all.ensures.since c.is_blocked-blocked.ensures c.forget.ensures.marks c.forget.ensures.declared in
-    let more = λ (k : ℕ). c.in_ok-row-2.ensures k ∙ ap (λ z. (not (site_of c.self.inside.topology k == c.self.inside.site) && in_list c.args.targets.now k) || z) (c.in_ok-row.ensures k) in
-    let moves = withdraw_moves (the_view c.self.inside) c.self.invariant c.args.asker c.args.targets.now c.end_all.new.self c.put_row.new.self c.forget.new.marks c.forget.new.declared.items c.in_ok-row-2.row c.said.result accepted
-    (c.said.ensures.sent ∙ c.in_ok-sent.ensures) c.said.ensures.declared more c.put_row.ensures.pairs c.put_row.ensures.room awake (ap (λ (x : Held). x.members) c.end_all.ensures.value) c.forget.ensures.marks_length c.forget.ensures.declared_length in
-    steps_from _ _ _ _ _ c.self.view_is moves.steps
+    let moves = withdraw_moves (the_view c.self.inside) c.self.invariant c.args.asker c.args.targets.now c.end_all.new.self c.self.inside.leaving c.forget.new.marks c.forget.new.declared.items (get_or c.self.inside.leaving c.args.asker [])
+    (record { sent = withdraws (home_of (the_view c.self.inside)) c.self.inside.site c.self.inside.clock c.args.asker c.args.targets.now; declared = None }) accepted refl refl
+    (row_holds (home_of (the_view c.self.inside)) c.self.inside.site c.args.asker c.args.targets.now c.self.inside.leaving left) (row_again c.self.inside.leaving c.args.asker) refl
+    awake (ap (λ (x : Held). x.members) c.end_all.ensures.value) c.forget.ensures.marks_length c.forget.ensures.declared_length in
+    leads_from _ _ _ _ c.self.view_is (moves_lead _ _ _ _ moves)

@@ -1,7 +1,7 @@
 use Rattle.std.proofs.Common.{◌≡◌, ◌==◌, ◌&&◌, ◌||◌, ℕ, not, take}
 use Rattle.cmh_model3.specs.Lists.{in_list}
 use Rattle.cmh_topology3.specs.Topology.{site_of}
-use Rattle.cmh_controller3.proofs.controller.with_those_away.Given as goal
+use Rattle.cmh_controller3.proofs.changes.with_those_away.Given as goal
 
 -- those so far are in the row
 abbrev pub invariant-loop-target : goal.invariant-loop-target

@@ -1,0 +1,47 @@
+//! The first half of a step.
+
+ghost use Rattle.std.specs.Prelude.{◌≡◌};
+
+use crate::outcome::Outcome;
+use cmh_model3::Stamp;
+use cmh_waits::ProcList;
+
+/// A step that a controller has prepared: its outcome is known and nothing of it can fail any longer. It waits to be
+/// carried out or taken back.
+#[derive(Debug, Drop)]
+pub struct Prepared {
+    /// What the step sends and declares.
+    pub outcome: Outcome,
+    pub(crate) before: Before,
+}
+
+/// What stood, before a step, at the places that its first half has written. Elsewhere it says nothing.
+#[derive(Debug, Drop)]
+pub(crate) struct Before {
+    /// The clock of the site.
+    pub clock: Stamp,
+    /// The stamp of the newest ask of an ask's asker.
+    pub stamp: Stamp,
+    /// Whether an ask's asker was declared.
+    pub declared: bool,
+    /// The mark of a probe's origin at its receiver.
+    pub mark: Stamp,
+    /// Those whom the asker of a withdrawal was leaving.
+    pub leaving: ProcList,
+}
+
+impl Before {
+    /// With this clock and these, and with nothing else.
+    pub fn new(clock: Stamp, leaving: ProcList) -> Before
+        ensures clock { result.clock ≡ clock }
+        ensures leaving { result.leaving ≡ leaving }
+    {
+        Before {
+            clock,
+            stamp: Stamp::new(0),
+            declared: false,
+            mark: Stamp::new(0),
+            leaving,
+        }
+    }
+}
