@@ -14,7 +14,28 @@ use Rattle.cmh_segment3.specs.Entries.{step_of}
 use Rattle.cmh_segment3.proofs.WholeEntries.{steps_come_back}
 use Rattle.cmh_audit3.specs.Journals.{AreJournalsOf, journal_of}
 use Rattle.cmh_audit3.specs.Verdicts.{IsOrderOf}
-use Rattle.cmh_audit3.specs.Inner.Queues.{Queues, if_some_at, queue_at}
+use Rattle.cmh_audit3.specs.Inner.Queues.{Queues, if_some_at, journal_over, queue_at}
+
+-- ---- the queues of segments
+
+over_last : (new : List Segment) (g : Segment) (before after : ℕ → List Entry) (s : ℕ) → after s ≡ (if g.header.site == s then g.entries else before s) → journal_over new after s ≡ journal_over (new ++ g ∷ []) before s
+over_last [] g before after s is = is
+over_last (x ∷ new) g before after s is = ap (λ l. if x.header.site == s then x.entries else l) (over_last new g before after s is)
+
+pub over_more : (all old new : List Segment) (g : Segment) (before after : Queues) → old ≡ new ++ g ∷ [] → ((s : ℕ) → queue_at after s ≡ (if g.header.site == s then g.entries else queue_at before s))
+    → ((s : ℕ) → journal_over old (queue_at before) s ≡ journal_of all s) → (s : ℕ) → journal_over new (queue_at after) s ≡ journal_of all s
+over_more all old new g before after is put so_far s =
+    over_last new g (queue_at before) (queue_at after) s (put s) ∙ ap (λ l. journal_over l (queue_at before) s) (sym is) ∙ so_far s
+
+pub over_none : (gs : List Segment) (s : ℕ) → journal_over gs (queue_at []) s ≡ journal_of gs s
+over_none [] s = refl
+over_none (g ∷ gs) s = ap (λ l. if g.header.site == s then g.entries else l) (over_none gs s)
+
+pub over_end : (all left : List Segment) (queues : Queues) → length left ≡ 0 → ((s : ℕ) → journal_over left (queue_at queues) s ≡ journal_of all s) → (s : ℕ) → queue_at queues s ≡ journal_of all s
+over_end all [] queues none so_far = so_far
+over_end all (g ∷ left) queues none so_far = absurd (omega (arith, none))
+
+-- ---- the run
 
 -- the run has the first entries in that order, and the queues the others
 abbrev pub Gone : List Segment → List ℕ → ℕ → Queues → List WorldEvent → Type 0
