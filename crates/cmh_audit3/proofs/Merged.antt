@@ -1,11 +1,11 @@
 -- From a merge of the lawful entries to the verdict.
-use Rattle.std.proofs.Common.{◌≡◌, ◌≢◌, ℕ, ◌+◌, ◌-◌, ◌<◌, ◌≤◌, ◌==◌, ◌⊎◌, Bool, true, false, not, ◌||◌, List, [], ◌∷◌, ◌++◌, length, take, drop, map, if◌then◌else◌, cond, Option, None, Some, inl, inr, refl, sym, ap, ◌∙◌, subst, arith, append_assoc, append-nil, length-append, length-take-le, take_all}
+use Rattle.std.proofs.Common.{◌≡◌, ◌≢◌, ℕ, ◌+◌, ◌-◌, ◌<◌, ◌≤◌, ◌==◌, ◌⊎◌, Bool, true, false, List, [], ◌∷◌, ◌++◌, length, take, drop, map, if◌then◌else◌, cond, Option, None, Some, inl, inr, refl, sym, ap, ◌∙◌, subst, arith, append_assoc, append-nil, length-append, length-take-le, take_all}
 use Rattle.std.specs.Prelude.{nat_lt}
-use Rattle.std.specs.List.{AllByRecursion, filter, list_any}
+use Rattle.std.specs.List.{AllByRecursion, filter}
 use Rattle.std.specs.List.Sorted.{IsStrictlyIncreasing}
 use Rattle.std.specs.Option.{option_to_list}
 use Rattle.std.proofs.Math.Seq.{take-append_seam}
-use Rattle.std.proofs.lemmas.Bool.{cases_Bool, cases_eq, cases_lt, eq-eqb, ne_eqb, lt-ltb, le-ltb, ltb-true, or_parts, or_cases, true≢false}
+use Rattle.std.proofs.lemmas.Bool.{cases_Bool, cases_eq, cases_lt, eq-eqb, ne_eqb, lt-ltb, ltb-true, or_cases, true≢false}
 use Rattle.std.proofs.lemmas.List.{length-map, map-append, take-append-drop}
 use Rattle.std.proofs.lemmas.List.Kept.{IsStrictlyIncreasing-filter}
 use Rattle.cmh_merge.specs.Merges as merge
@@ -28,15 +28,14 @@ use Rattle.cmh_segment3.specs.declared.segment.Segment.{Segment}
 use Rattle.cmh_segment3.specs.Entries.{step_of}
 use Rattle.cmh_segment3.specs.Steps.{entries_from}
 use Rattle.cmh_segment3.proofs.WholeEntries.{steps_come_back}
-use Rattle.cmh_audit3.specs.declared.stops.Reason.{Reason}
 use Rattle.cmh_audit3.specs.declared.stops.Reason.TheVariants.{Unlawful, NotSent}
 use Rattle.cmh_audit3.specs.declared.stops.Stop.{Stop}
-use Rattle.cmh_audit3.specs.Journals.{AreJournalsOf, AreLawful, ComeFromRun, journal_of}
-use Rattle.cmh_audit3.specs.Set.{IsSet, has_site, sites_in}
+use Rattle.cmh_audit3.specs.Journals.{AreLawful, ComeFromRun, journal_of}
+use Rattle.cmh_audit3.specs.Set.{has_site, sites_in}
 use Rattle.cmh_audit3.specs.Stops.{AreStops, IsReason, IsStop, before_stop}
 use Rattle.cmh_audit3.specs.Verdicts.{IsOrderOf}
 use Rattle.cmh_audit3.specs.Inner.Lawful.{AreLawfulLengths, IsLawfulLength}
-use Rattle.cmh_audit3.specs.Inner.Survey.{left_at, limit_at, reason_of, steps_within, stop_at, stop_of, stops_at}
+use Rattle.cmh_audit3.specs.Inner.Survey.{left_at, limit_at, reason_of, steps_within, stop_at, stops_at}
 use Rattle.cmh_audit3.proofs.Lengths.{entries-append}
 use Rattle.cmh_audit3.proofs.Surveys.{as_many, journal_at, limits_at, none_there}
 

@@ -1,11 +1,11 @@
 -- What it means that segments are those of one world.
-use Rattle.std.proofs.Common.{◌≡◌, ℕ, ◌==◌, ◌||◌, not, Bool, true, false, true≢false, if◌then◌else◌, List, [], ◌∷◌, Option, None, Some, inl, inr, refl, sym, ap, ◌∙◌, subst}
+use Rattle.std.proofs.Common.{◌≡◌, ℕ, ◌==◌, not, Bool, true, false, true≢false, if◌then◌else◌, List, [], ◌∷◌, Option, None, Some, inl, inr, refl, sym, subst}
 use Rattle.std.specs.List.{list_any}
 use Rattle.std.proofs.lemmas.Bool.{eqb-true, or_cases, or_parts}
 use Rattle.cmh_frames.specs.Rows.{repeats}
 use Rattle.cmh_topology3.specs.Topology.{Topology, is_site}
 use Rattle.cmh_segment3.specs.declared.segment.Segment.{Segment}
-use Rattle.cmh_audit3.specs.Set.{IsSet, has_site, is_known, is_of_world, lacks_site, sites_in}
+use Rattle.cmh_audit3.specs.Set.{IsSet, has_site, is_known, is_of_world, sites_in}
 
 none_if : {X : Type 0} (b : Bool) (x : X) (o : Option X) → (if b then Some x else o) ≡ None → (b ≡ false) × (o ≡ None)
 none_if true x o e = absurd (cc e)

@@ -4,7 +4,7 @@ use Rattle.std.specs.List.Sorted.{IsStrictlyIncreasing}
 use Rattle.std.proofs.lemmas.Bool.{cases_eq, eq-eqb, eqb-true, true≢false}
 use Rattle.std.proofs.lemmas.List.{length-map}
 use Rattle.cmh_merge.specs.Merges.{IsMerge}
-use Rattle.cmh_merge.specs.Walks.{lefts_of, sites_of}
+use Rattle.cmh_merge.specs.Walks.{sites_of}
 use Rattle.cmh_merge.specs.declared.walk.SiteWalk.{SiteWalk}
 use Rattle.cmh_model3.specs.Journals.{message_from}
 use Rattle.cmh_runs.proofs.Beginnings.{empty_list}

@@ -1,8 +1,8 @@
 -- The first entry of a walk.
-use Rattle.std.proofs.Common.{◌≡◌, ◌≢◌, ℕ, ◌==◌, Bool, true, false, List, [], ◌∷◌, map, get_or, if◌then◌else◌, Option, None, Some, refl, sym, ap, ◌∙◌, subst}
+use Rattle.std.proofs.Common.{◌≡◌, ◌≢◌, ℕ, ◌==◌, Bool, true, false, List, [], ◌∷◌, map, get_or, if◌then◌else◌, Some, refl, sym, ap, ◌∙◌, subst}
 use Rattle.std.specs.Prelude.{MatchBool, slice_get}
 use Rattle.std.proofs.lemmas.Bool.{eq-eqb, true≢false}
-use Rattle.cmh_merge.specs.Walks.{GotFrom, GotNothing, IsNext}
+use Rattle.cmh_merge.specs.Walks.{GotFrom, IsNext}
 use Rattle.cmh_merge.specs.declared.walk.Next.{Next}
 use Rattle.cmh_merge.specs.declared.walk.Next.TheVariants.{End, Own, Got}
 use Rattle.cmh_model3.specs.declared.event.Event.{Event}

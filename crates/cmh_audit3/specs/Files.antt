@@ -1,6 +1,5 @@
 -- The files that an auditor is given.
 use Rattle.std.specs.Prelude.{◌≡◌, ◌⊎◌, ℕ, List, ◌∷◌}
-use Rattle.cmh_segment3.specs.Head.{BeginsNoHead}
 use Rattle.cmh_segment3.specs.Segment.{IsFault}
 use Rattle.cmh_audit3.specs.declared.file.FileFault.{FileFault}
 use Rattle.cmh_audit3.specs.declared.file.FileFault.TheVariants.{OtherEdition, Segment}

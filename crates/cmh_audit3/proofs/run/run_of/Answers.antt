@@ -1,4 +1,4 @@
-use Rattle.std.proofs.Common.{◌≡◌, ◌<◌, ◌≤◌, ◌+◌, ◌++◌, ◌∷◌, [], List, ℕ, Vec, length, get_or, ap, sym, ◌∙◌, subst}
+use Rattle.std.proofs.Common.{◌<◌, ◌≤◌, ◌+◌, ◌++◌, ◌∷◌, [], List, ℕ, Vec, length, get_or, ap, sym, ◌∙◌, subst}
 use Rattle.std.specs.Global.{Global}
 use Rattle.cmh_model3.specs.Entries.{Entry, WorldEvent}
 use Rattle.cmh_audit3.proofs.Runs.{Gone, all_gone, begins_gone, goes_on, some_left}

@@ -1,5 +1,4 @@
-use Rattle.std.proofs.Common.{◌∙◌, ap, length, sym, get_or, take_all, arith}
-use Rattle.cmh_merge.specs.Walks.{lefts_of}
+use Rattle.std.proofs.Common.{◌∙◌, ap, length, sym, get_or}
 use Rattle.cmh_segment3.specs.declared.segment.Segment.{Segment}
 use Rattle.cmh_audit3.specs.Inner.Survey.{stop_of}
 use Rattle.cmh_audit3.proofs.Places.{lefts_in, no_stop, stop_found}

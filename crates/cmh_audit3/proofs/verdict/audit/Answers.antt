@@ -1,4 +1,4 @@
-use Rattle.std.proofs.Common.{◌≡◌, ◌==◌, List, ℕ, length, refl, sym, ap, ◌∙◌, subst, true≢false}
+use Rattle.std.proofs.Common.{◌==◌, List, length, refl, sym, ap, ◌∙◌, subst, true≢false}
 use Rattle.std.specs.List.Sorted.{IsStrictlyIncreasing}
 use Rattle.cmh_merge.specs.Merges.{AreDistinct}
 use Rattle.cmh_audit3.specs.declared.stops.Stop.{Stop}

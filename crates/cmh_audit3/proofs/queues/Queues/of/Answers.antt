@@ -1,4 +1,4 @@
-use Rattle.std.proofs.Common.{◌≡◌, ◌==◌, List, ℕ, ap, sym, ◌∙◌, if◌then◌else◌}
+use Rattle.std.proofs.Common.{◌==◌, List, ap, sym, ◌∙◌, if◌then◌else◌}
 use Rattle.cmh_segment3.specs.declared.entry.Entry.{Entry}
 use Rattle.cmh_audit3.specs.Inner.Queues.{Queues, journal_over, queue_at}
 use Rattle.cmh_audit3.proofs.Runs.{over_end, over_more, over_none}
