@@ -1,0 +1,37 @@
+-- What it means that segments are those of one world.
+use Rattle.std.proofs.Common.{◌≡◌, ℕ, ◌==◌, not, Bool, true, false, true≢false, if◌then◌else◌, List, [], ◌∷◌, Option, None, Some, inl, inr, refl, sym, subst}
+use Rattle.std.specs.List.{list_any}
+use Rattle.std.proofs.lemmas.Bool.{eqb-true, or_cases, or_parts}
+use Rattle.cmh_frames.specs.Rows.{repeats}
+use Rattle.cmh_topology3.specs.Topology.{Topology, is_site}
+use Rattle.cmh_segment3.specs.declared.segment.Segment.{Segment}
+use Rattle.cmh_audit3.specs.Set.{IsSet, has_site, is_known, is_of_world, sites_in}
+
+none_if : {X : Type 0} (b : Bool) (x : X) (o : Option X) → (if b then Some x else o) ≡ None → (b ≡ false) × (o ≡ None)
+none_if true x o e = absurd (cc e)
+none_if false x o e = (refl, e)
+
+not_false : (b : Bool) → not b ≡ false → b ≡ true
+not_false true h = refl
+not_false false h = absurd (true≢false h)
+
+known_in : (t : Topology) (gs : List Segment) → list_any (λ (g : Segment). not (is_known t g)) gs ≡ false → (s : ℕ) → has_site (sites_in gs) s ≡ true → is_site t s ≡ true
+known_in t [] h s there = absurd (true≢false (sym there))
+known_in t (g ∷ gs) h s there =
+    let parts = or_parts (not (is_known t g)) (list_any (λ (g : Segment). not (is_known t g)) gs) h in
+    elim (or_cases (g.header.site == s) (has_site (sites_in gs) s) there) [
+      | inl e ↦ subst (λ x. is_site t x ≡ true) (eqb-true g.header.site s e) (not_false (is_known t g) parts.0)
+      | inr later ↦ known_in t gs parts.1 s later
+    ]
+
+-- of segments that are a set, no site is repeated, and each is known
+pub record SetParts (t : Topology) (gs : List Segment) : Type 0 where
+  pub once : repeats (sites_in gs) ≡ false
+  pub known : (s : ℕ) → has_site (sites_in gs) s ≡ true → is_site t s ≡ true
+
+pub set_parts : (t : Topology) (gs : List Segment) → IsSet t gs → SetParts t gs
+set_parts t gs set =
+    let a = none_if (list_any (λ (g : Segment). not (is_of_world t.world g)) gs) _ _ set in
+    let b = none_if (list_any (λ (g : Segment). not (is_known t g)) gs) _ _ a.1 in
+    let c = none_if (repeats (sites_in gs)) _ _ b.1 in
+    record { once = c.0; known = known_in t gs b.0 }

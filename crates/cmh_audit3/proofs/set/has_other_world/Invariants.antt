@@ -1,0 +1,8 @@
+use Rattle.std.proofs.Common.{◌≡◌, drop, not}
+use Rattle.std.specs.List.{list_any}
+use Rattle.cmh_segment3.specs.declared.segment.Segment.{Segment}
+use Rattle.cmh_audit3.specs.Set.{is_of_world}
+use Rattle.cmh_audit3.proofs.set.has_other_world.Given as goal
+
+abbrev pub invariant-loop-segment : goal.invariant-loop-segment
+invariant-loop-segment l = list_any (λ (g : Segment). not (is_of_world l.topology.world g)) (drop l.segment-index l.segments) ≡ list_any (λ (g : Segment). not (is_of_world l.topology.world g)) l.segments

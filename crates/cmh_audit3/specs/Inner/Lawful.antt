@@ -1,0 +1,26 @@
+-- How far entries are lawful.
+use Rattle.std.specs.Prelude.{ℕ, ◌+◌, ◌<◌, ◌≤◌, List, [], ◌∷◌, length, take, Option}
+use Rattle.std.specs.Option.{option_map}
+use Rattle.cmh_topology3.specs.Topology.{Topology}
+use Rattle.cmh_controller3.specs.declared.outcome.Declaration.{Declaration as Declared}
+use Rattle.cmh_segment3.specs.declared.entry.Declaration.{Declaration}
+use Rattle.cmh_segment3.specs.declared.entry.Entry.{Entry}
+use Rattle.cmh_segment3.specs.declared.segment.Segment.{Segment}
+use Rattle.cmh_audit3.specs.Journals.{AreLawful}
+
+-- what an entry records of a declaration
+abbrev pub recorded : Option Declared → Option Declaration
+recorded declared = option_map (λ (d : Declared). record { process = d.process; stamp = d.stop }) declared
+
+-- the longest lawful beginning has n entries
+pub record IsLawfulLength (t : Topology) (s : ℕ) (entries : List Entry) (n : ℕ) : Type 0 where
+  pub within : n ≤ length entries
+  pub lawful : AreLawful t s (take n entries)
+  pub stops : n < length entries → AreLawful t s (take (n + 1) entries) → ⊥
+
+-- one for each segment
+abbrev pub AreLawfulLengths : Topology → List Segment → List ℕ → Type 0
+AreLawfulLengths t [] [] = Unit {0}
+AreLawfulLengths t [] (n ∷ limits) = ⊥
+AreLawfulLengths t (g ∷ segments) [] = ⊥
+AreLawfulLengths t (g ∷ segments) (n ∷ limits) = IsLawfulLength t g.header.site g.entries n × AreLawfulLengths t segments limits

@@ -1,0 +1,125 @@
+//! The entries of each site that are not in a run yet.
+
+ghost use Rattle.std.specs.Prelude.{◌≡◌, ◌++◌, ◌==◌, ◌<◌, ℕ, [], if◌then◌else◌, length, slice_get, IfOk, OnOk};
+ghost use Rattle.std.specs.Option.{option_to_list};
+ghost use Rattle.cmh_audit3.specs.Inner.Queues.{SameQueues, if_some_at, queue_at};
+ghost use Rattle.cmh_audit3.specs.Journals.{journal_of};
+
+use cmh_model3::SiteId;
+use cmh_segment3::{Entry, Segment};
+use std::alloc::{AllocError, Global};
+use std::collections::VecDeque;
+use std::marker::Model;
+
+/// The entries of a site, the first one first.
+#[derive(Debug, Drop)]
+struct Queue {
+    entries: VecDeque<Entry>,
+}
+
+impl Model for Queue {
+    ghost use Rattle.std.specs.Prelude.{List};
+    ghost use Rattle.cmh_segment3.specs.declared.entry.Entry as entry;
+
+    ghost Value = { List entry.Entry };
+
+    ghost view = { λ q. q.entries.items };
+}
+
+impl Queue {
+    /// No entries. Takes no memory.
+    fn new(alloc: Global) -> Self
+        ensures { result ≡ [] }
+    {
+        Queue {
+            entries: VecDeque::new(alloc),
+        }
+    }
+
+    fn of(alloc: Global, entries: Vec<Entry>) -> Result<Self, AllocError>
+        ensures { IfOk result (λ queue. queue ≡ entries.items) }
+    {
+        let mut left = entries;
+        let mut queue = VecDeque::new(alloc);
+        while let Some(entry) = left.pop() {
+            queue.push_front(entry)?;
+        }
+        Ok(Queue { entries: queue })
+    }
+
+    fn take(&mut self) -> Option<Entry>
+        ensures first { result ≡ slice_get self.old 0 }
+        ensures moved { self.old ≡ option_to_list result ++ self.new }
+    {
+        self.entries.pop_front()
+    }
+}
+
+/// The entries of each site that are not in a run yet.
+#[derive(Debug, Drop)]
+pub struct Queues {
+    alloc: Global,
+
+    /// Each at its site's number.
+    rows: Vec<Queue>,
+}
+
+impl Model for Queues {
+    ghost use Rattle.cmh_audit3.specs.Inner.Queues as spec;
+
+    ghost Value = { spec.Queues };
+
+    ghost view = { λ q. q.rows.items };
+}
+
+impl Queues {
+    /// The entries of the segments. Of two of one site it has those of the first.
+    pub fn of(alloc: Global, segments: Vec<Segment>) -> Result<Self, AllocError>
+        ensures { IfOk result (λ queues. (s : ℕ) → queue_at queues s ≡ journal_of segments.items s) }
+    {
+        let mut left = segments;
+        let mut queues = Queues {
+            alloc,
+            rows: Vec::new(alloc),
+        };
+        while let Some(segment) = left.pop() {
+            queues.put(segment.header.site, segment.entries.into_rows())?;
+        }
+        Ok(queues)
+    }
+
+    /// Puts the entries of a site in place of those that it has.
+    fn put(&mut self, site: SiteId, entries: Vec<Entry>) -> Result<(), AllocError>
+        ensures { OnOk result ((s : ℕ) → queue_at self.new s
+            ≡ if site == s then entries.items else queue_at self.old s) }
+    {
+        let queue = Queue::of(self.alloc, entries)?;
+        self.lengthen(site)?;
+        self.rows[site.get() as usize] = queue;
+        Ok(())
+    }
+
+    /// Takes the first entry of a site, if it has one.
+    pub fn take(&mut self, site: SiteId) -> Option<Entry>
+        ensures first { result ≡ slice_get (queue_at self.old site) 0 }
+        ensures moved { (s : ℕ) → queue_at self.old s ≡ if_some_at site result s ++ queue_at self.new s }
+    {
+        let at = site.get() as usize;
+        if at < self.rows.len() {
+            self.rows[at].take()
+        } else {
+            None
+        }
+    }
+
+    /// Adds empty queues, up to that of this site.
+    fn lengthen(&mut self, site: SiteId) -> Result<(), AllocError>
+        ensures room { OnOk result (site < length self.new) }
+        ensures same { SameQueues self.old self.new }
+    {
+        for _ in self.rows.len()..site.get() as usize + 1 {
+            self.rows.push(Queue::new(self.alloc))?;
+        }
+        Ok(())
+    }
+}
