@@ -38,7 +38,7 @@ pub enum Refusal {
 #[derive(Drop)]
 pub struct Clock {
     alloc: Global,
-    now: u8,
+    time: u8,
 }
 
 impl Model for Clock {
@@ -46,20 +46,20 @@ impl Model for Clock {
 
     ghost Value = { ℕ };
 
-    ghost view = { λ c. c.now };
+    ghost view = { λ c. c.time };
 }
 
 impl Clock {
-    pub fn new(alloc: Global, now: u8) -> Self
-        ensures { result ≡ now }
+    pub fn new(alloc: Global, time: u8) -> Self
+        ensures { result ≡ time }
     {
-        Clock { alloc, now }
+        Clock { alloc, time }
     }
 
-    pub fn now(&self) -> u8
+    pub fn time(&self) -> u8
         ensures { result ≡ self.now }
     {
-        self.now
+        self.time
     }
 
     /// The clock after an event that is accepted.
@@ -68,8 +68,8 @@ impl Clock {
         ensures { result ≡ transitions.after self.now event.now None }
     {
         match event {
-            Event::Tell { .. } => self.now + 1,
-            Event::Got { frame, .. } => self.now.max(frame.clock),
+            Event::Tell { .. } => self.time + 1,
+            Event::Got { frame, .. } => self.time.max(frame.clock),
             Event::Turn { clock } => *clock,
         }
     }
@@ -84,7 +84,7 @@ impl Clock {
             frames.push((
                 *to,
                 Frame {
-                    clock: self.now + 1,
+                    clock: self.time + 1,
                 },
             ))?;
         }
@@ -97,9 +97,13 @@ impl Machine<Event, Frame> for Clock {
     ghost use Rattle.cmh_lab_machine.specs.Clocks.{IsPrepared, clock_meaning};
 
     type Base = u8;
+
     type Refusal = Refusal;
+
     type Outcome = Outcome<Frame>;
+
     type Undo = ();
+
     type WayBack = u8;
 
     ghost State = { ℕ };
@@ -112,8 +116,8 @@ impl Machine<Event, Frame> for Clock {
 
     fn check(&self, event: &Event) -> Result<(), Refusal> {
         match event {
-            Event::Tell { .. } if self.now == u8::MAX => Err(Refusal::Spent),
-            Event::Turn { clock } if *clock <= self.now => Err(Refusal::Late),
+            Event::Tell { .. } if self.time == u8::MAX => Err(Refusal::Spent),
+            Event::Turn { clock } if *clock <= self.time => Err(Refusal::Late),
             _ => Ok(()),
         }
     }
@@ -139,7 +143,7 @@ impl Machine<Event, Frame> for Clock {
     }
 
     fn carry_out(&mut self, event: &Event, _half: &Prepared<Outcome<Frame>, ()>) {
-        self.now = self.after(event);
+        self.time = self.after(event);
     }
 
     fn take_back(&mut self, _event: &Event, _half: &Prepared<Outcome<Frame>, ()>) {}
@@ -150,11 +154,11 @@ impl Machine<Event, Frame> for Clock {
         _event: &Event,
         _half: &Prepared<Outcome<Frame>, ()>,
     ) -> Result<u8, AllocError> {
-        Ok(self.now)
+        Ok(self.time)
     }
 
     fn undo(&mut self, _entry: &Entry<Event, Frame>, way: u8) {
-        self.now = way;
+        self.time = way;
     }
 
     fn entry(

@@ -26,7 +26,7 @@ mod tests {
         let to = SiteId::of(2);
         assert!(rt; station.step(&Event::Turn { clock: 3 }).is_err());
         assert!(rt; station.step(&Event::Tell { to }).is_ok());
-        assert_eq!(rt; station.machine().now(), 4);
+        assert_eq!(rt; station.machine().time(), 4);
         assert!(rt; station.step(&Event::Turn { clock: 9 }).is_ok());
         assert!(rt; station.step(&Event::Tell { to }).is_err());
         assert_eq!(rt; station.kept().as_slice().len(), 2);
@@ -47,6 +47,6 @@ mod tests {
         let events = [Event::Tell { to }, Event::Turn { clock: 7 }];
         assert!(rt; station.step_all(&events).is_err());
         assert!(rt; station.is_sealed());
-        assert_eq!(rt; station.machine().now(), 0);
+        assert_eq!(rt; station.machine().time(), 0);
     }
 }
