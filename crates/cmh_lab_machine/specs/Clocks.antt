@@ -1,6 +1,5 @@
 -- The rules of a site that has a clock alone: it ticks as it is told, takes over a greater one, and can be set forward.
 use Rattle.std.specs.Prelude.{◌≡◌, ℕ, ◌+◌, ◌<◌, ◌≤◌, max, List, [], ◌∷◌, Option, None}
-use Rattle.cmh_runs.specs.declared.entry.Entry.{Entry}
 use Rattle.cmh_runs.specs.declared.entry.Outcome.{Outcome}
 use Rattle.cmh_machine.specs.Transitions.{Transitions}
 use Rattle.cmh_machine.specs.Meaning.{MachineMeaning}
