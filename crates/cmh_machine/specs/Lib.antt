@@ -1,0 +1,3 @@
+pub mod Transitions
+pub mod Meaning
+pub mod Steps
