@@ -3,3 +3,4 @@ pub mod PairRows
 pub mod ClockTables
 pub mod Leavers
 pub mod Stopped
+pub mod Own

@@ -1,5 +1,6 @@
 -- What a report says of a run.
-use Rattle.std.specs.Prelude.{◌≡◌, ℕ, ◌≤◌, ◌↔◌, true, List, ◌∷◌, [], length, map, All, Contains, Option, None, Some}
+use Rattle.std.specs.Prelude.{◌≡◌, ℕ, ◌≤◌, ◌↔◌, true, List, ◌∷◌, [], length, map, Contains, Option, None, Some}
+use Rattle.std.specs.List.{AllByRecursion}
 use Rattle.std.specs.List.Sorted.{IsStrictlyIncreasing, IsStrictlySortedBy}
 use Rattle.cmh_frames.specs.Relation.{pair_cmp}
 use Rattle.cmh_frames.specs.Paths.{IsCycleOf}
@@ -9,20 +10,21 @@ use Rattle.cmh_model3.specs.Entries.{WorldEvent}
 use Rattle.cmh_model3.specs.Runs.{IsDeclared, state_of}
 use Rattle.cmh_model3.specs.Stops.{stop, withdrawn_past}
 use Rattle.cmh_model3.specs.Waits.{Waits, IsNext}
-use Rattle.cmh_topology3.specs.Topology.{Topology, site_of, sites_of}
+use Rattle.cmh_topology3.specs.Topology.{Topology, is_site, site_of, sites_of}
 use Rattle.cmh_report3.specs.declared.cycle.CycleNow.{CycleNow}
 use Rattle.cmh_report3.specs.declared.cycle.CycleNow.TheVariants as cycle
-use Rattle.cmh_report3.specs.declared.cycle.Declared.{Declared}
+use Rattle.cmh_report3.specs.declared.cycle.Deadlock.{Deadlock}
 use Rattle.cmh_report3.specs.declared.report.Report.{Report}
 use Rattle.cmh_report3.specs.Declarations.{newest_stop}
 use Rattle.cmh_report3.specs.Endings.{StandsSince}
 use Rattle.cmh_report3.specs.Transit.{in_transit}
 
--- the controllers of all sites, which stand where the events lead
+-- The controllers of all sites, which stand where the events lead; and no event is of another site.
 pub record StandAfter (t : Topology) (events : List WorldEvent) (controllers : List control.Controller) : Type 0 where
   pub sites : map (λ (c : control.Controller). c.site) controllers ≡ sites_of t
-  pub topology : All (λ (c : control.Controller). c.topology ≡ t) controllers
-  pub states : All (λ (c : control.Controller). control.state_of c ≡ state_of (site_of t) c.site events) controllers
+  pub topologies : AllByRecursion (λ (c : control.Controller). c.topology ≡ t) controllers
+  pub states : AllByRecursion (λ (c : control.Controller). control.state_of c ≡ state_of (site_of t) c.site events) controllers
+  pub of_world : AllByRecursion (λ (e : WorldEvent). is_site t e.site ≡ true) events
 
 -- ---- cycles
 
@@ -49,7 +51,7 @@ BecameOf Stood Stands Left i (cycle.Left members by) =
 BecameOf Stood Stands Left i cycle.None = NoCycleOf Stood i
 
 -- What is told of a declared process: the stop of its newest declaration, and what became of the cycle there.
-pub record IsTold (events : List WorldEvent) (told : Declared) : Type 0 where
+pub record IsTold (events : List WorldEvent) (told : Deadlock) : Type 0 where
   pub stop_is : told.stop ≡ newest_stop told.process 0 (λ s. 0) events
   pub cycle_is : BecameOf (Waits (stop told.stop events)) (StandsSince told.stop events)
       (λ j k. withdrawn_past told.stop j k (λ s. 0) events ≡ true) told.process told.cycle
@@ -65,7 +67,7 @@ pub record Reports (home : ℕ → ℕ) (events : List WorldEvent) (report : Rep
   pub waits_ascend : IsStrictlySortedBy pair_cmp report.waits.items
   pub leaving : (j k : ℕ) → Contains report.leaving.items (j, k) ↔ ((state_of home (home j) events).leaving j k ≡ true)
   pub leaving_ascend : IsStrictlySortedBy pair_cmp report.leaving.items
-  pub declared : (i : ℕ) → Contains (map (λ (told : Declared). told.process) report.declared.items) i
+  pub declared : (i : ℕ) → Contains (map (λ (told : Deadlock). told.process) report.declared.items) i
       ↔ IsDeclared home events i
-  pub declared_ascend : IsStrictlyIncreasing (map (λ (told : Declared). told.process) report.declared.items)
-  pub told : All (IsTold events) report.declared.items
+  pub declared_ascend : IsStrictlyIncreasing (map (λ (told : Deadlock). told.process) report.declared.items)
+  pub told : AllByRecursion (IsTold events) report.declared.items

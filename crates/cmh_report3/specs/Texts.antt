@@ -4,7 +4,7 @@ use Rattle.std.specs.Fmt.{decimal}
 use Rattle.cmh_frames.specs.Texts.{processes_text}
 use Rattle.cmh_report3.specs.declared.cycle.CycleNow.{CycleNow}
 use Rattle.cmh_report3.specs.declared.cycle.CycleNow.TheVariants as cycle
-use Rattle.cmh_report3.specs.declared.cycle.Declared.{Declared}
+use Rattle.cmh_report3.specs.declared.cycle.Deadlock.{Deadlock}
 use Rattle.cmh_report3.specs.declared.report.Report.{Report}
 
 abbrev pub transit_text : ℕ → List ℕ
@@ -22,14 +22,17 @@ cycle_text (cycle.Left members (Some by)) = codes "cycle" ++ processes_text memb
 cycle_text (cycle.Left members None) = codes "cycle" ++ processes_text members.items ++ codes " left by nobody"
 cycle_text cycle.None = codes "no cycle"
 
-abbrev pub declared_text : Declared → List ℕ
-declared_text declared =
-    codes "declared " ++ decimal declared.process ++ codes " at " ++ decimal declared.stop ++ codes " "
-    ++ cycle_text declared.cycle
+abbrev pub deadlock_text : Deadlock → List ℕ
+deadlock_text deadlock =
+    codes "declared " ++ decimal deadlock.process ++ codes " at " ++ decimal deadlock.stop ++ codes " "
+    ++ cycle_text deadlock.cycle
+
+abbrev pub deadlock_line : Deadlock → List ℕ
+deadlock_line deadlock = deadlock_text deadlock ++ codes "\n"
 
 abbrev pub report_text : Report → List ℕ
 report_text report =
     codes "accepted\nevents " ++ decimal report.events ++ codes "\n" ++ transit_text report.in_transit
     ++ flat_map (pair_text (codes "wait ")) report.waits.items
     ++ flat_map (pair_text (codes "leaving ")) report.leaving.items
-    ++ flat_map (λ (declared : Declared). declared_text declared ++ codes "\n") report.declared.items
+    ++ flat_map deadlock_line report.declared.items

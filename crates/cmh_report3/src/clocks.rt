@@ -1,10 +1,10 @@
 //! The clocks of sites while their entries are gone through, and which entries are within a stop.
 
-ghost use Rattle.std.specs.Prelude.{◌≡◌, ◌^◌, ◌<◌, ℕ, IfOk, OnOk, length};
+ghost use Rattle.std.specs.Prelude.{◌≡◌, ℕ, IfOk, OnOk};
 ghost use Rattle.cmh_model3.specs.Lists.{set_at};
 ghost use Rattle.cmh_model3.specs.Rules as rules;
 ghost use Rattle.cmh_model3.specs.Stops as stops;
-ghost use Rattle.cmh_report3.specs.Inner.ClockTables.{clock_at, SameClocks};
+ghost use Rattle.cmh_report3.specs.Inner.ClockTables.{HasRoom, clock_at};
 
 use cmh_model3::{Event, Frame, Message, SiteId, Stamp, WorldEvent};
 use std::alloc::{AllocError, Global};
@@ -46,7 +46,7 @@ impl Clocks {
 
     /// Takes an entry of a site, and answers the clock of the site after it: the entry's stamp.
     pub fn take(&mut self, event: &WorldEvent<Event, Message>) -> Result<Stamp, AllocError>
-        requires { rules.clock_after (clock_at self.old event.now.site) event.now.entry.event < 2 ^ 64 }
+        requires { HasRoom (clock_at self.old event.now.site) event.now.entry.event }
         ensures stamp { IfOk result (λ stamp.
             stamp ≡ rules.clock_after (clock_at self.old event.now.site) event.now.entry.event) }
         ensures clocks { OnOk result ((s : ℕ) → clock_at self.new s ≡ set_at (clock_at self.old) event.now.site
@@ -71,7 +71,7 @@ impl Clocks {
 
 /// The clock of a site after an event.
 fn clock_after(clock: Stamp, event: &Event) -> Stamp
-    requires { rules.clock_after clock event.now < 2 ^ 64 }
+    requires { HasRoom clock event.now }
     ensures { result ≡ rules.clock_after clock event.now }
 {
     match event {
@@ -94,7 +94,7 @@ pub fn is_within(stop: Stamp, stamp: Stamp, event: &Event) -> bool
 
 /// The stop at which the cycle of a declaration stood, told from the event that declares and the site's clock before it.
 pub fn declared_at(clock: Stamp, event: &Event) -> Stamp
-    requires { rules.clock_after clock event.now < 2 ^ 64 }
+    requires { HasRoom clock event.now }
     ensures { result ≡ stops.declared_at clock event.now }
 {
     match event {

@@ -1,8 +1,6 @@
 //! What became of the cycle on which a declared process lay.
 
-ghost use Rattle.std.specs.Prelude.{◌≡◌, ℕ, IfOk, filter, not};
-ghost use Rattle.std.specs.List.Sorted.{IsStrictlySortedBy};
-ghost use Rattle.cmh_frames.specs.Relation.{pair_cmp};
+ghost use Rattle.std.specs.Prelude.{◌≡◌, ℕ, IfOk, MatchOption, filter, min, not};
 ghost use Rattle.cmh_report3.specs.Inner.ClockTables.{FitClocks};
 ghost use Rattle.cmh_report3.specs.Inner.Leavers.{IsLeastIn};
 ghost use Rattle.cmh_report3.specs.Pairs.{has_pair};
@@ -32,7 +30,7 @@ pub enum CycleNow {
 
 /// A process that is declared deadlocked.
 #[derive(Debug, Drop)]
-pub struct Declared {
+pub struct Deadlock {
     pub process: ProcId,
     /// The stop at which it lay on a cycle.
     pub stop: Stamp,
@@ -40,17 +38,17 @@ pub struct Declared {
 }
 
 /// What is told of a process that is declared.
-pub fn declared(
+pub fn deadlock_of(
     alloc: Global,
     process: ProcId,
     events: &[WorldEvent<Event, Message>],
-) -> Result<Declared, AllocError>
+) -> Result<Deadlock, AllocError>
     requires { FitClocks (λ s. 0) events.now }
-    ensures { IfOk result (λ declared. (declared.process ≡ process) × IsTold events.now declared) }
+    ensures { IfOk result (λ deadlock. (deadlock.process ≡ process) × IsTold events.now deadlock) }
 {
     let number = newest_stop(alloc, process, events)?;
     let stop = stop_of(alloc, number, events)?;
-    Ok(Declared {
+    Ok(Deadlock {
         process,
         stop: number,
         cycle: cycle_now(alloc, &stop, process)?,
@@ -109,7 +107,7 @@ fn least_leaver(members: &[ProcId], left: &PairSet) -> Option<ProcId>
 
 /// The lesser of two processes, where there are two.
 fn lesser(one: Option<ProcId>, other: ProcId) -> ProcId
-    ensures { result ≡ other }
+    ensures { MatchOption one (result ≡ other) (λ one. result ≡ min one other) }
 {
     match one {
         Some(one) => one.min(other),

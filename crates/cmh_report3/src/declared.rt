@@ -1,11 +1,11 @@
 //! What controllers tell: who is declared, and who is leaving whom.
 
-ghost use Rattle.std.specs.Prelude.{◌≡◌, ℕ, List, true, false, OnOk, IfOk};
-ghost use Rattle.std.specs.List.Sorted.{IsStrictlyIncreasing};
-ghost use Rattle.std.specs.List.{list_any};
+ghost use Rattle.std.specs.Prelude.{◌≡◌, ◌||◌, ℕ, OnOk, IfOk};
+ghost use Rattle.std.specs.List.{AllByRecursion, list_any};
 ghost use Rattle.cmh_controller3.specs.Controller as spec;
 ghost use Rattle.cmh_controller3.specs.Controller.{state_of};
 ghost use Rattle.cmh_model3.specs.Lists.{in_list};
+ghost use Rattle.cmh_report3.specs.Inner.Own.{LeavesOwn};
 ghost use Rattle.cmh_report3.specs.Pairs.{has_pair};
 
 use crate::pairs::PairSet;
@@ -27,8 +27,7 @@ pub fn declared_by(alloc: Global, controllers: &[Controller]) -> Result<ProcList
     Ok(declared)
 }
 
-fn insert_all(list: &mut ProcList, processes: &[ProcId]) -> Result<(), AllocError>
-{
+fn insert_all(list: &mut ProcList, processes: &[ProcId]) -> Result<(), AllocError> {
     for process in processes {
         list.insert(*process)?;
     }
@@ -37,6 +36,7 @@ fn insert_all(list: &mut ProcList, processes: &[ProcId]) -> Result<(), AllocErro
 
 /// Who is leaving whom by some of these controllers.
 pub fn leaving_by(alloc: Global, controllers: &[Controller]) -> Result<PairSet, AllocError>
+    requires { AllByRecursion LeavesOwn controllers.now }
     ensures { IfOk result (λ leaving. (j k : ℕ) → has_pair leaving j k
         ≡ list_any (λ (c : spec.Controller). (state_of c).leaving j k) controllers.now) }
 {
@@ -53,6 +53,9 @@ fn add_leaving(
     leaving: &mut PairSet,
     controller: &Controller,
 ) -> Result<(), AllocError>
+    requires { LeavesOwn controller.now }
+    ensures { OnOk result ((j k : ℕ) → has_pair leaving.new j k
+        ≡ ((state_of controller.now).leaving j k || has_pair leaving.old j k)) }
 {
     for member in controller.topology().members(controller.site()) {
         let holders = controller.leaving_of(alloc, *member)?;

@@ -15,5 +15,5 @@ mod text;
 mod totals;
 mod waits;
 
-pub use crate::cycle::{CycleNow, Declared};
+pub use crate::cycle::{CycleNow, Deadlock};
 pub use crate::report::Report;

@@ -1,11 +1,17 @@
 //! The report on a world.
 
-ghost use Rattle.std.specs.Prelude.{IfOk};
+ghost use Rattle.std.specs.Prelude.{◌≡◌, ℕ, IfOk, map};
+ghost use Rattle.std.specs.List.{AllByRecursion, list_any};
+ghost use Rattle.std.specs.List.Sorted.{IsStrictlyIncreasing};
+ghost use Rattle.cmh_controller3.specs.Controller as control;
+ghost use Rattle.cmh_model3.specs.Lists.{in_list};
+ghost use Rattle.cmh_report3.specs.declared.cycle.Deadlock as cycle;
+ghost use Rattle.cmh_report3.specs.Inner.ClockTables.{FitClocks};
 ghost use Rattle.cmh_model3.specs.Runs.{IsRun};
-ghost use Rattle.cmh_report3.specs.Reports.{Reports, StandAfter};
+ghost use Rattle.cmh_report3.specs.Reports.{IsTold, Reports, StandAfter};
 ghost use Rattle.cmh_topology3.specs.Topology.{site_of};
 
-use crate::cycle::{Declared, declared};
+use crate::cycle::{Deadlock, deadlock_of};
 use crate::declared::{declared_by, leaving_by};
 use crate::stop::waits_of;
 use crate::totals::in_transit;
@@ -27,7 +33,7 @@ pub struct Report {
     /// Each process with each that it has given up and can't ask again yet, ascending.
     pub leaving: Vec<(ProcId, ProcId)>,
     /// Those that are declared deadlocked at the end, ascending.
-    pub declared: Vec<Declared>,
+    pub declared: Vec<Deadlock>,
 }
 
 impl Report {
@@ -58,12 +64,17 @@ fn declared_of(
     alloc: Global,
     controllers: &[Controller],
     events: &[WorldEvent<Event, Message>],
-) -> Result<Vec<Declared>, AllocError>
+) -> Result<Vec<Deadlock>, AllocError>
+    requires { FitClocks (λ s. 0) events.now }
+    ensures ascending { IfOk result (λ all. IsStrictlyIncreasing (map (λ (d : cycle.Deadlock). d.process) all.items)) }
+    ensures all { IfOk result (λ all. (i : ℕ) → in_list (map (λ (d : cycle.Deadlock). d.process) all.items) i
+        ≡ list_any (λ (c : control.Controller). (control.state_of c).declared i) controllers.now) }
+    ensures told { IfOk result (λ all. AllByRecursion (IsTold events.now) all.items) }
 {
     let processes = declared_by(alloc, controllers)?;
     let mut all = Vec::new(alloc);
     for process in processes.as_slice() {
-        all.push(declared(alloc, *process, events)?)?;
+        all.push(deadlock_of(alloc, *process, events)?)?;
     }
     Ok(all)
 }

@@ -56,10 +56,7 @@ pub fn stop_of(
 }
 
 /// The waits at the end of a list of events.
-pub fn waits_of(
-    alloc: Global,
-    events: &[WorldEvent<Event, Message>],
-) -> Result<PairSet, AllocError>
+pub fn waits_of(alloc: Global, events: &[WorldEvent<Event, Message>]) -> Result<PairSet, AllocError>
     ensures { IfOk result (λ waits. (j k : ℕ) → has_pair waits j k ≡ wait_after false j k events.now) }
 {
     let mut waits = PairSet::new(alloc);

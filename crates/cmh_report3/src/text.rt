@@ -1,9 +1,9 @@
 //! How a report is printed.
 
-ghost use Rattle.std.specs.Prelude.{Some, flat_map, codes, ℕ};
+ghost use Rattle.std.specs.Prelude.{Some, flat_map, codes};
 ghost use Rattle.cmh_report3.specs.Texts as spec;
 
-use crate::cycle::{CycleNow, Declared};
+use crate::cycle::{CycleNow, Deadlock};
 use crate::report::Report;
 use cmh_frames::ProcessesText;
 use cmh_model3::ProcId;
@@ -18,15 +18,63 @@ impl fmt::Display for Report {
         let transit = Transit {
             messages: self.in_transit,
         };
-        write!(f, "accepted\nevents {events}\n{transit}")?;
-        for (asker, holder) in &self.waits {
+        let waits = Waits { waits: &self.waits };
+        let leaving = Leaving {
+            leaving: &self.leaving,
+        };
+        let deadlocks = Deadlocks {
+            deadlocks: &self.declared,
+        };
+        write!(f, "accepted\nevents {events}\n{transit}{waits}{leaving}{deadlocks}")
+    }
+}
+
+/// Each process that waits with each that it waits for.
+#[derive(Drop)]
+struct Waits<'a> {
+    waits: &'a [(ProcId, ProcId)],
+}
+
+impl<'a> fmt::Display for Waits<'a> {
+    ghost output = { λ w. Some (flat_map (spec.pair_text (codes "wait ")) w.waits.now) };
+
+    fn fmt<W: fmt::Write>(&self, f: &mut fmt::Formatter<W>) -> fmt::Result {
+        for (asker, holder) in self.waits {
             write!(f, "wait {asker} {holder}\n")?;
         }
-        for (asker, holder) in &self.leaving {
+        Ok(())
+    }
+}
+
+/// Each process with each that it can't ask again yet.
+#[derive(Drop)]
+struct Leaving<'a> {
+    leaving: &'a [(ProcId, ProcId)],
+}
+
+impl<'a> fmt::Display for Leaving<'a> {
+    ghost output = { λ l. Some (flat_map (spec.pair_text (codes "leaving ")) l.leaving.now) };
+
+    fn fmt<W: fmt::Write>(&self, f: &mut fmt::Formatter<W>) -> fmt::Result {
+        for (asker, holder) in self.leaving {
             write!(f, "leaving {asker} {holder}\n")?;
         }
-        for declared in &self.declared {
-            write!(f, "{declared}\n")?;
+        Ok(())
+    }
+}
+
+/// Each declared process, with what became of its cycle.
+#[derive(Drop)]
+struct Deadlocks<'a> {
+    deadlocks: &'a [Deadlock],
+}
+
+impl<'a> fmt::Display for Deadlocks<'a> {
+    ghost output = { λ d. Some (flat_map spec.deadlock_line d.deadlocks.now) };
+
+    fn fmt<W: fmt::Write>(&self, f: &mut fmt::Formatter<W>) -> fmt::Result {
+        for deadlock in self.deadlocks {
+            write!(f, "{deadlock}\n")?;
         }
         Ok(())
     }
@@ -50,8 +98,8 @@ impl fmt::Display for Transit {
 }
 
 /// The declaration and its cycle, without the end of the line.
-impl fmt::Display for Declared {
-    ghost output = { λ declared. Some (spec.declared_text declared) };
+impl fmt::Display for Deadlock {
+    ghost output = { λ declared. Some (spec.deadlock_text declared) };
 
     fn fmt<W: fmt::Write>(&self, f: &mut fmt::Formatter<W>) -> fmt::Result {
         let process = self.process;
