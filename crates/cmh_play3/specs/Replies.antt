@@ -1,5 +1,5 @@
 -- What is written for a line of a script.
-use Rattle.std.specs.Prelude.{ℕ, List, [], ◌++◌, codes, None, Some}
+use Rattle.std.specs.Prelude.{ℕ, List, [], ◌++◌, codes, Option, None, Some}
 use Rattle.std.specs.Fmt.{decimal}
 use Rattle.cmh_frames.specs.Rows.{fault_number}
 use Rattle.cmh_controller3.specs.Refusals.{number_of}
@@ -19,12 +19,15 @@ frame_text (Withdraw asker holder) = codes "withdraw " ++ decimal asker ++ codes
 frame_text (Probe origin stamp holder to) =
     codes "probe " ++ decimal origin ++ codes " " ++ decimal stamp ++ codes " " ++ decimal holder ++ codes " " ++ decimal to
 
--- how many messages a step sent, and whom it declared, with the stop at which the cycle stood
+-- whom a step declared, with the stop at which the cycle stood
+abbrev pub declared_text : Option Declaration → List ℕ
+declared_text None = []
+declared_text (Some declaration) =
+    codes " declared " ++ decimal declaration.process ++ codes " at " ++ decimal declaration.stop
+
+-- how many messages a step sent, and whom it declared
 abbrev pub done_text : Done → List ℕ
-done_text (record { sent = sent; declared = None }) = codes "sent " ++ decimal sent
-done_text (record { sent = sent; declared = Some declaration }) =
-    codes "sent " ++ decimal sent ++ codes " declared " ++ decimal declaration.process ++ codes " at "
-    ++ decimal declaration.stop
+done_text done = codes "sent " ++ decimal done.sent ++ declared_text done.declared
 
 abbrev pub reply_text : Reply → List ℕ
 reply_text Silent = []

@@ -1,8 +1,14 @@
 //! A world that is played: the controllers of all its sites, the links between them, and all that happened.
 
-ghost use Rattle.std.specs.Prelude.{◌≡◌, ◌<◌, ℕ, true, IfOk, OnOk, Some, length, map, slice_index};
-ghost use Rattle.cmh_play3.specs.Held.{IsShown};
-ghost use Rattle.cmh_play3.specs.World.{CarriesOut, IsNewWorld, Leads};
+ghost use Rattle.std.specs.Prelude.{◌≡◌, ◌++◌, ◌<◌, ℕ, [], false, true, drop, if◌then◌else◌, ◌==◌, length, slice_index, IfOk, OnOk};
+ghost use Rattle.std.specs.List.Sorted.{IsStrictlyIncreasing};
+ghost use Rattle.cmh_controller3.specs.Steps.{process_in};
+ghost use Rattle.cmh_model3.specs.Journals.{frames_to, message_from};
+ghost use Rattle.cmh_model3.specs.Laws as laws;
+ghost use Rattle.cmh_play3.specs.Held.{IsNextAt, IsPlayed, IsStep, LeadsTo, world_of};
+ghost use Rattle.cmh_play3.specs.Inner.Fresh.{AreFresh};
+ghost use Rattle.cmh_play3.specs.Links.{is_cut, under_way};
+ghost use Rattle.cmh_play3.specs.World.{CarriesOut, joins};
 ghost use Rattle.cmh_script3.specs.declared.script.Command.TheVariants as command;
 ghost use Rattle.cmh_topology3.specs.Topology.{is_site, sites_of};
 
@@ -13,7 +19,6 @@ use cmh_model3::{Entry, Event, Message, ProcId, SiteId, Targets, WorldEvent};
 use cmh_report3::Report;
 use cmh_topology3::Topology;
 use std::alloc::{AllocError, Global};
-use std::marker::Model;
 
 /// A world that is played: the controllers of its sites, in the order of the topology, what all of them did, in one order,
 /// and the links between the sites.
@@ -35,6 +40,10 @@ enum Step {
 impl Playground {
     /// A world in which nothing has happened yet.
     pub fn new(alloc: Global, topology: &Topology) -> Result<Playground, AllocError>
+        ensures played { IfOk result IsPlayed }
+        ensures topology { IfOk result (λ held. held.topology ≡ topology.now) }
+        ensures events { IfOk result (λ held. held.events.items ≡ []) }
+        ensures uncut { IfOk result (λ held. (a b : ℕ) → is_cut held.links a b ≡ false) }
     {
         Ok(Playground {
             topology: topology.copy(alloc)?,
@@ -47,6 +56,10 @@ impl Playground {
     /// Gives an event to the controller of its process's home. Where memory runs out after the step, an error is
     /// answered, and nothing is said of the world from then on.
     pub fn act(&mut self, process: ProcId, event: Event) -> Result<Reply, AllocError>
+        requires played { IsPlayed self.old }
+        requires own { (a : ℕ) → message_from a event ≡ [] }
+        ensures { IfOk result (λ reply. LeadsTo self.new
+            (λ new. CarriesOut (world_of self.old) new (command.Act process event) reply)) }
     {
         let Some(site) = self.topology.home(process) else {
             return Ok(Reply::Refused(Refusal::UnknownProcess));
@@ -59,25 +72,32 @@ impl Playground {
 
     /// Gives up all waits of a process, as its controller keeps them. An error is as in `act`.
     pub fn withdraw_all(&mut self, alloc: Global, process: ProcId) -> Result<Reply, AllocError>
+        requires { IsPlayed self.old }
+        ensures { IfOk result (λ reply. LeadsTo self.new
+            (λ new. CarriesOut (world_of self.old) new (command.WithdrawAll process) reply)) }
     {
         let Some(site) = self.topology.home(process) else {
             return Ok(Reply::Refused(Refusal::UnknownProcess));
         };
         let place = place_of(&self.topology, site);
         let targets = Targets::new(self.controllers[place].waits_of(alloc, process)?);
-        self.act(
-            process,
-            Event::Withdraw {
-                asker: process,
-                targets,
-            },
-        )
+        let event = Event::Withdraw {
+            asker: process,
+            targets,
+        };
+        match self.step(site, event)? {
+            Step::Taken(done) => Ok(Reply::Taken(done)),
+            Step::Refused(refusal) => Ok(Reply::Refused(refusal)),
+        }
     }
 
     /// Hands over the oldest message of a link. Where the receiver refuses it, it stays there. An error is as in `act`.
     pub fn deliver(&mut self, from: SiteId, to: SiteId) -> Result<Reply, AllocError>
+        requires { IsPlayed self.old }
+        ensures { IfOk result (λ reply. LeadsTo self.new
+            (λ new. CarriesOut (world_of self.old) new (command.Deliver from to) reply)) }
     {
-        if !self.is_link(from, to) {
+        if !is_link(&self.topology, from, to) {
             return Ok(Reply::BadLink);
         }
         if self.links.is_cut(from, to) {
@@ -87,18 +107,18 @@ impl Playground {
             return Ok(Reply::Empty);
         };
         match self.step(to, Event::Got { from, clock, frame })? {
-            Step::Taken(done) => {
-                self.links.drop_front(from, to);
-                Ok(Reply::Got(frame, done))
-            }
+            Step::Taken(done) => Ok(Reply::Got(frame, done)),
             Step::Refused(refusal) => Ok(Reply::Refused(refusal)),
         }
     }
 
     /// Cuts a link: what is under way on it, and what is sent on it later, never comes.
     pub fn cut(&mut self, from: SiteId, to: SiteId) -> Result<Reply, AllocError>
+        requires { IsPlayed self.old }
+        ensures { IfOk result (λ reply. LeadsTo self.new
+            (λ new. CarriesOut (world_of self.old) new (command.Cut from to) reply)) }
     {
-        if !self.is_link(from, to) {
+        if !is_link(&self.topology, from, to) {
             return Ok(Reply::BadLink);
         }
         if self.links.is_cut(from, to) {
@@ -110,18 +130,21 @@ impl Playground {
 
     /// The report on the world as it stands.
     pub fn report(&self, alloc: Global) -> Result<Reply, AllocError>
+        requires { IsPlayed self.now }
+        ensures { IfOk result (λ reply.
+            CarriesOut (world_of self.now) (world_of self.now) command.Report reply) }
     {
         let report = Report::new(alloc, &self.topology, &self.controllers, &self.events)?;
         Ok(Reply::Report(Box::new(alloc, report)?))
     }
 
-    fn is_link(&self, from: SiteId, to: SiteId) -> bool
-    {
-        from != to && self.topology.has_site(from) && self.topology.has_site(to)
-    }
-
     /// Gives an event to a site's controller, puts what it sends on the site's links, and adds the entry to what happened.
     fn step(&mut self, site: SiteId, event: Event) -> Result<Step, AllocError>
+        requires played { IsPlayed self.old }
+        requires site { is_site self.old.topology site ≡ true }
+        requires next { IsNextAt (world_of self.old) site event }
+        ensures { IfOk result (λ step. LeadsTo self.new
+            (λ new. IsStep (world_of self.old) new site event step)) }
     {
         let place = place_of(&self.topology, site);
         match self.controllers[place].step(&event) {
@@ -131,6 +154,7 @@ impl Playground {
                     declared: outcome.declared,
                 };
                 send_all(&mut self.links, site, outcome.sent.as_slice())?;
+                receive(&mut self.links, site, &event);
                 self.events.push(entry_at(site, event, outcome))?;
                 Ok(Step::Taken(done))
             }
@@ -139,7 +163,15 @@ impl Playground {
     }
 }
 
+/// Whether there is a link between these: they are two sites of the topology.
+fn is_link(topology: &Topology, from: SiteId, to: SiteId) -> bool
+    ensures { result ≡ joins topology.now from to }
+{
+    from != to && topology.has_site(from) && topology.has_site(to)
+}
+
 fn entry_at(site: SiteId, event: Event, outcome: Outcome) -> WorldEvent<Event, Message>
+    ensures { result ≡ laws.entry_at site event outcome.sent (process_in outcome.declared) }
 {
     let declared = match outcome.declared {
         Some(declaration) => Some(declaration.process),
@@ -156,11 +188,10 @@ fn entry_at(site: SiteId, event: Event, outcome: Outcome) -> WorldEvent<Event, M
 }
 
 /// Puts what a site sent on its links, in the order of sending.
-fn send_all(
-    links: &mut Links,
-    from: SiteId,
-    sent: &[(SiteId, Message)],
-) -> Result<(), AllocError>
+fn send_all(links: &mut Links, from: SiteId, sent: &[(SiteId, Message)]) -> Result<(), AllocError>
+    ensures sent { OnOk result ((a b : ℕ) → under_way links.new a b
+        ≡ under_way links.old a b ++ (if from == a then frames_to b sent.now else [])) }
+    ensures cuts { (a b : ℕ) → is_cut links.new a b ≡ is_cut links.old a b }
 {
     for (to, message) in sent {
         links.send(from, *to, *message)?;
@@ -168,11 +199,23 @@ fn send_all(
     Ok(())
 }
 
+/// Takes what a site got off its link.
+fn receive(links: &mut Links, site: SiteId, event: &Event)
+    ensures taken { (a b : ℕ) → under_way links.new a b
+        ≡ drop (length (if site == b then message_from a event.now else [])) (under_way links.old a b) }
+    ensures cuts { (a b : ℕ) → is_cut links.new a b ≡ is_cut links.old a b }
+{
+    if let Event::Got { from, .. } = event {
+        links.drop_front(*from, site);
+    }
+}
+
 /// Where a site stands in the topology.
 fn place_of(topology: &Topology, site: SiteId) -> usize
     requires { is_site topology.now site ≡ true }
     ensures within { result < length (sites_of topology.now) }
     ensures site { slice_index (sites_of topology.now) result ≡ site }
+    ensures ascending { IsStrictlyIncreasing (sites_of topology.now) }
 {
     let Ok(place) = topology.sites().binary_search(&site) else {
         unreachable!()
@@ -182,13 +225,11 @@ fn place_of(topology: &Topology, site: SiteId) -> usize
 
 /// The controllers of all sites, in the order of the topology, before their first steps.
 fn new_controllers(alloc: Global, topology: &Topology) -> Result<Vec<Controller>, AllocError>
+    ensures { IfOk result (λ controllers. AreFresh topology.now (sites_of topology.now) controllers.items) }
 {
     let mut controllers = Vec::new(alloc);
     for site in topology.sites() {
-        let Ok(controller) = Controller::new(alloc, topology, *site) else {
-            return Err(AllocError);
-        };
-        controllers.push(controller)?;
+        controllers.push(Controller::empty(alloc, topology, *site)?)?;
     }
     Ok(controllers)
 }

@@ -80,12 +80,11 @@ impl fmt::Display for Done {
 
     fn fmt<W: fmt::Write>(&self, f: &mut fmt::Formatter<W>) -> fmt::Result {
         let sent = self.sent;
-        match self.declared {
-            Some(Declaration { process, stop }) => {
-                write!(f, "sent {sent} declared {process} at {stop}")
-            }
-            None => write!(f, "sent {sent}"),
+        write!(f, "sent {sent}")?;
+        if let Some(Declaration { process, stop }) = self.declared {
+            write!(f, " declared {process} at {stop}")?;
         }
+        Ok(())
     }
 }
 

@@ -21,7 +21,7 @@ has_room home s v (Got a c frame) accepts = tt
 has_room home s v (Turn c) accepts = tt
 
 module _ (home : ℕ → ℕ) where
-  next : (ℕ → State) → WorldEvent → ℕ → State
+  abbrev next : (ℕ → State) → WorldEvent → ℕ → State
   next vs e = set_at vs e.site (after home e.site (vs e.site) e.entry.event e.entry.declared)
 
   clocks_next : (vs : ℕ → State) (e : WorldEvent) (s : ℕ)

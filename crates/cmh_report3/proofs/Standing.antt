@@ -51,11 +51,11 @@ module _ (t : Topology) (events : List WorldEvent) (run : IsRun (site_of t) even
     told_by [] all h found = absurd (true≢false (sym found))
     told_by (c ∷ cs) all h found =
         elim (or_cases (c.site == site_of t p) (list_any (λ q. q == site_of t p) (map (λ (d : control.Controller). d.site) cs)) found) [
-      | inl here ↦
-          or_left (F (control.state_of c)) (list_any (λ (d : control.Controller). F (control.state_of d)) cs)
-          (ap F all.0 ∙ ap (λ s. F (state_of (site_of t) s events)) (eqb-true c.site (site_of t p) here) ∙ h)
-      | inr later ↦ or_right (F (control.state_of c)) (list_any (λ (d : control.Controller). F (control.state_of d)) cs) (told_by cs all.1 h later)
-    ]
+          | inl here ↦
+              or_left (F (control.state_of c)) (list_any (λ (d : control.Controller). F (control.state_of d)) cs)
+              (ap F all.0 ∙ ap (λ s. F (state_of (site_of t) s events)) (eqb-true c.site (site_of t p) here) ∙ h)
+          | inr later ↦ or_right (F (control.state_of c)) (list_any (λ (d : control.Controller). F (control.state_of d)) cs) (told_by cs all.1 h later)
+        ]
 
     pub told : (cs : List control.Controller) → StandAfter t events cs
         → (list_any (λ (c : control.Controller). F (control.state_of c)) cs ≡ true) ↔ (F (state_of (site_of t) (site_of t p) events) ≡ true)
@@ -64,12 +64,9 @@ module _ (t : Topology) (events : List WorldEvent) (run : IsRun (site_of t) even
       λ h. elim (cases_Bool (is_site t (site_of t p))) [
         | inl known ↦ told_by cs stand.states h (ap (list_any (λ q. q == site_of t p)) stand.sites ∙ known)
         | inr unknown ↦
-            absurd (true≢false (sym h ∙ ap (λ es. F (state_after_of es)) (no_entries (site_of t p) events stand.of_world unknown) ∙ first))
+            absurd (true≢false (sym h ∙ ap (λ (es : List Entry). F (state_after (site_of t) (site_of t p) empty_state es)) (no_entries (site_of t p) events stand.of_world unknown) ∙ first))
       ],
     )
-      where
-        abbrev state_after_of : List Entry → State
-        state_after_of es = state_after (site_of t) (site_of t p) empty_state es
 
   leaving_own : (j k : ℕ) (s : ℕ) (v : State) → JournalFacts (site_of t) s v → v.leaving j k ≡ true → site_of t j ≡ s
   leaving_own j k s v f h = (f.leaving_away j k h).0

@@ -1,5 +1,7 @@
 -- A stop, entry by entry.
-use Rattle.std.proofs.Common.{◌≡◌, ℕ, ◌+◌, ◌<◌, ◌≤◌, ◌&&◌, ◌||◌, not, Bool, true, false, List, [], ◌∷◌, length, get_or, drop, if◌then◌else◌, refl, sym, ap, subst, ◌∙◌}
+use Rattle.std.proofs.Common.{◌≡◌, ℕ, ◌+◌, ◌<◌, ◌≤◌, ◌&&◌, ◌||◌, not, Bool, true, false, List, [], ◌∷◌, length, get_or, drop, if◌then◌else◌, Option, None, Some, refl, sym, ap, subst, ◌∙◌}
+use Rattle.std.specs.Option.{option_eq}
+use Rattle.std.specs.Prelude.{nat_eq}
 use Rattle.std.proofs.Math.Path.{fun_ext}
 use Rattle.std.proofs.lemmas.List.{drop_all}
 use Rattle.cmh_model3.specs.Entries.{WorldEvent}
@@ -21,6 +23,11 @@ clocks_of clocks = λ s. clock_at clocks s
 -- the clocks after an entry
 abbrev pub ticked : (ℕ → ℕ) → WorldEvent → ℕ → ℕ
 ticked clocks e = set_at clocks e.site (clock_after (clocks e.site) e.entry.event)
+
+-- the test of the code
+pub is_eq : (o : Option ℕ) (p : ℕ) → option_eq nat_eq o (Some p) ≡ is_process o p
+is_eq None p = refl
+is_eq (Some q) p = refl
 
 -- what was found so far, with what the entries ahead add, is the stop
 pub record IsStopSoFar (n : ℕ) (events : List WorldEvent) (i : ℕ) (clocks : List ℕ) (waits ended left : List (List ℕ)) : Type 0 where

@@ -27,7 +27,9 @@ pub fn declared_by(alloc: Global, controllers: &[Controller]) -> Result<ProcList
     Ok(declared)
 }
 
-fn insert_all(list: &mut ProcList, processes: &[ProcId]) -> Result<(), AllocError> {
+fn insert_all(list: &mut ProcList, processes: &[ProcId]) -> Result<(), AllocError>
+    ensures { OnOk result ((p : ℕ) → in_list list.new p ≡ (in_list processes.now p || in_list list.old p)) }
+{
     for process in processes {
         list.insert(*process)?;
     }

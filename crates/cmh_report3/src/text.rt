@@ -25,7 +25,10 @@ impl fmt::Display for Report {
         let deadlocks = Deadlocks {
             deadlocks: &self.declared,
         };
-        write!(f, "accepted\nevents {events}\n{transit}{waits}{leaving}{deadlocks}")
+        write!(
+            f,
+            "accepted\nevents {events}\n{transit}{waits}{leaving}{deadlocks}"
+        )
     }
 }
 
