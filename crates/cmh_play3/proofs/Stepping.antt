@@ -23,7 +23,6 @@ use Rattle.cmh_model3.specs.Runs.{IsBeginningOf, IsRun, state_of, under_way}
 use Rattle.cmh_model3.specs.Stops.{declared_at}
 use Rattle.cmh_model3.proofs.Extends.{accepted_extends}
 use Rattle.cmh_model3.proofs.Runs.{one_step}
-use Rattle.cmh_model3.proofs.World as walk
 use Rattle.cmh_report3.specs.Reports.{StandAfter}
 use Rattle.cmh_topology3.specs.Topology.{Topology, is_site, site_of, sites_of}
 
@@ -59,9 +58,6 @@ all_set P (y ∷ ys) (suc k) x all here = (all.0, all_set P ys k x all.1 here)
 -- ---- one entry more
 
 module _ (home : ℕ → ℕ) (events : List WorldEvent) (e : WorldEvent) (longer : IsRun home (events ++ e ∷ [])) where
-  step : walk.Step home _ e _
-  step = one_step home events e [] longer
-
   -- what is under way after it: what was sent lies behind, and what was got is off
   pub links_on : (before later : ℕ → ℕ → List Message) → ((a b : ℕ) → before a b ≡ under_way a b events)
       → ((a b : ℕ) → later a b ≡ drop (length (if e.site == b then message_from a e.entry.event else []))
@@ -111,9 +107,6 @@ module _ (t : Topology) (events : List WorldEvent) (s : ℕ) (c d : control.Cont
   state_here : control.state_of c ≡ state_of (site_of t) s events
   state_here = stands ∙ ap (λ q. state_of (site_of t) q events) at
 
-  pub moved : (P : (ℕ → ℕ) → ℕ → control.Controller → Type 0) → P (site_of c.topology) c.site c → P (site_of t) s c
-  moved P h = subst (λ q. P (site_of t) q c) at (subst (λ (u : Topology). P (site_of u) c.site c) top h)
-
   module _ (steps : Steps c event outcome d) where
     pub accepts : Accepts (site_of t) s (state_of (site_of t) s events) event
     accepts =
@@ -136,9 +129,11 @@ module _ (t : Topology) (events : List WorldEvent) (s : ℕ) (c d : control.Cont
     pub stop_is : (declaration : Declaration) → outcome.declared ≡ Some declaration → declaration.stop ≡ declared_at (state_of (site_of t) s events).clock event
     stop_is declaration is = steps.stop declaration is ∙ ap (λ v. declared_at v.clock event) state_here
 
-  pub refuses : (reason : Refusal) → Refuses (site_of c.topology) c.site (control.state_of c) event reason
-      → Refuses (site_of t) s (state_of (site_of t) s events) event reason
-  refuses reason h =
-      subst (λ v. Refuses (site_of t) s v event reason) state_here
-      (subst (λ q. Refuses (site_of t) q (control.state_of c) event reason) at
-      (subst (λ (u : Topology). Refuses (site_of u) c.site (control.state_of c) event reason) top h))
+-- the same of a refusal
+pub refuses : (t : Topology) (events : List WorldEvent) (s : ℕ) (c : control.Controller) (event : Event) → c.topology ≡ t → c.site ≡ s
+    → control.state_of c ≡ state_of (site_of t) c.site events → (reason : Refusal)
+    → Refuses (control.home_of c) c.site (control.state_of c) event reason → Refuses (site_of t) s (state_of (site_of t) s events) event reason
+refuses t events s c event top at stands reason h =
+    subst (λ v. Refuses (site_of t) s v event reason) (stands ∙ ap (λ q. state_of (site_of t) q events) at)
+    (subst (λ q. Refuses (site_of t) q (control.state_of c) event reason) at
+    (subst (λ (u : Topology). Refuses (site_of u) c.site (control.state_of c) event reason) top h))

@@ -139,7 +139,11 @@ fn edition(mut words: Words<'_>) -> Option<Line>
 {
     let edition = words.number()?;
     words.end()?;
-    if edition == 3 { Some(Line::Edition) } else { None }
+    if edition == 3 {
+        Some(Line::Edition)
+    } else {
+        None
+    }
 }
 
 fn site(alloc: Global, mut words: Words<'_>) -> Result<Option<Line>, AllocError>
@@ -237,9 +241,7 @@ fn withdraw(alloc: Global, mut words: Words<'_>) -> Result<Option<Line>, AllocEr
         return Ok(None);
     };
     if words.is_empty() {
-        return Ok(Some(Line::Command(Command::WithdrawAll {
-            process: asker,
-        })));
+        return Ok(Some(Line::Command(Command::WithdrawAll { process: asker })));
     }
     let Some(targets) = targets(alloc, words)? else {
         return Ok(None);
