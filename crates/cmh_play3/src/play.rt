@@ -99,7 +99,8 @@ fn answer_all<R: BufRead + Ahead, W: Write>(
         if next.is_end() {
             return Ok(());
         }
-        let reply = state.answer(alloc, said_by(alloc, next)?)?;
+        let said = said_by(alloc, next)?;
+        let reply = state.answer(alloc, said)?;
         out.write_text(&reply)?;
         flush_awaited(out, input.has_line())?;
     }
@@ -155,8 +156,14 @@ impl PlayState {
         ensures { Replies (shown self.now) (shown self.now) Line.Edition result }
     {
         match self {
-            PlayState::Named(draft) if draft.is_empty() => Reply::Ok,
-            _ => Reply::Late,
+            PlayState::Named(draft) => {
+                if draft.is_empty() {
+                    Reply::Ok
+                } else {
+                    Reply::Late
+                }
+            }
+            PlayState::Played(_) => Reply::Late,
         }
     }
 

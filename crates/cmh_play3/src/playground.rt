@@ -14,7 +14,7 @@ ghost use Rattle.cmh_topology3.specs.Topology.{is_site, sites_of};
 
 use crate::links::Links;
 use crate::reply::{Done, Reply};
-use cmh_controller3::{Controller, Outcome, Refusal};
+use cmh_controller3::{Controller, Declaration, Outcome, Refusal};
 use cmh_model3::{Entry, Event, Message, ProcId, SiteId, Targets, WorldEvent};
 use cmh_report3::Report;
 use cmh_topology3::Topology;
@@ -103,11 +103,11 @@ impl Playground {
         if self.links.is_cut(from, to) {
             return Ok(Reply::Closed);
         }
-        let Some(Message { clock, frame }) = self.links.front(from, to) else {
+        let Some(message) = self.links.front(from, to) else {
             return Ok(Reply::Empty);
         };
-        match self.step(to, Event::Got { from, clock, frame })? {
-            Step::Taken(done) => Ok(Reply::Got(frame, done)),
+        match self.step(to, got(from, &message))? {
+            Step::Taken(done) => Ok(Reply::Got(message.frame, done)),
             Step::Refused(refusal) => Ok(Reply::Refused(refusal)),
         }
     }
@@ -173,10 +173,7 @@ fn is_link(topology: &Topology, from: SiteId, to: SiteId) -> bool
 fn entry_at(site: SiteId, event: Event, outcome: Outcome) -> WorldEvent<Event, Message>
     ensures { result ≡ laws.entry_at site event outcome.sent (process_in outcome.declared) }
 {
-    let declared = match outcome.declared {
-        Some(declaration) => Some(declaration.process),
-        None => None,
-    };
+    let declared = process_of(&outcome.declared);
     WorldEvent {
         site,
         entry: Entry {
@@ -184,6 +181,27 @@ fn entry_at(site: SiteId, event: Event, outcome: Outcome) -> WorldEvent<Event, M
             sent: outcome.sent,
             declared,
         },
+    }
+}
+
+/// The process of a declaration.
+fn process_of(declared: &Option<Declaration>) -> Option<ProcId>
+    ensures { result ≡ process_in declared.now }
+{
+    match declared {
+        Some(declaration) => Some(declaration.process),
+        None => None,
+    }
+}
+
+/// That a message came from a site.
+fn got(from: SiteId, message: &Message) -> Event
+    ensures { result ≡ Event.Got from message.now.clock message.now.frame }
+{
+    Event::Got {
+        from,
+        clock: message.clock,
+        frame: message.frame,
     }
 }
 
