@@ -39,6 +39,12 @@ impl<F: Copy + Drop> Queue<F> {
         self.frames.front().copied()
     }
 
+    fn len(&self) -> usize
+        ensures { result ≡ length self.now }
+    {
+        self.frames.len()
+    }
+
     #[inline(always)]
     fn send(&mut self, frame: F) -> Result<(), AllocError>
         ensures ok { OnOk result (self.new ≡ self.old ++ frame ∷ []) }
@@ -85,6 +91,15 @@ impl<F: Copy + Drop> Row<F> {
         match self.queues.get(to.get() as usize) {
             Some(queue) => queue.front(),
             None => None,
+        }
+    }
+
+    fn len(&self, to: SiteId) -> usize
+        ensures { result ≡ length (queue_at self.now to) }
+    {
+        match self.queues.get(to.get() as usize) {
+            Some(queue) => queue.len(),
+            None => 0,
         }
     }
 
@@ -158,6 +173,16 @@ impl<F: Copy + Drop> Queues<F> {
         match self.rows.get(from.get() as usize) {
             Some(row) => row.front(to),
             None => None,
+        }
+    }
+
+    /// How many frames are under way from one site to another.
+    pub fn len(&self, from: SiteId, to: SiteId) -> usize
+        ensures { result ≡ length (waiting self.now from to) }
+    {
+        match self.rows.get(from.get() as usize) {
+            Some(row) => row.len(to),
+            None => 0,
         }
     }
 

@@ -1,0 +1,6 @@
+pub mod Moving
+pub mod Places
+pub mod Stepping
+pub mod Taking
+pub mod Lines
+pub mod Turns

@@ -1,0 +1,162 @@
+-- The lines of a script that are answered one after the other.
+use Rattle.std.proofs.Common.{◌≡◌, ◌≢◌, ℕ, zero, suc, ◌+◌, ◌-◌, ◌^◌, ◌<◌, ◌≤◌, Bool, true, false, List, [], ◌∷◌, ◌++◌, Option, None, Some, length, nat_lt, refl, sym, ap, subst, ◌∙◌, arith, inl, inr}
+use Rattle.std.specs.Prelude.{if◌then◌else◌, IfErr, IfSome, OnErr, OnOk, Result, Ok, Err}
+use Rattle.std.specs.Io.BufRead.{first_line, drop_through}
+use Rattle.std.specs.Io.KnownBytes.{Appends, Keeps}
+use Rattle.std.proofs.KnownBytes.{Appends-kept, Appends-nil, Appends-trans}
+use Rattle.std.proofs.lemmas.Bool.{lt-ltb, le-ltb}
+use Rattle.cmh_console.specs.Device.{Tells}
+use Rattle.cmh_console.specs.Dialogue.{line_of}
+use Rattle.cmh_console.specs.Faults.{status_of}
+use Rattle.cmh_console.specs.Lines.{IsEndless}
+use Rattle.cmh_console.specs.declared.device.WriteFault.{WriteFault}
+use Rattle.cmh_console.specs.declared.dialogue.DialogueFault.{DialogueFault}
+use Rattle.cmh_console.specs.declared.dialogue.DialogueFault.TheVariants.{Input, Output, Memory}
+use Rattle.cmh_console.specs.declared.lines.NextLine.{NextLine}
+use Rattle.cmh_console.specs.declared.lines.NextLine.TheVariants.{Line as Read, TooLong, End}
+use Rattle.cmh_console.proofs.LineLemmas.{HasLeft, at_some, endless_input, length-drop_through}
+use Rattle.cmh_console.proofs.LinesSeen.{if_some}
+use Rattle.cmh_script3.specs.Lines.{IsNextLine}
+use Rattle.cmh_play3.specs.PlayStates.{PlayState}
+use Rattle.cmh_play3.specs.Play.{Answered, Answers, Dialogue, IsTurnOfScript, as_fault, begin, line_in, new_state, status_after, turn}
+
+long_some : (bytes : List ℕ) → 4096 < length (first_line bytes) → 0 < length bytes
+long_some [] long = absurd (omega (arith, long))
+long_some (b ∷ bs) long = omega arith
+
+-- what was read is the first line, and there is one
+first_is : (bytes : List ℕ) (next : NextLine) → IsNextLine bytes next → next ≢ End → (0 < length bytes) × (line_of next ≡ line_in bytes)
+first_is bytes (Read line) is more =
+    let short : nat_lt 4096 (length (first_line bytes)) ≡ false = le-ltb 4096 (length (first_line bytes)) (subst (λ (l : List ℕ). length l ≤ 4096) is.1 is.2) in
+    (is.0, ap Some is.1 ∙ sym (ap (λ (b : Bool). if b then None else Some (first_line bytes)) short))
+first_is bytes TooLong is more =
+    (long_some bytes is, sym (ap (λ (b : Bool). if b then None else Some (first_line bytes)) (lt-ltb 4096 (length (first_line bytes)) is)))
+first_is bytes End is more = absurd (more refl)
+
+-- n lines of the bytes were answered
+pub record TalkedSoFar (bytes : List ℕ) (now old out : Option (List ℕ)) (last : PlayState) (n : ℕ) : Type 0 where
+  pub rest : List ℕ
+  pub text : List ℕ
+  pub now_is : now ≡ Some rest
+  pub dialogue : Dialogue bytes rest text last
+  pub wrote : Appends old out text
+  pub counted : n + length rest ≤ length bytes
+
+-- the same, where the reader tells its bytes
+abbrev pub HasTalked : Option (List ℕ) → Option (List ℕ) → Option (List ℕ) → Option (List ℕ) → PlayState → ℕ → Type 0
+HasTalked start now old out last n = (bytes : List ℕ) → start ≡ Some bytes → TalkedSoFar bytes now old out last n
+
+-- some lines were answered, unless the writer failed
+abbrev pub AnsweredSome : List ℕ → Option (List ℕ) → Option (List ℕ) → Bool → Type 0
+AnsweredSome bytes old new has_failed = (text : List ℕ) × (rest : List ℕ) × Answers bytes rest text × Tells old new has_failed text
+
+-- a fault has a status above 0
+status_above_0 : (fault : DialogueFault) → (n : ℕ) × (status_of (as_fault fault) ≡ suc n)
+status_above_0 Input = (2, refl)
+status_above_0 Output = (2, refl)
+status_above_0 Memory = (0, refl)
+
+pub answered_some : (bytes : List ℕ) (old new : Option (List ℕ)) (has_failed : Bool) (fault : DialogueFault)
+    → AnsweredSome bytes old new has_failed → Answered bytes old new has_failed (status_after (Err fault))
+answered_some bytes old new has_failed fault some =
+    subst (Answered bytes old new has_failed) (sym (status_above_0 fault).1) some
+
+pub some_answered : (bytes : List ℕ) (old new : Option (List ℕ)) (has_failed : Bool) (fault : DialogueFault)
+    → Answered bytes old new has_failed (status_after (Err fault)) → AnsweredSome bytes old new has_failed
+some_answered bytes old new has_failed fault answered =
+    subst (Answered bytes old new has_failed) (status_above_0 fault).1 answered
+
+module _ (start old : Option (List ℕ)) where
+  pub begun : HasTalked start start old old new_state 0
+  begun = λ bytes e. record {
+    rest = bytes;
+    text = [];
+    now_is = e;
+    dialogue = begin;
+    wrote = Appends-nil old;
+    counted = omega arith;
+  }
+
+  module _ (now out : Option (List ℕ)) (last : PlayState) (n : ℕ) (so_far : HasTalked start now old out last n) where
+    -- one line more
+    pub talked_more : (after wrote : Option (List ℕ)) (next : NextLine) (later : PlayState) (said : List ℕ)
+        → IfSome now (λ bytes. IsNextLine bytes next) → IfSome now (λ bytes. after ≡ Some (drop_through 10 bytes)) → next ≢ End
+        → IsTurnOfScript last later (line_of next) said → Appends out wrote said → HasTalked start after old wrote later (n + 1)
+    talked_more after wrote next later said is left more answered writes = λ bytes e.
+        let s = so_far bytes e in
+        let one = first_is s.rest next (at_some now (λ bytes. IsNextLine bytes next) s.rest s.now_is is) more in
+        let shorter = length-drop_through 10 s.rest one.0 in
+        let counted = s.counted in
+        record {
+          rest = drop_through 10 s.rest;
+          text = s.text ++ said;
+          now_is = at_some now (λ bytes. after ≡ Some (drop_through 10 bytes)) s.rest s.now_is left;
+          dialogue = turn s.rest s.text said last later s.dialogue one.0 (subst (λ (l : Option (List ℕ)). IsTurnOfScript last later l said) one.1 answered);
+          wrote = Appends-trans old out wrote s.text said s.wrote writes;
+          counted = omega (arith, shorter, counted);
+        }
+
+    -- no line is left
+    pub talked_all : (next : NextLine) (has_failed : Bool) → IfSome now (λ bytes. IsNextLine bytes next) → next ≡ End
+        → IfSome start (λ bytes. Answered bytes old out has_failed 0)
+    talked_all next has_failed is ends = if_some start _ (λ bytes e.
+        let s = so_far bytes e in
+        let none : s.rest ≡ [] = subst (IsNextLine s.rest) ends (at_some now (λ bytes. IsNextLine bytes next) s.rest s.now_is is) in
+        (s.text, record { last = last; dialogue = subst (λ (r : List ℕ). Dialogue bytes r s.text last) none s.dialogue }, s.wrote))
+
+    -- a fault comes after these lines
+    pub talked_some : (has_failed : Bool) (fault : DialogueFault) → IfSome start (λ bytes. Answered bytes old out has_failed (status_after (Err fault)))
+    talked_some has_failed fault = if_some start _ (λ bytes e.
+        let s = so_far bytes e in
+        answered_some bytes old out has_failed fault (s.text, s.rest, record { last = last; dialogue = s.dialogue }, inr s.wrote))
+
+    -- the writer failed after them
+    pub talked_failed : (after : Option (List ℕ)) (has_failed : Bool) (fault : DialogueFault) → has_failed ≡ true
+        → IfSome start (λ bytes. Answered bytes old after has_failed (status_after (Err fault)))
+    talked_failed after has_failed fault failed = if_some start _ (λ bytes e.
+        let s = so_far bytes e in
+        answered_some bytes old after has_failed fault (s.text, s.rest, record { last = last; dialogue = s.dialogue }, inl failed))
+
+    -- what is left of the input
+    pub has_left : (bytes : List ℕ) → start ≡ Some bytes → HasLeft bytes now n
+    has_left bytes e = let s = so_far bytes e in record { left = s.rest; now_is = s.now_is; counted = s.counted }
+
+    pub endless_talk : 2 ^ 64 - 1 ≤ n → IsEndless start
+    endless_talk = endless_input start now n has_left
+
+-- ---- what was answered is flushed
+
+tells_kept : (old out new : Option (List ℕ)) (before after : Bool) (text : List ℕ) → Tells old out before text → Keeps out new → after ≡ before → Tells old new after text
+tells_kept old out new before after text (inl failed) kept same = inl (same ∙ failed)
+tells_kept old out new before after text (inr wrote) kept same = inr (Appends-kept old out new text wrote kept)
+
+-- or the writer fails
+pub some_flushed : (start old out new : Option (List ℕ)) (before after : Bool) (fault named : DialogueFault) (flushed : Result (Unit {0}) WriteFault)
+    → IfSome start (λ bytes. Answered bytes old out before (status_after (Err fault))) → Keeps out new → OnOk flushed (after ≡ before) → OnErr flushed (after ≡ true)
+    → IfSome start (λ bytes. Answered bytes old new after (status_after (Err named)))
+some_flushed None old out new before after fault named flushed c kept ok failed = tt
+some_flushed (Some bytes) old out new before after fault named (Ok x) c kept ok failed =
+    let some = some_answered bytes old out before fault c in
+    answered_some bytes old new after named (some.0, some.1, some.2, tells_kept old out new before after some.0 some.3 kept ok)
+some_flushed (Some bytes) old out new before after fault named (Err e) c kept ok failed =
+    let some = some_answered bytes old out before fault c in
+    answered_some bytes old new after named (some.0, some.1, some.2, inl failed)
+
+-- all lines were, and the writer fails at the end
+pub all_unflushed : (start old out new : Option (List ℕ)) (before after : Bool) (named : DialogueFault)
+    → IfSome start (λ bytes. Answered bytes old out before 0) → after ≡ true
+    → IfSome start (λ bytes. Answered bytes old new after (status_after (Err named)))
+all_unflushed None old out new before after named c failed = tt
+all_unflushed (Some bytes) old out new before after named c failed =
+    answered_some bytes old new after named (c.0, [], c.1, inl failed)
+
+pub all_flushed : (start old out new : Option (List ℕ)) (before after : Bool)
+    → IfSome start (λ bytes. Answered bytes old out before 0) → Keeps out new → IfSome start (λ bytes. Answered bytes old new after 0)
+all_flushed None old out new before after c kept = tt
+all_flushed (Some bytes) old out new before after c kept = (c.0, c.1, Appends-kept old out new c.0 c.2 kept)
+
+-- no line was answered
+pub none_answered : (start out : Option (List ℕ)) (has_failed : Bool) (fault : DialogueFault) → IfSome start (λ bytes. Answered bytes out out has_failed (status_after (Err fault)))
+none_answered None out has_failed fault = tt
+none_answered (Some bytes) out has_failed fault =
+    answered_some bytes out out has_failed fault ([], bytes, record { last = new_state; dialogue = begin }, inr (Appends-nil out))

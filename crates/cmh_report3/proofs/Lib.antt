@@ -1,0 +1,9 @@
+pub mod Steps
+pub mod PairRows
+pub mod Counting
+pub mod Stopping
+pub mod Leavers
+pub mod Cycles
+pub mod Standing
+pub mod Fitting
+pub mod Naming

@@ -1,0 +1,14 @@
+use Rattle.std.proofs.Common.{◌≡◌, ◌∙◌, ◌==◌, ◌&&◌, ◌||◌, sym, ap, take}
+use Rattle.cmh_model3.specs.Lists.{in_list}
+use Rattle.cmh_report3.specs.Pairs.{has_pair}
+use Rattle.cmh_report3.proofs.Steps.{any_more, add_one}
+use Rattle.cmh_report3.proofs.waits.add_all.Goals as goal
+
+pub loop-second-preserved : goal.loop-second-preserved
+loop-second-preserved c = λ j k.
+    let here = c.args.first == j in
+    let this = c.second-item.result == k in
+    let old = has_pair c.args.pairs.now j k in
+    c.in_ok-insert.ensures.ok j k ∙ ap (λ b. (here && this) || b) (c.loop-second.invariant j k)
+    ∙ add_one here this (in_list (take c.loop-second.second-index c.args.seconds.now) k) old
+    ∙ sym (ap (λ b. (here && b) || old) (any_more c.args.seconds.now c.loop-second.second-index c.second-item.result c.loop-second-test.true c.second-item.is (λ q. q == k)))

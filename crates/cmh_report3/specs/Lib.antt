@@ -1,0 +1,7 @@
+pub mod Pairs
+pub mod Endings
+pub mod Declarations
+pub mod Transit
+pub mod Reports
+pub mod Texts
+pub mod Inner
