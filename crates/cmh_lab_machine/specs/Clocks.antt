@@ -3,7 +3,6 @@ use Rattle.std.specs.Prelude.{◌≡◌, ℕ, ◌+◌, ◌<◌, ◌≤◌, max, 
 use Rattle.cmh_runs.specs.declared.entry.Outcome.{Outcome}
 use Rattle.cmh_machine.specs.Transitions.{Transitions}
 use Rattle.cmh_machine.specs.Meaning.{MachineMeaning}
-use Rattle.cmh_machine.specs.declared.machine.Prepared.{Prepared}
 use Rattle.cmh_lab_machine.specs.declared.clock.Event.{Event}
 use Rattle.cmh_lab_machine.specs.declared.clock.Event.TheVariants.{Tell, Got, Turn}
 use Rattle.cmh_lab_machine.specs.declared.clock.Frame.{Frame}
@@ -47,5 +46,5 @@ clock_meaning = record {
 }
 
 -- it stands where it stood, and declares nobody
-abbrev pub IsPrepared : ℕ → Event → Prepared (Outcome Frame) (Unit {0}) → ℕ → Type 0
-IsPrepared v event half x = (x ≡ v) × Accepts v event × (half.outcome.declared ≡ None)
+abbrev pub IsPrepared : ℕ → Event → Outcome Frame → ℕ → Type 0
+IsPrepared v event half x = (x ≡ v) × Accepts v event × (half.declared ≡ None)

@@ -3,7 +3,7 @@
 ghost use Rattle.std.specs.Prelude.{◌≡◌, IfOk, None};
 ghost use Rattle.cmh_lab_machine.specs.Clocks.{transitions};
 
-use cmh_machine::{Machine, NotPrepared, Prepared, Record};
+use cmh_machine::{Machine, NotPrepared, Record};
 use cmh_runs::{Entry, Outcome, Sendings, SiteId};
 use std::alloc::{AllocError, Global};
 use std::marker::Model;
@@ -102,13 +102,15 @@ impl Machine<Event, Frame> for Clock {
 
     type Outcome = Outcome<Frame>;
 
-    type Undo = ();
+    type Prepared = Outcome<Frame>;
 
     type WayBack = u8;
 
     ghost State = { ℕ };
 
     ghost meaning = { clock_meaning };
+
+    ghost outcome = { λ half. half };
 
     ghost IsBetween = { IsPrepared };
 
@@ -122,10 +124,7 @@ impl Machine<Event, Frame> for Clock {
         }
     }
 
-    fn prepare(
-        &mut self,
-        event: &Event,
-    ) -> Result<Prepared<Outcome<Frame>, ()>, NotPrepared<Refusal>> {
+    fn prepare(&mut self, event: &Event) -> Result<Outcome<Frame>, NotPrepared<Refusal>> {
         match self.check(event) {
             Ok(()) => {}
             Err(refusal) => return Err(NotPrepared::Rule(refusal)),
@@ -133,26 +132,23 @@ impl Machine<Event, Frame> for Clock {
         let Ok(sent) = self.sent(event) else {
             return Err(NotPrepared::Memory);
         };
-        Ok(Prepared {
-            outcome: Outcome {
-                sent,
-                declared: None,
-            },
-            undo: (),
+        Ok(Outcome {
+            sent,
+            declared: None,
         })
     }
 
-    fn carry_out(&mut self, event: &Event, _half: &Prepared<Outcome<Frame>, ()>) {
+    fn carry_out(&mut self, event: &Event, _half: &Outcome<Frame>) {
         self.time = self.after(event);
     }
 
-    fn take_back(&mut self, _event: &Event, _half: &Prepared<Outcome<Frame>, ()>) {}
+    fn take_back(&mut self, _event: &Event, _half: Outcome<Frame>) {}
 
     fn way_back(
         &self,
         _alloc: Global,
         _event: &Event,
-        _half: &Prepared<Outcome<Frame>, ()>,
+        _half: &Outcome<Frame>,
     ) -> Result<u8, AllocError> {
         Ok(self.time)
     }
@@ -161,16 +157,20 @@ impl Machine<Event, Frame> for Clock {
         self.time = way;
     }
 
+    fn into_outcome(half: Outcome<Frame>) -> Outcome<Frame> {
+        half
+    }
+
     fn entry(
         &self,
         alloc: Global,
         event: &Event,
-        outcome: &Outcome<Frame>,
+        half: &Outcome<Frame>,
     ) -> Result<Entry<Event, Frame>, AllocError> {
         Ok(Entry {
             event: *event,
-            sent: outcome.sent.copy(alloc)?,
-            declared: outcome.declared,
+            sent: half.sent.copy(alloc)?,
+            declared: half.declared,
         })
     }
 
@@ -178,7 +178,7 @@ impl Machine<Event, Frame> for Clock {
         &self,
         alloc: Global,
         event: &Event,
-        _half: &Prepared<Outcome<Frame>, ()>,
+        _half: &Outcome<Frame>,
     ) -> Result<Record, AllocError> {
         let mut bytes = Vec::new(alloc);
         bytes.push(self.after(event))?;

@@ -6,5 +6,5 @@
 mod machine;
 mod record;
 
-pub use crate::machine::{Machine, NotPrepared, Prepared};
+pub use crate::machine::{Machine, NotPrepared};
 pub use crate::record::Record;
