@@ -1,3 +1,4 @@
+use Rattle.std.proofs.Common.{inl}
 use Rattle.cmh.proofs.serve_cluster.Goals as goal
 
 pub returns-clause-serves_strictly : goal.returns-clause-serves_strictly
