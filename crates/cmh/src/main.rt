@@ -24,10 +24,10 @@ ghost use Rattle.cmh_site.specs.Descriptors.{StrictlyEnds};
 use clap::{ArgMatches, Error, error};
 use cmh_carriers::{Noted, Voice};
 use cmh_commands::{
-    AUDIT, BACKLOG, CLUSTER, DRAW, EDITION, EDITION_THREE, EXPLAIN, FileFault, Help, JOURNAL, JOURNALS, Listener,
-    NEW_WORLD, NOTES, OUT, PAGE, PATIENCE, PLAY, PORT, QUIET, SERVE, SHOW, SITE, STRICT, TOPOLOGY,
-    audit, cluster_files_of, command, draw_or_page, explanation, new_world, play_into, play_page,
-    read_file, show,
+    AUDIT, BACKLOG, CLUSTER, DRAW, EDITION, EDITION_THREE, EXPLAIN, FileFault, Help, JOURNAL,
+    JOURNALS, Listener, NEW_WORLD, NOTES, OUT, PAGE, PATIENCE, PLAY, PORT, QUIET, SERVE, SHOW,
+    SITE, STRICT, TOPOLOGY, audit, cluster_files_of, command, draw_or_page, explanation, new_world,
+    play_into, play_page, read_file, show,
 };
 use cmh_console::{Ahead, Fault, Input, Output};
 use cmh_frames::SiteId;
