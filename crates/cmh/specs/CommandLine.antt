@@ -34,6 +34,10 @@ NamesCluster matches = subcommand_name_of matches ≡ Some (codes "cluster")
 abbrev pub NamesNewWorld : ArgMatches → Type 0
 NamesNewWorld matches = subcommand_name_of matches ≡ Some (codes "new-world")
 
+-- the command that is named is `play`
+abbrev pub NamesPlay : ArgMatches → Type 0
+NamesPlay matches = subcommand_name_of matches ≡ Some (codes "play")
+
 -- a command with this name is named
 abbrev pub Names : ArgMatches → List ℕ → Type 0
 Names matches name = subcommand_name_of matches ≡ Some name
@@ -64,6 +68,12 @@ abbrev pub NamesNoPageFile : ArgMatches → Type 0
 NamesNoPageFile matches = (words : ArgMatches)
     → option_map (λ p. p.1) (subcommand_rows_of matches) ≡ Some (rows_of (found_of words))
     → first_value (found_of words) (codes "page") ≡ None
+
+-- edition 3 is not asked for
+abbrev pub NamesNoEdition : ArgMatches → Type 0
+NamesNoEdition matches = (words : ArgMatches)
+    → option_map (λ p. p.1) (subcommand_rows_of matches) ≡ Some (rows_of (found_of words))
+    → one_text (found_of words) (codes "edition") ≡ None
 
 -- an option of the command has this value
 abbrev pub NamesOption : ArgMatches → List ℕ → List ℕ → Type 0

@@ -9,7 +9,8 @@ ghost use Rattle.cmh_commands.specs.NewWorld.{WorldEnds};
 ghost use Rattle.cmh_commands.specs.Numbers.{TellsNumber};
 ghost use Rattle.cmh_commands.specs.Paging.{PagesFiles, PlaysToPage};
 ghost use Rattle.cmh_commands.specs.Playing.{PlaysAlone, PlaysScript};
-ghost use Rattle.cmh.specs.CommandLine.{IsEnd, NamesAudit, NamesCluster, NamesColumn, NamesDraw, NamesNewWorld, NamesNoFolder, NamesNoPage, NamesNoPageFile, NamesNoReasons, NamesNoRun, NamesNoStrictness, NamesNothing, NamesOption, NamesPage, NamesReasons, NamesRun, NamesShow, NamesSite, NamesSiteNumber, NamesStrictness, ReadsNoInput};
+ghost use Rattle.cmh.specs.CommandLine.{IsEnd, NamesAudit, NamesCluster, NamesColumn, NamesDraw, NamesNewWorld, NamesNoEdition, NamesNoFolder, NamesNoPage, NamesNoPageFile, NamesNoReasons, NamesNoRun, NamesNoStrictness, NamesNothing, NamesOption, NamesPage, NamesPlay, NamesReasons, NamesRun, NamesShow, NamesSite, NamesSiteNumber, NamesStrictness, ReadsNoInput};
+ghost use Rattle.cmh.specs.Playing.{PlaysEdition3};
 ghost use Rattle.cmh.specs.Serving.{ServesCluster, ServesSite, ServesSome, ServesStrictly};
 ghost use Rattle.cmh_frames.specs.Number.{IsNumber};
 ghost use Rattle.cmh_draw.specs.Kinds.{kind_word};
@@ -23,15 +24,16 @@ ghost use Rattle.cmh_site.specs.Descriptors.{StrictlyEnds};
 use clap::{ArgMatches, Error, error};
 use cmh_carriers::{Noted, Voice};
 use cmh_commands::{
-    AUDIT, BACKLOG, CLUSTER, DRAW, EXPLAIN, FileFault, Help, JOURNAL, JOURNALS, Listener,
-    NEW_WORLD, NOTES, OUT, PAGE, PATIENCE, PLAY, PORT, QUIET, SERVE, SHOW, SITE, STRICT, TOPOLOGY,
-    audit, cluster_files_of, command, draw_or_page, explanation, new_world, play_into, play_page,
-    read_file, show,
+    AUDIT, BACKLOG, CLUSTER, DRAW, EDITION, EDITION_THREE, EXPLAIN, FileFault, Help, JOURNAL,
+    JOURNALS, Listener, NEW_WORLD, NOTES, OUT, PAGE, PATIENCE, PLAY, PORT, QUIET, SERVE, SHOW,
+    SITE, STRICT, TOPOLOGY, audit, cluster_files_of, command, draw_or_page, explanation, new_world,
+    play_into, play_page, read_file, show,
 };
 use cmh_console::{Ahead, Fault, Input, Output};
 use cmh_frames::SiteId;
 use cmh_host::{BacklogLimit, SiteStart, System};
 use cmh_play::run_play;
+use cmh_play3::run_play3;
 use cmh_service::{ServiceStart, run_service};
 use cmh_site::{
     ClusterEnd, ClusterStart, Shortage, allowed_descriptors, run_cluster_counting,
@@ -218,13 +220,16 @@ where
     R: System + AllocGlobal + Eprint + Files<File = File> + Send + 'static,
     ensures status { IsStatus result }
 
-    // Where no command but `play` is named, a script is played.
-    ensures plays { NamesNothing matches.now → NamesNoPageFile matches.now
+    // Where no command but `play` is named, a script is played; one of edition 3 where that is asked for.
+    ensures plays { NamesNothing matches.now → NamesNoEdition matches.now → NamesNoPageFile matches.now
         → PlaysScript input.old input.new out.old out.new err.old err.new result }
-    ensures plays_to_page { NamesNothing matches.now
+    ensures plays_to_page { NamesNothing matches.now → NamesNoEdition matches.now
         → PlaysToPage input.old input.new out.old out.new err.old err.new result }
-    ensures plays_alone { NamesNothing matches.now → NamesNoFolder matches.now → NamesNoPageFile matches.now
+    ensures plays_alone { NamesNothing matches.now → NamesNoEdition matches.now → NamesNoFolder matches.now
+        → NamesNoPageFile matches.now
         → PlaysAlone input.old input.new out.old out.new err.old err.new result }
+    ensures plays_edition3 { NamesPlay matches.now → NamesOption matches.now (codes "edition") (codes "3")
+        → PlaysEdition3 input.old input.new out.old out.new err.old err.new result }
 
     // Where an audit is named, files are audited; the reasons for stops, or a run, are told where they are asked for.
     ensures audits { NamesAudit matches.now → NamesNoReasons matches.now → NamesNoRun matches.now
@@ -286,6 +291,9 @@ where
         return serve_cluster(rt, terminals, words, out, err);
     }
     if let Some(words) = matches.subcommand_matches(PLAY) {
+        if words.get_str(EDITION) == Some(EDITION_THREE) {
+            return run_play3(rt.alloc(), input, out, err);
+        }
         if let Some(path) = words.get_str(JOURNALS) {
             return play_into(rt, path, input, out, err);
         }

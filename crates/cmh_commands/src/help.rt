@@ -20,6 +20,9 @@ Lines of a script, by words; a line that fits none is answered `bad line`:
 ";
 
 const PLAY_STATUSES: &str = "\
+With --edition 3 processes may withdraw, so a deadlock ends and the run goes on. Lines have at most 4096 bytes, and besides:
+  withdraw J K.. process J gives up its waits for these, or all of them where none is named
+  ask J K..      also of a process that waits; a declaration names the stop at which its cycle stood
 With --journals DIR the journal of each site N is written to DIR/site-N.cmhj, at each report and at the end. With
 --page FILE a page is written at the end that steps through the run in a browser, as by `cmh draw --page`.
 

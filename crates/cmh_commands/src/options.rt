@@ -56,11 +56,18 @@ pub const TO: &str = "to";
 
 pub const EXPLAIN: &str = "explain";
 
+pub const EDITION: &str = "edition";
+
 pub const PAGE: &str = "page";
 
 const KINDS: &[&str] = &["waits", "run"];
 
 const FORMATS: &[&str] = &["dot", "svg"];
+
+/// The edition of a script that has no line for it.
+pub const EDITION_THREE: &str = "3";
+
+const EDITIONS: &[&str] = &[EDITION_THREE];
 
 /// The command line.
 pub fn command<'a>(alloc: Global, help: &'a Help) -> Result<Command<'a>, Error> {
@@ -90,12 +97,14 @@ fn with<'a>(line: Command<'a>, command: Result<Command<'a>, Error>) -> Result<Co
 
 fn play_command<'a>(alloc: Global, help: &'a Help) -> Result<Command<'a>, Error> {
     let page = page_file_arg(alloc)?;
+    let edition = edition_arg(alloc)?;
     let play = Command::new(alloc, PLAY)
         .about(
             "Plays a script from standard input on a world of sites in memory, and answers each line",
         )
-        .override_usage("cmh play < FILE [--journals DIR | --page FILE] [--explain]")
+        .override_usage("cmh play < FILE [--edition 3 | --journals DIR | --page FILE] [--explain]")
         .after_help(help.play.as_str())
+        .arg(edition)?
         .arg(folder_arg(alloc))?
         .arg(page)?
         .arg(explain_arg(alloc))?;
@@ -290,6 +299,15 @@ fn page_file_arg<'a>(alloc: Global) -> Result<Arg<'a>, Error> {
         .action(ArgAction::Set)
         .conflicts_with(JOURNALS)?;
     Ok(page)
+}
+
+/// The edition of a script, where it is not one of those that a line of it names.
+fn edition_arg<'a>(alloc: Global) -> Result<Arg<'a>, Error> {
+    let edition = word_arg(alloc, EDITION, EDITIONS)
+        .help("Plays a script of edition 3, in which processes may withdraw")
+        .conflicts_with(JOURNALS)?
+        .conflicts_with(PAGE)?;
+    Ok(edition)
 }
 
 fn port_arg<'a>(alloc: Global) -> Arg<'a> {
