@@ -1,4 +1,5 @@
 pub mod Moving
+pub mod Cutting
 pub mod Places
 pub mod Stepping
 pub mod Taking
