@@ -1,4 +1,6 @@
 pub mod Moving
+pub mod Cutting
+pub mod Delivering
 pub mod Places
 pub mod Stepping
 pub mod Taking

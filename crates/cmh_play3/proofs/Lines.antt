@@ -1,12 +1,12 @@
 -- The lines of a script that are answered one after the other.
-use Rattle.std.proofs.Common.{◌≡◌, ◌≢◌, ℕ, zero, suc, ◌+◌, ◌-◌, ◌^◌, ◌<◌, ◌≤◌, Bool, true, false, List, [], ◌∷◌, ◌++◌, Option, None, Some, length, nat_lt, refl, sym, ap, subst, ◌∙◌, arith, inl, inr}
-use Rattle.std.specs.Prelude.{if◌then◌else◌, IfErr, IfSome, OnErr, OnOk, Result, Ok, Err}
+use Rattle.std.proofs.Common.{◌≡◌, ◌≢◌, ℕ, zero, suc, ◌+◌, ◌-◌, ◌^◌, ◌<◌, ◌≤◌, Bool, true, false, List, [], ◌∷◌, ◌++◌, Option, None, Some, length, nat_lt, refl, sym, ap, subst, ◌∙◌, arith, inl, inr, true≢false}
+use Rattle.std.specs.Prelude.{if◌then◌else◌, IfErr, IfSome, IsErr, IsErrAnd, OnErr, OnOk, Result, Ok, Err}
 use Rattle.std.specs.Io.BufRead.{first_line, drop_through}
 use Rattle.std.specs.Io.KnownBytes.{Appends, Keeps}
 use Rattle.std.proofs.KnownBytes.{Appends-kept, Appends-nil, Appends-trans}
 use Rattle.std.proofs.lemmas.Bool.{lt-ltb, le-ltb}
 use Rattle.cmh_console.specs.Device.{Tells}
-use Rattle.cmh_console.specs.Dialogue.{line_of}
+use Rattle.cmh_console.specs.Dialogue.{IsDialogueFault, line_of}
 use Rattle.cmh_console.specs.Faults.{status_of}
 use Rattle.cmh_console.specs.Lines.{IsEndless}
 use Rattle.cmh_console.specs.declared.device.WriteFault.{WriteFault}
@@ -61,11 +61,6 @@ pub answered_some : (bytes : List ℕ) (old new : Option (List ℕ)) (has_failed
 answered_some bytes old new has_failed fault some =
     subst (Answered bytes old new has_failed) (sym (status_above_0 fault).1) some
 
-pub some_answered : (bytes : List ℕ) (old new : Option (List ℕ)) (has_failed : Bool) (fault : DialogueFault)
-    → Answered bytes old new has_failed (status_after (Err fault)) → AnsweredSome bytes old new has_failed
-some_answered bytes old new has_failed fault answered =
-    subst (Answered bytes old new has_failed) (status_above_0 fault).1 answered
-
 module _ (start old : Option (List ℕ)) where
   pub begun : HasTalked start start old old new_state 0
   begun = λ bytes e. record {
@@ -105,17 +100,17 @@ module _ (start old : Option (List ℕ)) where
         (s.text, record { last = last; dialogue = subst (λ (r : List ℕ). Dialogue bytes r s.text last) none s.dialogue }, s.wrote))
 
     -- a fault comes after these lines
-    pub talked_some : (has_failed : Bool) (fault : DialogueFault) → IfSome start (λ bytes. Answered bytes old out has_failed (status_after (Err fault)))
-    talked_some has_failed fault = if_some start _ (λ bytes e.
+    pub talked_some : (has_failed : Bool) → IfSome start (λ bytes. Answered bytes old out has_failed 1)
+    talked_some has_failed = if_some start _ (λ bytes e.
         let s = so_far bytes e in
-        answered_some bytes old out has_failed fault (s.text, s.rest, record { last = last; dialogue = s.dialogue }, inr s.wrote))
+        (s.text, s.rest, record { last = last; dialogue = s.dialogue }, inr s.wrote))
 
     -- the writer failed after them
-    pub talked_failed : (after : Option (List ℕ)) (has_failed : Bool) (fault : DialogueFault) → has_failed ≡ true
-        → IfSome start (λ bytes. Answered bytes old after has_failed (status_after (Err fault)))
-    talked_failed after has_failed fault failed = if_some start _ (λ bytes e.
+    pub talked_failed : (after : Option (List ℕ)) (has_failed : Bool) → has_failed ≡ true
+        → IfSome start (λ bytes. Answered bytes old after has_failed 1)
+    talked_failed after has_failed failed = if_some start _ (λ bytes e.
         let s = so_far bytes e in
-        answered_some bytes old after has_failed fault (s.text, s.rest, record { last = last; dialogue = s.dialogue }, inl failed))
+        (s.text, s.rest, record { last = last; dialogue = s.dialogue }, inl failed))
 
     -- what is left of the input
     pub has_left : (bytes : List ℕ) → start ≡ Some bytes → HasLeft bytes now n
@@ -131,24 +126,13 @@ tells_kept old out new before after text (inl failed) kept same = inl (same ∙ 
 tells_kept old out new before after text (inr wrote) kept same = inr (Appends-kept old out new text wrote kept)
 
 -- or the writer fails
-pub some_flushed : (start old out new : Option (List ℕ)) (before after : Bool) (fault named : DialogueFault) (flushed : Result (Unit {0}) WriteFault)
-    → IfSome start (λ bytes. Answered bytes old out before (status_after (Err fault))) → Keeps out new → OnOk flushed (after ≡ before) → OnErr flushed (after ≡ true)
-    → IfSome start (λ bytes. Answered bytes old new after (status_after (Err named)))
-some_flushed None old out new before after fault named flushed c kept ok failed = tt
-some_flushed (Some bytes) old out new before after fault named (Ok x) c kept ok failed =
-    let some = some_answered bytes old out before fault c in
-    answered_some bytes old new after named (some.0, some.1, some.2, tells_kept old out new before after some.0 some.3 kept ok)
-some_flushed (Some bytes) old out new before after fault named (Err e) c kept ok failed =
-    let some = some_answered bytes old out before fault c in
-    answered_some bytes old new after named (some.0, some.1, some.2, inl failed)
-
--- all lines were, and the writer fails at the end
-pub all_unflushed : (start old out new : Option (List ℕ)) (before after : Bool) (named : DialogueFault)
-    → IfSome start (λ bytes. Answered bytes old out before 0) → after ≡ true
-    → IfSome start (λ bytes. Answered bytes old new after (status_after (Err named)))
-all_unflushed None old out new before after named c failed = tt
-all_unflushed (Some bytes) old out new before after named c failed =
-    answered_some bytes old new after named (c.0, [], c.1, inl failed)
+pub some_flushed : (start old out new : Option (List ℕ)) (before after : Bool) (flushed : Result (Unit {0}) WriteFault)
+    → IfSome start (λ bytes. Answered bytes old out before 1) → Keeps out new → OnOk flushed (after ≡ before) → OnErr flushed (after ≡ true)
+    → IfSome start (λ bytes. Answered bytes old new after 1)
+some_flushed None old out new before after flushed c kept ok failed = tt
+some_flushed (Some bytes) old out new before after (Ok x) c kept ok failed =
+    (c.0, c.1, c.2, tells_kept old out new before after c.0 c.3 kept ok)
+some_flushed (Some bytes) old out new before after (Err e) c kept ok failed = (c.0, c.1, c.2, inl failed)
 
 pub all_flushed : (start old out new : Option (List ℕ)) (before after : Bool)
     → IfSome start (λ bytes. Answered bytes old out before 0) → Keeps out new → IfSome start (λ bytes. Answered bytes old new after 0)
@@ -156,7 +140,19 @@ all_flushed None old out new before after c kept = tt
 all_flushed (Some bytes) old out new before after c kept = (c.0, c.1, Appends-kept old out new c.0 c.2 kept)
 
 -- no line was answered
-pub none_answered : (start out : Option (List ℕ)) (has_failed : Bool) (fault : DialogueFault) → IfSome start (λ bytes. Answered bytes out out has_failed (status_after (Err fault)))
-none_answered None out has_failed fault = tt
-none_answered (Some bytes) out has_failed fault =
-    answered_some bytes out out has_failed fault ([], bytes, record { last = new_state; dialogue = begin }, inr (Appends-nil out))
+pub none_answered : (start out : Option (List ℕ)) (has_failed : Bool) → IfSome start (λ bytes. Answered bytes out out has_failed 1)
+none_answered None out has_failed = tt
+none_answered (Some bytes) out has_failed = ([], bytes, record { last = new_state; dialogue = begin }, inr (Appends-nil out))
+
+-- at a fault some lines were answered
+pub some_err : (start old new : Option (List ℕ)) (has_failed : Bool) (r : Result (Unit {0}) DialogueFault) → IsErr r
+    → IfSome start (λ bytes. Answered bytes old new has_failed 1) → IfSome start (λ bytes. Answered bytes old new has_failed (status_after r))
+some_err start old new has_failed (Ok x) err some = absurd (true≢false (sym err))
+some_err None old new has_failed (Err fault) err some = tt
+some_err (Some bytes) old new has_failed (Err fault) err some = answered_some bytes old new has_failed fault some
+
+-- of running out of memory nothing is said
+pub memory_fault : (start : Option (List ℕ)) (read_failed write_failed : Bool) (r : Result (Unit {0}) DialogueFault)
+    → IsErrAnd r (λ fault. fault ≡ Memory) → IfErr r (IsDialogueFault start read_failed write_failed)
+memory_fault start read_failed write_failed (Ok x) is = absurd is
+memory_fault start read_failed write_failed (Err fault) is = subst (IsDialogueFault start read_failed write_failed) (sym is) tt

@@ -28,7 +28,3 @@ got_off true true old m = refl
 got_off true false old m = refl
 got_off false true old m = refl
 got_off false false old m = refl
-
-pub none_off : (there : Bool) (old : List Message) → old ≡ drop (length (if there then [] else [])) old
-none_off true old = refl
-none_off false old = refl

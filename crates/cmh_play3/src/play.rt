@@ -72,7 +72,8 @@ fn play<R: BufRead + Ahead, W: Write>(
     ensures unfailed { OnOk result (out.new.has_failed ≡ out.old.has_failed) }
     ensures left { out.new.has_failed ≡ false → (out.new.is_flushed ≡ true) ⊎ (out.new ≡ out.old) }
 {
-    let mut state = PlayState::Named(Draft::new(alloc)?);
+    let draft = Draft::new(alloc)?;
+    let mut state = PlayState::Named(draft);
     let played = answer_all(alloc, &mut state, input, out);
     let flushed = out.flush();
     played?;
@@ -89,7 +90,9 @@ fn answer_all<R: BufRead + Ahead, W: Write>(
 ) -> Result<(), DialogueFault>
     requires { IsNewHeld state.old }
     ensures answers { IfSome input.old.left (λ bytes. Answered bytes out.old.written
-        out.new.written out.new.has_failed (status_after result)) }
+        out.new.written out.new.has_failed 1) }
+    ensures all { OnOk result (IfSome input.old.left (λ bytes. Answered bytes out.old.written
+        out.new.written out.new.has_failed 0)) }
     ensures unfailed { OnOk result (out.new.has_failed ≡ out.old.has_failed) }
     ensures fault { IfErr result (IsDialogueFault input.old.left input.new.has_failed out.new.has_failed) }
 {

@@ -1,7 +1,6 @@
 use Rattle.std.proofs.Common.{inl, inr, refl, sym, subst, ◌∙◌}
 use Rattle.std.proofs.KnownBytes.{Appends-kept}
-use Rattle.cmh_console.proofs.LineLemmas.{unread}
-use Rattle.cmh_console.specs.declared.dialogue.DialogueFault.TheVariants.{Input, Memory, Output}
+use Rattle.cmh_console.proofs.LineLemmas.{unread_err}
 use Rattle.cmh_play3.specs.PlayStates.{PlayState}
 use Rattle.cmh_play3.proofs.Lines.{HasTalked, begun, endless_talk, has_left, talked_all, talked_failed, talked_more, talked_some}
 use Rattle.cmh_play3.proofs.Turns.{new_held, new_shown, turn_of}
@@ -10,7 +9,7 @@ use Rattle.cmh_play3.proofs.play.answer_all.Goals as goal
 pub loop-turn-init : goal.loop-turn-init
 loop-turn-init g c = record {
   held = new_shown c.args.state.now c.requires;
-  talked = subst (λ (s : PlayState). HasTalked _ _ _ _ s 0) (sym (new_held c.args.state.now c.requires)) (begun _ _);
+  talked = subst (λ (s : PlayState). HasTalked c.args.input.now.left c.args.input.now.left c.args.out.now.written c.args.out.now.written s 0) (sym (new_held c.args.state.now c.requires)) (begun _ _);
   unfailed = refl;
 }
 
@@ -26,5 +25,33 @@ loop-turn-preserved g c = record {
 }
 
 pub returns-then-is_end-clause-answers : goal.returns-then-is_end-clause-answers
-returns-then-is_end-clause-answers g c =
-    talked_all _ _ _ _ _ c.loop-turn.turn c.loop-turn.invariant.talked c.in_ok-next.next _ c.in_ok-next.ensures.line (c.is_end.ensures.yes c.if-is_end.true)
+returns-then-is_end-clause-answers g c = talked_some _ _ _ _ _ c.loop-turn.turn c.loop-turn.invariant.talked _
+
+pub returns-then-is_end-clause-all : goal.returns-then-is_end-clause-all
+returns-then-is_end-clause-all g c =
+    talked_all _ _ _ _ _ c.loop-turn.turn c.loop-turn.invariant.talked c.in_ok-next.next c.loop-turn.out.has_failed c.in_ok-next.ensures.line (c.is_end.ensures.yes c.if-is_end.true)
+
+pub returns-in_err-next-clause-answers : goal.returns-in_err-next-clause-answers
+returns-in_err-next-clause-answers g c = talked_some _ _ _ _ _ c.loop-turn.turn c.loop-turn.invariant.talked _
+
+pub returns-in_err-next-clause-fault : goal.returns-in_err-next-clause-fault
+returns-in_err-next-clause-fault g c =
+    unread_err _ _ c.loop-turn.turn (has_left _ _ _ _ _ c.loop-turn.turn c.loop-turn.invariant.talked) _ _ _ c.in_err-next.field-0.0 c.from_residual.ensures.1 c.in_err-next.ensures.fault
+
+pub returns-in_err-said-clause-answers : goal.returns-in_err-said-clause-answers
+returns-in_err-said-clause-answers g c = talked_some _ _ _ _ _ c.loop-turn.turn c.loop-turn.invariant.talked _
+
+pub returns-in_err-reply-clause-answers : goal.returns-in_err-reply-clause-answers
+returns-in_err-reply-clause-answers g c = talked_some _ _ _ _ _ c.loop-turn.turn c.loop-turn.invariant.talked _
+
+pub returns-in_err-write_text-clause-answers : goal.returns-in_err-write_text-clause-answers
+returns-in_err-write_text-clause-answers g c = talked_failed _ _ _ _ _ c.loop-turn.turn c.loop-turn.invariant.talked _ _ c.in_err-write_text.ensures.err
+
+pub returns-in_err-flush_awaited-clause-answers : goal.returns-in_err-flush_awaited-clause-answers
+returns-in_err-flush_awaited-clause-answers g c = talked_failed _ _ _ _ _ c.loop-turn.turn c.loop-turn.invariant.talked _ _ c.in_err-flush_awaited.ensures.err
+
+pub returns-clause-answers : goal.returns-clause-answers
+returns-clause-answers g c = talked_some _ _ _ _ _ c.loop-turn.turn c.loop-turn.invariant.talked _
+
+pub returns-clause-fault : goal.returns-clause-fault
+returns-clause-fault g c = inr (endless_talk _ _ _ _ _ c.loop-turn.turn c.loop-turn.invariant.talked c.loop-turn-test.false)
