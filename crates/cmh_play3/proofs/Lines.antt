@@ -18,7 +18,8 @@ use Rattle.cmh_console.proofs.LineLemmas.{HasLeft, at_some, endless_input, lengt
 use Rattle.cmh_console.proofs.LinesSeen.{if_some}
 use Rattle.cmh_script3.specs.Lines.{IsNextLine}
 use Rattle.cmh_play3.specs.PlayStates.{PlayState}
-use Rattle.cmh_play3.specs.Play.{Answered, Answers, Dialogue, IsTurnOfScript, as_fault, begin, line_in, new_state, status_after, turn}
+use Rattle.cmh_play3.specs.Play.{Answered, Answers, Dialogue, IsTurnOfScript, as_fault, begin, line_in, new_state, turn}
+use Rattle.cmh_play3.specs.Inner.Ended.{status_after}
 
 long_some : (bytes : List ℕ) → 4096 < length (first_line bytes) → 0 < length bytes
 long_some [] long = absurd (omega (arith, long))

@@ -1,9 +1,8 @@
 -- A script that is played: what each line does to the state, and what is written for it.
-use Rattle.std.specs.Prelude.{◌≡◌, ◌≢◌, ℕ, ◌<◌, zero, suc, false, Bool, List, [], ◌∷◌, ◌++◌, length, nat_lt, if◌then◌else◌, None, Some, MatchOption, Option, Result, Ok as Ok_result, Err, replicate, ⊤}
+use Rattle.std.specs.Prelude.{◌≡◌, ◌≢◌, ℕ, ◌<◌, zero, suc, false, Bool, List, [], ◌∷◌, ◌++◌, length, nat_lt, if◌then◌else◌, None, Some, MatchOption, Option, replicate, ⊤}
 use Rattle.std.specs.Io.BufRead.{first_line, drop_through}
 use Rattle.std.specs.Io.KnownBytes.{Appends}
 use Rattle.cmh_console.specs.Device.{Tells}
-use Rattle.cmh_console.specs.Faults.{status_of}
 use Rattle.cmh_console.specs.declared.dialogue.DialogueFault.{DialogueFault}
 use Rattle.cmh_console.specs.declared.dialogue.DialogueFault.TheVariants as dialogue
 use Rattle.cmh_console.specs.declared.faults.Fault.{Fault}
@@ -95,8 +94,3 @@ abbrev pub as_fault : DialogueFault → Fault
 as_fault dialogue.Input = faults.Input
 as_fault dialogue.Output = faults.Output
 as_fault dialogue.Memory = faults.Memory
-
--- the status of a script's end, or of a fault
-abbrev pub status_after : Result (Unit {0}) DialogueFault → ℕ
-status_after (Ok_result played) = 0
-status_after (Err fault) = status_of (as_fault fault)

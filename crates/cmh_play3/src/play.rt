@@ -7,7 +7,8 @@ ghost use Rattle.cmh_console.specs.Faults.{NamesFault};
 ghost use Rattle.cmh_console.specs.Status.{IsStatus};
 ghost use Rattle.cmh_play3.specs.Held.{LeadsTo, IsPlayed, world_of};
 ghost use Rattle.cmh_play3.specs.Inner.Shown.{GetsNothing, IsNewHeld, IsShown, LeadsOn, shown};
-ghost use Rattle.cmh_play3.specs.Play.{Answered, Replies, as_fault, status_after};
+ghost use Rattle.cmh_play3.specs.Inner.Ended.{status_after};
+ghost use Rattle.cmh_play3.specs.Play.{Answered, Replies, as_fault};
 ghost use Rattle.cmh_play3.specs.World.{CarriesOut};
 ghost use Rattle.cmh_script3.specs.Script.{Says};
 

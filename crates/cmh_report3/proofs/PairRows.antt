@@ -10,7 +10,7 @@ use Rattle.cmh_frames.proofs.Apart.{eqb_comm}
 use Rattle.cmh_frames.proofs.Members.{found_at, found_from, no_member}
 use Rattle.cmh_model3.specs.Lists.{in_list}
 use Rattle.cmh_rules.proofs.Leaving.{sorted_append, pairs_ascend, all_above, in_pairs, from_pairs}
-use Rattle.cmh_report3.specs.Pairs.{has_pair}
+use Rattle.cmh_report3.specs.Inner.Pairs.{has_pair}
 use Rattle.cmh_report3.specs.Inner.PairRows.{AreByNumber, ArePairsOf}
 
 -- ---- where the rows end

@@ -12,7 +12,7 @@ use Rattle.cmh_model3.specs.Waits.{begins, ends, leaves, wait_after}
 use Rattle.cmh_report3.specs.Declarations.{is_process, newest_stop}
 use Rattle.cmh_report3.specs.Endings.{ended_past}
 use Rattle.cmh_report3.specs.Inner.ClockTables.{FitClocks, HasRoom, clock_at}
-use Rattle.cmh_report3.specs.Pairs.{has_pair}
+use Rattle.cmh_report3.specs.Inner.Pairs.{has_pair}
 use Rattle.cmh_report3.proofs.Steps.{ahead, or_middle}
 use Rattle.cmh_model3.specs.Stops.{declared_at}
 

@@ -4,3 +4,4 @@ pub mod ClockTables
 pub mod Leavers
 pub mod Stopped
 pub mod Own
+pub mod Pairs

@@ -1,4 +1,3 @@
-pub mod Pairs
 pub mod Endings
 pub mod Declarations
 pub mod Transit

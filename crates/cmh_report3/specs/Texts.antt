@@ -15,7 +15,7 @@ transit_text (suc messages) = codes "in transit " ++ decimal (suc messages) ++ c
 abbrev pub pair_text : List ℕ → ℕ × ℕ → List ℕ
 pair_text word pair = word ++ decimal pair.0 ++ codes " " ++ decimal pair.1 ++ codes "\n"
 
--- a cycle, and what became of it; no law lets a run come to the last two of these forms
+-- a cycle, and what became of it; that no run comes to the last two of these forms is not proved
 abbrev pub cycle_text : CycleNow → List ℕ
 cycle_text (cycle.Stands members) = codes "cycle" ++ processes_text members.items ++ codes " stands"
 cycle_text (cycle.Left members (Some by)) = codes "cycle" ++ processes_text members.items ++ codes " left by " ++ decimal by

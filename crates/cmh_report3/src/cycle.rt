@@ -3,7 +3,7 @@
 ghost use Rattle.std.specs.Prelude.{◌≡◌, ℕ, IfOk, MatchOption, filter, min, not};
 ghost use Rattle.cmh_report3.specs.Inner.ClockTables.{FitClocks};
 ghost use Rattle.cmh_report3.specs.Inner.Leavers.{IsLeastIn};
-ghost use Rattle.cmh_report3.specs.Pairs.{has_pair};
+ghost use Rattle.cmh_report3.specs.Inner.Pairs.{has_pair};
 ghost use Rattle.cmh_report3.specs.Reports.{IsTold};
 ghost use Rattle.cmh_report3.specs.Inner.Stopped.{IsCycleOfStop};
 
@@ -24,7 +24,7 @@ pub enum CycleNow {
         members: Vec<ProcId>,
         by: Option<ProcId>,
     },
-    /// There was none at the stop. In a run there is one.
+    /// There was none at the stop. We know of no run in which that is so.
     None,
 }
 

@@ -6,7 +6,7 @@ ghost use Rattle.cmh_controller3.specs.Controller as spec;
 ghost use Rattle.cmh_controller3.specs.Controller.{state_of};
 ghost use Rattle.cmh_model3.specs.Lists.{in_list};
 ghost use Rattle.cmh_report3.specs.Inner.Own.{LeavesOwn};
-ghost use Rattle.cmh_report3.specs.Pairs.{has_pair};
+ghost use Rattle.cmh_report3.specs.Inner.Pairs.{has_pair};
 
 use crate::pairs::PairSet;
 use crate::waits::add_all;

@@ -3,7 +3,7 @@
 ghost use Rattle.std.specs.Prelude.{◌≡◌, ◌↔◌, ◌++◌, ◌<◌, ◌==◌, ◌&&◌, ◌||◌, not, ℕ, false, true, map, length, Contains, OnOk, OnErr, IfOk};
 ghost use Rattle.std.specs.List.Sorted.{IsStrictlySortedBy};
 ghost use Rattle.cmh_frames.specs.Relation.{pair_cmp};
-ghost use Rattle.cmh_report3.specs.Pairs.{has_pair};
+ghost use Rattle.cmh_report3.specs.Inner.Pairs.{has_pair};
 ghost use Rattle.cmh_report3.specs.Inner.PairRows.{SamePairs};
 
 use cmh_model3::ProcId;

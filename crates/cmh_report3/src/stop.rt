@@ -6,7 +6,7 @@ ghost use Rattle.cmh_model3.specs.Waits.{wait_after};
 ghost use Rattle.cmh_report3.specs.Declarations as declarations;
 ghost use Rattle.cmh_report3.specs.Endings.{ended_past};
 ghost use Rattle.cmh_report3.specs.Inner.ClockTables.{FitClocks};
-ghost use Rattle.cmh_report3.specs.Pairs.{has_pair};
+ghost use Rattle.cmh_report3.specs.Inner.Pairs.{has_pair};
 
 use crate::clocks::{Clocks, declared_at, is_within};
 use crate::pairs::PairSet;

@@ -3,7 +3,7 @@
 ghost use Rattle.std.specs.Prelude.{◌≡◌, ◌==◌, ◌&&◌, ◌||◌, not, ℕ, OnOk};
 ghost use Rattle.cmh_model3.specs.Lists.{in_list};
 ghost use Rattle.cmh_model3.specs.Waits.{begins, ends, leaves};
-ghost use Rattle.cmh_report3.specs.Pairs.{has_pair};
+ghost use Rattle.cmh_report3.specs.Inner.Pairs.{has_pair};
 
 use crate::pairs::PairSet;
 use cmh_model3::{Event, ProcId};

@@ -3,7 +3,7 @@ use Rattle.std.specs.Prelude.{◌≡◌, ◌↔◌, ℕ, ◌≤◌, ◌<◌, tru
 use Rattle.std.specs.List.Sorted.{IsStrictlySortedBy}
 use Rattle.cmh_runs.specs.Number.{IsNumber}
 use Rattle.cmh_frames.specs.Relation.{pair_cmp}
-use Rattle.cmh_report3.specs.Pairs.{has_pair}
+use Rattle.cmh_report3.specs.Inner.Pairs.{has_pair}
 
 -- the pairs are as they were
 abbrev pub SamePairs : List (List ℕ) → List (List ℕ) → Type 0

@@ -6,7 +6,7 @@ use Rattle.std.proofs.lemmas.List.Kept.{IsStrictlySortedBy-filter}
 use Rattle.cmh_cycles.specs.Cycles.{ComesFirst}
 use Rattle.cmh_cycles.specs.FoundCycles.{IsCycleIn, WaitsIn}
 use Rattle.cmh_frames.specs.Relation.{pair_cmp}
-use Rattle.cmh_report3.specs.Pairs.{has_pair}
+use Rattle.cmh_report3.specs.Inner.Pairs.{has_pair}
 use Rattle.cmh_report3.specs.Reports.{IsLeastLeaver}
 use Rattle.cmh_report3.proofs.Cycles.{Same, beyond_same, found_first, found_none, no_cycle}
 use Rattle.cmh_report3.proofs.cycle.cycle_now.Goals as goal

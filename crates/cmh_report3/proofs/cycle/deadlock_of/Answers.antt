@@ -2,7 +2,7 @@ use Rattle.std.proofs.Common.{◌≡◌, ℕ, Bool, true, false, not, ◌&&◌, 
 use Rattle.cmh_model3.specs.Stops.{stop, withdrawn_past}
 use Rattle.cmh_model3.specs.Waits.{Waits, wait_after}
 use Rattle.cmh_report3.specs.Endings.{StandsSince, ended_past}
-use Rattle.cmh_report3.specs.Pairs.{has_pair}
+use Rattle.cmh_report3.specs.Inner.Pairs.{has_pair}
 use Rattle.cmh_report3.proofs.Cycles.{became_to}
 use Rattle.cmh_report3.proofs.cycle.deadlock_of.Goals as goal
 

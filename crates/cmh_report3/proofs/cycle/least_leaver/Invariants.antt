@@ -1,6 +1,6 @@
 use Rattle.std.proofs.Common.{take}
 use Rattle.cmh_report3.specs.Inner.Leavers.{IsLeastIn}
-use Rattle.cmh_report3.specs.Pairs.{has_pair}
+use Rattle.cmh_report3.specs.Inner.Pairs.{has_pair}
 use Rattle.cmh_report3.proofs.cycle.least_leaver.Given as goal
 
 abbrev pub invariant-loop-place : goal.invariant-loop-place

@@ -1,5 +1,5 @@
 use Rattle.std.proofs.Common.{◌≡◌, ℕ, filter, not, take}
-use Rattle.cmh_report3.specs.Pairs.{has_pair}
+use Rattle.cmh_report3.specs.Inner.Pairs.{has_pair}
 use Rattle.cmh_report3.proofs.cycle.pairs_beyond.Given as goal
 
 abbrev pub invariant-loop-first : goal.invariant-loop-first

@@ -1,7 +1,7 @@
 use Rattle.std.proofs.Common.{◌≡◌, ℕ, ◌&&◌, ◌||◌, take}
 use Rattle.cmh_controller3.specs.Controller.{state_of}
 use Rattle.cmh_model3.specs.Lists.{in_list}
-use Rattle.cmh_report3.specs.Pairs.{has_pair}
+use Rattle.cmh_report3.specs.Inner.Pairs.{has_pair}
 use Rattle.cmh_report3.proofs.declared.add_leaving.Given as goal
 
 abbrev pub invariant-loop-member : goal.invariant-loop-member

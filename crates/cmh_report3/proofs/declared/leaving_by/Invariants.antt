@@ -1,7 +1,7 @@
 use Rattle.std.proofs.Common.{◌≡◌, ℕ, take}
 use Rattle.std.specs.List.{list_any}
 use Rattle.cmh_controller3.specs.Controller.{Controller, state_of}
-use Rattle.cmh_report3.specs.Pairs.{has_pair}
+use Rattle.cmh_report3.specs.Inner.Pairs.{has_pair}
 use Rattle.cmh_report3.proofs.declared.leaving_by.Given as goal
 
 abbrev pub invariant-loop-controller : goal.invariant-loop-controller

@@ -1,6 +1,6 @@
 use Rattle.std.proofs.Common.{◌≡◌, ℕ, false, drop}
 use Rattle.cmh_model3.specs.Waits.{wait_after}
-use Rattle.cmh_report3.specs.Pairs.{has_pair}
+use Rattle.cmh_report3.specs.Inner.Pairs.{has_pair}
 use Rattle.cmh_report3.proofs.stop.waits_of.Given as goal
 
 abbrev pub invariant-loop-event : goal.invariant-loop-event

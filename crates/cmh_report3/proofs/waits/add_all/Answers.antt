@@ -1,6 +1,6 @@
 use Rattle.std.proofs.Common.{◌≡◌, ◌∙◌, ◌==◌, ◌&&◌, ◌||◌, sym, ap, take}
 use Rattle.cmh_model3.specs.Lists.{in_list}
-use Rattle.cmh_report3.specs.Pairs.{has_pair}
+use Rattle.cmh_report3.specs.Inner.Pairs.{has_pair}
 use Rattle.cmh_report3.proofs.Steps.{any_more, add_one}
 use Rattle.cmh_report3.proofs.waits.add_all.Goals as goal
 

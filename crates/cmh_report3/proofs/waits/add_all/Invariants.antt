@@ -1,6 +1,6 @@
 use Rattle.std.proofs.Common.{◌≡◌, ℕ, ◌==◌, ◌&&◌, ◌||◌, take}
 use Rattle.cmh_model3.specs.Lists.{in_list}
-use Rattle.cmh_report3.specs.Pairs.{has_pair}
+use Rattle.cmh_report3.specs.Inner.Pairs.{has_pair}
 use Rattle.cmh_report3.proofs.waits.add_all.Given as goal
 
 abbrev pub invariant-loop-second : goal.invariant-loop-second

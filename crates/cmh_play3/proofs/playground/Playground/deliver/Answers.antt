@@ -7,7 +7,8 @@ use Rattle.cmh_model3.specs.Runs as runs
 use Rattle.cmh_model3.specs.Runs.{IsBeginningOf, state_of}
 use Rattle.cmh_model3.proofs.Deliveries.{deliveries_accepted}
 use Rattle.cmh_topology3.specs.Topology.{site_of}
-use Rattle.cmh_play3.specs.Held.{IsStep, LeadsTo, world_of}
+use Rattle.cmh_play3.specs.Held.{LeadsTo, world_of}
+use Rattle.cmh_play3.specs.Inner.Stepped.{IsStep}
 use Rattle.cmh_play3.specs.World.{World}
 use Rattle.cmh_play3.specs.declared.playground.Step.{Step}
 use Rattle.cmh_play3.proofs.Delivering.{first_front, front_next, no_front, only_memory}

@@ -5,7 +5,8 @@ use Rattle.cmh_model3.specs.declared.event.Event.TheVariants.{Withdraw}
 use Rattle.cmh_model3.specs.Runs.{state_of}
 use Rattle.cmh_model3.specs.State.{State}
 use Rattle.cmh_topology3.specs.Topology.{home, site_of}
-use Rattle.cmh_play3.specs.Held.{IsStep, LeadsTo, world_of}
+use Rattle.cmh_play3.specs.Held.{LeadsTo, world_of}
+use Rattle.cmh_play3.specs.Inner.Stepped.{IsStep}
 use Rattle.cmh_play3.specs.World.{ActsOn, IsReason, IsUnknown, Steps, World}
 use Rattle.cmh_play3.specs.declared.playground.Step.{Step}
 use Rattle.cmh_play3.specs.declared.reply.Reply.TheVariants.{Refused, Taken}

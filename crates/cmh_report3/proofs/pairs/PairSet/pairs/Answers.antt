@@ -1,7 +1,7 @@
 use Rattle.std.proofs.Common.{◌≡◌, ◌↔◌, ◌+◌, ℕ, true, List, [], ◌++◌, map, get_or, subst, sym, ap, ◌∙◌, arith, Contains}
 use Rattle.std.specs.List.Sorted.{IsStrictlyIncreasing}
 use Rattle.std.proofs.lemmas.List.{get_or_default}
-use Rattle.cmh_report3.specs.Pairs.{has_pair}
+use Rattle.cmh_report3.specs.Inner.Pairs.{has_pair}
 use Rattle.cmh_report3.specs.Inner.PairRows.{ArePairsOf}
 use Rattle.cmh_report3.proofs.PairRows.{pairs_begin, pairs_skip, pairs_more, pairs_end}
 use Rattle.cmh_report3.proofs.pairs.PairSet.pairs.Goals as goal

@@ -3,7 +3,7 @@ use Rattle.std.proofs.Math.ListN.{set}
 use Rattle.std.proofs.lemmas.List.{get_or_default}
 use Rattle.cmh_model3.specs.Lists.{in_list}
 use Rattle.cmh_waits.proofs.ListLemmas.{in_less}
-use Rattle.cmh_report3.specs.Pairs.{has_pair}
+use Rattle.cmh_report3.specs.Inner.Pairs.{has_pair}
 use Rattle.cmh_report3.proofs.PairRows.{has_less}
 use Rattle.cmh_report3.proofs.pairs.PairSet.remove.Goals as goal
 
