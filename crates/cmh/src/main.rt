@@ -27,7 +27,7 @@ use cmh_commands::{
     AUDIT, BACKLOG, CLUSTER, DRAW, EDITION, EDITION_THREE, EXPLAIN, FileFault, Help, JOURNAL,
     JOURNALS, Listener, NEW_WORLD, NOTES, OUT, PAGE, PATIENCE, PLAY, PORT, QUIET, SERVE, SHOW,
     SITE, STRICT, TOPOLOGY, audit, cluster_files_of, command, draw_or_page, explanation, new_world,
-    play_into, play_page, read_file, show,
+    play_into, play_page, read_file, run_new_world, show,
 };
 use cmh_console::{Ahead, Fault, Input, Output};
 use cmh_frames::SiteId;
@@ -279,7 +279,7 @@ where
         return show(rt, words, out, err);
     }
     if matches.subcommand_matches(NEW_WORLD).is_some() {
-        return new_world(rt, out, err);
+        return run_new_world(rt, out, err);
     }
     if let Some(words) = matches.subcommand_matches(SITE) {
         return serve_site(rt, words, input, out, err);

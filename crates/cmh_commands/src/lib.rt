@@ -25,7 +25,7 @@ pub use crate::files::{
 };
 pub use crate::help::Help;
 pub use crate::listener::Listener;
-pub use crate::new_world::new_world;
+pub use crate::new_world::run_new_world;
 pub use crate::options::{
     AUDIT, BACKLOG, CLUSTER, DRAW, EDITION, EDITION_THREE, EXPLAIN, FORMAT, FROM, JOURNAL,
     JOURNALS, KIND, NEW_WORLD, NOTES, OUT, PAGE, PATIENCE, PLAY, PORT, QUIET, RUN, SCRIPT, SERVE,

@@ -17,7 +17,7 @@ const RANDOM: &str = "/dev/urandom";
 /// status.
 ///
 /// The fault is `fault random` where the system gives no random bytes.
-pub fn new_world<R: AllocGlobal + Files, W: Write, E: Write>(
+pub fn run_new_world<R: AllocGlobal + Files, W: Write, E: Write>(
     rt: &R,
     out: &mut Output<W>,
     err: &mut Output<E>,
