@@ -26,8 +26,8 @@ use cmh_carriers::{Noted, Voice};
 use cmh_commands::{
     AUDIT, BACKLOG, CLUSTER, DRAW, EDITION, EDITION_THREE, EXPLAIN, FileFault, Help, JOURNAL,
     JOURNALS, Listener, NEW_WORLD, NOTES, OUT, PAGE, PATIENCE, PLAY, PORT, QUIET, SERVE, SHOW,
-    SITE, STRICT, TOPOLOGY, audit, cluster_files_of, command, draw_or_page, explanation, new_world,
-    play_into, play_page, read_file, run_new_world, show,
+    SITE, STRICT, TOPOLOGY, audit, cluster_files_of, command, draw_or_page, explanation, play_into,
+    play_page, read_file, run_new_world, show,
 };
 use cmh_console::{Ahead, Fault, Input, Output};
 use cmh_frames::SiteId;
