@@ -69,11 +69,17 @@ NamesNoPageFile matches = (words : ArgMatches)
     → option_map (λ p. p.1) (subcommand_rows_of matches) ≡ Some (rows_of (found_of words))
     → first_value (found_of words) (codes "page") ≡ None
 
--- edition 3 is not asked for
+-- no edition is named
 abbrev pub NamesNoEdition : ArgMatches → Type 0
 NamesNoEdition matches = (words : ArgMatches)
     → option_map (λ p. p.1) (subcommand_rows_of matches) ≡ Some (rows_of (found_of words))
-    → one_text (found_of words) (codes "edition") ≡ None
+    → first_value (found_of words) (codes "edition") ≡ None
+
+-- an edition is named; the command line takes 3 alone
+abbrev pub NamesEdition : ArgMatches → List ℕ → Type 0
+NamesEdition matches edition = (words : ArgMatches)
+    → option_map (λ p. p.1) (subcommand_rows_of matches) ≡ Some (rows_of (found_of words))
+    → first_value (found_of words) (codes "edition") ≡ Some edition
 
 -- an option of the command has this value
 abbrev pub NamesOption : ArgMatches → List ℕ → List ℕ → Type 0

@@ -1,7 +1,7 @@
 //! The program: it reads its command line and calls a command.
 #![tactic(auto)]
 
-ghost use Rattle.std.specs.Prelude.{◌≡◌, ℕ, Option, Some, codes};
+ghost use Rattle.std.specs.Prelude.{◌≡◌, ℕ, List, Option, Some, codes};
 ghost use Rattle.clap.specs.Matches.{found_of, one_text};
 ghost use Rattle.cmh_commands.specs.Drawing.{DrawsFiles, DrawsSome, part_between};
 ghost use Rattle.cmh_commands.specs.Files.{AuditsFiles, AuditsSomehow, ExplainsFiles, IsUnset, ListsFiles, ShowsFiles};
@@ -9,7 +9,7 @@ ghost use Rattle.cmh_commands.specs.NewWorld.{WorldEnds};
 ghost use Rattle.cmh_commands.specs.Numbers.{TellsNumber};
 ghost use Rattle.cmh_commands.specs.Paging.{PagesFiles, PlaysToPage};
 ghost use Rattle.cmh_commands.specs.Playing.{PlaysAlone, PlaysScript};
-ghost use Rattle.cmh.specs.CommandLine.{IsEnd, NamesAudit, NamesCluster, NamesColumn, NamesDraw, NamesNewWorld, NamesNoEdition, NamesNoFolder, NamesNoPage, NamesNoPageFile, NamesNoReasons, NamesNoRun, NamesNoStrictness, NamesNothing, NamesOption, NamesPage, NamesPlay, NamesReasons, NamesRun, NamesShow, NamesSite, NamesSiteNumber, NamesStrictness, ReadsNoInput};
+ghost use Rattle.cmh.specs.CommandLine.{IsEnd, NamesAudit, NamesCluster, NamesColumn, NamesDraw, NamesEdition, NamesNewWorld, NamesNoEdition, NamesNoFolder, NamesNoPage, NamesNoPageFile, NamesNoReasons, NamesNoRun, NamesNoStrictness, NamesNothing, NamesOption, NamesPage, NamesPlay, NamesReasons, NamesRun, NamesShow, NamesSite, NamesSiteNumber, NamesStrictness, ReadsNoInput};
 ghost use Rattle.cmh.specs.Playing.{PlaysEdition3};
 ghost use Rattle.cmh.specs.Serving.{ServesCluster, ServesSite, ServesSome, ServesStrictly};
 ghost use Rattle.cmh_frames.specs.Number.{IsNumber};
@@ -24,10 +24,10 @@ ghost use Rattle.cmh_site.specs.Descriptors.{StrictlyEnds};
 use clap::{ArgMatches, Error, error};
 use cmh_carriers::{Noted, Voice};
 use cmh_commands::{
-    AUDIT, BACKLOG, CLUSTER, DRAW, EDITION, EDITION_THREE, EXPLAIN, FileFault, Help, JOURNAL,
-    JOURNALS, Listener, NEW_WORLD, NOTES, OUT, PAGE, PATIENCE, PLAY, PORT, QUIET, SERVE, SHOW,
-    SITE, STRICT, TOPOLOGY, audit, cluster_files_of, command, draw_or_page, explanation, play_into,
-    play_page, read_file, run_new_world, show,
+    AUDIT, BACKLOG, CLUSTER, DRAW, EDITION, EXPLAIN, FileFault, Help, JOURNAL, JOURNALS, Listener,
+    NEW_WORLD, NOTES, OUT, PAGE, PATIENCE, PLAY, PORT, QUIET, SERVE, SHOW, SITE, STRICT, TOPOLOGY,
+    audit, cluster_files_of, command, draw_or_page, explanation, play_into, play_page, read_file,
+    run_new_world, show,
 };
 use cmh_console::{Ahead, Fault, Input, Output};
 use cmh_frames::SiteId;
@@ -228,7 +228,7 @@ where
     ensures plays_alone { NamesNothing matches.now → NamesNoEdition matches.now → NamesNoFolder matches.now
         → NamesNoPageFile matches.now
         → PlaysAlone input.old input.new out.old out.new err.old err.new result }
-    ensures plays_edition3 { NamesPlay matches.now → NamesOption matches.now (codes "edition") (codes "3")
+    ensures plays_edition3 { NamesPlay matches.now → (edition : List ℕ) → NamesEdition matches.now edition
         → PlaysEdition3 input.old input.new out.old out.new err.old err.new result }
 
     // Where an audit is named, files are audited; the reasons for stops, or a run, are told where they are asked for.
@@ -291,7 +291,7 @@ where
         return serve_cluster(rt, terminals, words, out, err);
     }
     if let Some(words) = matches.subcommand_matches(PLAY) {
-        if words.get_str(EDITION) == Some(EDITION_THREE) {
+        if words.get_str(EDITION).is_some() {
             return run_play3(rt.alloc(), input, out, err);
         }
         if let Some(path) = words.get_str(JOURNALS) {
