@@ -53,6 +53,8 @@ def run(program, shim, place):
         else:
             site.await_listening()
             yield from talk(site, peer, place)
+            # The reading thread is made once the peer's connection has come, whenever that is.
+            wait_until(lambda: place >= len(THREADS) or os.path.exists(mark), 'the thread that is refused')
             yield 'it ends', site.end()
         yield 'a thread was refused', os.path.exists(mark) == (place < len(THREADS))
         yield 'the peer ends', peer.end()
