@@ -17,7 +17,8 @@ use Rattle.std.proofs.lemmas.List.Sorted.{searched}
 use Rattle.cmh_frames.proofs.Members.{no_member, not_decreasing}
 use Rattle.cmh_waits.proofs.Ordered.{first_below}
 use Rattle.cmh_cycles.specs.Graphs.{WaitsAt, AreAskers}
-use Rattle.cmh_cycles.specs.Rows.{AreTwins, has_place, row_at, IsTable}
+use Rattle.cmh_bits.specs.Bits.{has_number}
+use Rattle.cmh_cycles.specs.Rows.{AreTwins, row_at, IsTable}
 use Rattle.cmh_cycles.proofs.Members.{contains_left, contains_last, contains_push, looked_at, looked_before, looked_now, looked_all, looked_within}
 use Rattle.cmh_dependents.proofs.Marked.{IsStrictlyIncreasing-push}
 
@@ -128,7 +129,7 @@ same_place ps up i j a b e = elim (cases_lt i j) [
 
 -- a place more
 pub table_more : (old new : List (List ℕ)) (n words a b : ℕ) (Old New : ℕ → ℕ → Type 0) → IsTable old n words Old → length new ≡ length old → ((k : ℕ) → length (row_at new k) ≡ length (row_at old k))
-    → ((k v : ℕ) → has_place (row_at new k) v ≡ (((k == a) && (v == b)) || has_place (row_at old k) v)) → ((p q : ℕ) → New p q ↔ (Old p q ⊎ ((p ≡ a) × (q ≡ b)))) → IsTable new n words New
+    → ((k v : ℕ) → has_number (row_at new k) v ≡ (((k == a) && (v == b)) || has_number (row_at old k) v)) → ((p q : ℕ) → New p q ↔ (Old p q ⊎ ((p ≡ a) × (q ≡ b)))) → IsTable new n words New
 table_more old new n words a b Old New is long wide places step = record {
   long = long ∙ is.long;
   wide = λ k l. wide k ∙ is.wide k l;
@@ -136,10 +137,10 @@ table_more old new n words a b Old New is long wide places step = record {
     λ h. (step p q).1 (⊎_elim
         (λ e. let parts = and_parts (p == a) (q == b) e in inr (eqb-true p a parts.0, eqb-true q b parts.1))
         (λ o. inl ((is.are p q).0 o))
-        (or_cases ((p == a) && (q == b)) (has_place (row_at old p) q) (sym (places p q) ∙ h))),
+        (or_cases ((p == a) && (q == b)) (has_number (row_at old p) q) (sym (places p q) ∙ h))),
     λ h. places p q ∙ ⊎_elim
-        (λ o. or_right ((p == a) && (q == b)) (has_place (row_at old p) q) ((is.are p q).1 o))
-        (λ e. or_left ((p == a) && (q == b)) (has_place (row_at old p) q) (ap (λ t. t && (q == b)) (eq-eqb p a e.0) ∙ eq-eqb q b e.1))
+        (λ o. or_right ((p == a) && (q == b)) (has_number (row_at old p) q) ((is.are p q).1 o))
+        (λ e. or_left ((p == a) && (q == b)) (has_number (row_at old p) q) (ap (λ t. t && (q == b)) (eq-eqb p a e.0) ∙ eq-eqb q b e.1))
         ((step p q).0 h),
   );
 }
@@ -218,8 +219,8 @@ module _ (ps : List ℕ) (waits : List (ℕ × ℕ)) (i : ℕ) (w : ℕ × ℕ) 
   }
 
   pub tables_more : (a b : ℕ) (hs' ts' : List (List ℕ)) → IsStrictlyIncreasing ps → (a < length ps) × (get_or ps a 0 ≡ w.0) → (b < length ps) × (get_or ps b 0 ≡ w.1)
-      → length hs' ≡ length hs → ((k : ℕ) → length (row_at hs' k) ≡ length (row_at hs k)) → ((k v : ℕ) → has_place (row_at hs' k) v ≡ (((k == a) && (v == b)) || has_place (row_at hs k) v))
-      → length ts' ≡ length ts → ((k : ℕ) → length (row_at ts' k) ≡ length (row_at ts k)) → ((k v : ℕ) → has_place (row_at ts' k) v ≡ (((k == b) && (v == a)) || has_place (row_at ts k) v))
+      → length hs' ≡ length hs → ((k : ℕ) → length (row_at hs' k) ≡ length (row_at hs k)) → ((k v : ℕ) → has_number (row_at hs' k) v ≡ (((k == a) && (v == b)) || has_number (row_at hs k) v))
+      → length ts' ≡ length ts → ((k : ℕ) → length (row_at ts' k) ≡ length (row_at ts k)) → ((k v : ℕ) → has_number (row_at ts' k) v ≡ (((k == b) && (v == a)) || has_number (row_at ts k) v))
       → AreTables ps (take (i + 1) waits) hs' ts'
   tables_more a b hs' ts' up asker holder long wide places long' wide' places' =
       let more = seen_more ps waits i w l here up a b asker.0 holder.0 asker.1 holder.1 in

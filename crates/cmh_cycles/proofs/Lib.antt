@@ -1,4 +1,3 @@
-pub mod BitLemmas
 pub mod RowLemmas
 pub mod Members
 pub mod GraphLemmas

@@ -1,10 +1,6 @@
--- Rows of bits: the bit k % 64 of the word k / 64 of a row stands for the place k.
-use Rattle.std.specs.Prelude.{◌≡◌, ℕ, ◌/◌, ◌%◌, ◌<◌, ◌≤◌, ◌↔◌, Bool, true, List, [], length, slice_index, slice_index_or}
-use Rattle.cmh_waits.specs.Rows.{is_set}
-
--- whether the row has the place
-abbrev pub has_place : List ℕ → ℕ → Bool
-has_place row k = is_set (slice_index row (k / 64)) (k % 64)
+-- Tables of rows, whose words have a bit for each place.
+use Rattle.std.specs.Prelude.{◌≡◌, ℕ, ◌<◌, ◌≤◌, ◌↔◌, true, List, [], length, slice_index, slice_index_or}
+use Rattle.cmh_bits.specs.Bits.{has_number}
 
 -- a row of a table; the one without a place where the table ends before
 abbrev pub row_at : List (List ℕ) → ℕ → List ℕ
@@ -14,7 +10,7 @@ row_at rows k = slice_index_or rows k []
 pub record IsTable (rows : List (List ℕ)) (n words : ℕ) (Related : ℕ → ℕ → Type 0) : Type 0 where
   pub long : length rows ≡ n
   pub wide : (a : ℕ) → a < n → length (row_at rows a) ≡ words
-  pub are : (a b : ℕ) → has_place (row_at rows a) b ≡ true ↔ Related a b
+  pub are : (a b : ℕ) → has_number (row_at rows a) b ≡ true ↔ Related a b
 
 -- at each place of a table a place with the same row: a lower one, or its own
 pub record AreTwins (table : List (List ℕ)) (twins : List ℕ) : Type 0 where

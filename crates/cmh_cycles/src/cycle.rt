@@ -5,15 +5,17 @@
 //! is left.
 
 ghost use Rattle.std.specs.Prelude.{◌≡◌, ◌↔◌, ℕ, ◌+◌, ◌<◌, ◌≤◌, ◌/◌, ◌^◌, true, false, List, length, map, slice_index, IfOk, IfSome, IfNone};
+ghost use Rattle.cmh_bits.specs.Bits.{has_number};
 ghost use Rattle.cmh_cycles.specs.FoundCycles.{IsCycleIn};
 ghost use Rattle.cmh_cycles.specs.Cycles.{ComesFirst, IsFirstCycleOf};
 ghost use Rattle.cmh_cycles.specs.Graphs.{IsGraph, WaitsAt};
 ghost use Rattle.cmh_cycles.specs.Inner.Levels.{LeadBack};
-ghost use Rattle.cmh_cycles.specs.Rows.{AreTwins, has_place, row_at};
+ghost use Rattle.cmh_cycles.specs.Rows.{AreTwins, row_at};
 ghost use Rattle.cmh_frames.specs.Paths.{IsCycleOf};
 
 use crate::graph::{Graph, place_of};
-use crate::row::Row;
+use crate::unions::union_of;
+use cmh_bits::BitSet;
 use cmh_frames::ProcId;
 use std::alloc::{AllocError, Global};
 
@@ -43,7 +45,7 @@ pub fn shortest_cycle(
 
 /// The levels of the places that lead to this one, up to the first with a holder of it. Where no level has one, there
 /// are none.
-fn levels_to(alloc: Global, graph: &Graph, to: usize) -> Result<Option<Vec<Row>>, AllocError>
+fn levels_to(alloc: Global, graph: &Graph, to: usize) -> Result<Option<Vec<BitSet>>, AllocError>
     requires graph { IsGraph graph.now graph.now.waits.items }
     requires place { to < length graph.now.processes.items }
     ensures some { IfOk result (λ found. IfSome found (λ levels.
@@ -54,9 +56,9 @@ fn levels_to(alloc: Global, graph: &Graph, to: usize) -> Result<Option<Vec<Row>>
         → IsCycleOf (λ a b. WaitsAt graph.now.processes.items graph.now.waits.items a b) to other → ⊥)) }
 {
     let words = graph.processes.len() / 64 + 1;
-    let mut first = Row::new(alloc, words)?;
+    let mut first = BitSet::new(alloc, words)?;
     first.insert(to);
-    let mut seen = Row::new(alloc, words)?;
+    let mut seen = BitSet::new(alloc, words)?;
     seen.insert(to);
     let mut levels = Vec::new(alloc);
     levels.push(first)?;
@@ -82,22 +84,22 @@ fn levels_to(alloc: Global, graph: &Graph, to: usize) -> Result<Option<Vec<Row>>
 /// The askers of the level that were not seen yet.
 fn next_level(
     alloc: Global,
-    askers: &[Row],
+    askers: &[BitSet],
     twins: &[usize],
-    level: &Row,
-    seen: &Row,
-) -> Result<Row, AllocError>
+    level: &BitSet,
+    seen: &BitSet,
+) -> Result<BitSet, AllocError>
     requires twins { AreTwins askers.now twins.now }
-    requires inside { (k : ℕ) → has_place level.now k ≡ true → (k < length askers.now)
+    requires inside { (k : ℕ) → has_number level.now k ≡ true → (k < length askers.now)
         × (length (row_at askers.now k) ≡ length level.now) }
     requires words { length seen.now ≡ length level.now }
     requires small { length level.now ≤ 2 ^ 57 }
     ensures words { IfOk result (λ row. length row ≡ length level.now) }
-    ensures places { IfOk result (λ row. (v : ℕ) → has_place row v ≡ true
-        ↔ (((k : ℕ) × (has_place level.now k ≡ true) × (has_place (row_at askers.now k) v ≡ true))
-        × (has_place seen.now v ≡ false))) }
+    ensures places { IfOk result (λ row. (v : ℕ) → has_number row v ≡ true
+        ↔ (((k : ℕ) × (has_number level.now k ≡ true) × (has_number (row_at askers.now k) v ≡ true))
+        × (has_number seen.now v ≡ false))) }
 {
-    let mut next = level.union_of(alloc, askers, twins)?;
+    let mut next = union_of(alloc, level, askers, twins)?;
     next.remove_all(seen);
     Ok(next)
 }
@@ -107,7 +109,7 @@ fn walk(
     alloc: Global,
     graph: &Graph,
     from: usize,
-    levels: &[Row],
+    levels: &[BitSet],
 ) -> Result<Vec<ProcId>, AllocError>
     requires graph { IsGraph graph.now graph.now.waits.items }
     requires place { from < length graph.now.processes.items }

@@ -4,9 +4,10 @@ ghost use Rattle.std.specs.Prelude.{◌≡◌, ◌⊎◌, ℕ, ◌+◌, ◌<◌,
 ghost use Rattle.std.specs.List.Sorted.{IsStrictlyIncreasing, IsStrictlySortedBy};
 ghost use Rattle.cmh_frames.specs.Relation.{pair_cmp};
 ghost use Rattle.cmh_cycles.specs.Graphs.{AreAskers, IsGraph};
-ghost use Rattle.cmh_cycles.specs.Rows.{AreTwins, IsTable, has_place, row_at};
+ghost use Rattle.cmh_bits.specs.Bits.{has_number};
+ghost use Rattle.cmh_cycles.specs.Rows.{AreTwins, IsTable, row_at};
 
-use crate::row::Row;
+use cmh_bits::BitSet;
 use cmh_frames::ProcId;
 use std::alloc::{AllocError, Global};
 
@@ -18,9 +19,9 @@ pub struct Graph {
     /// The processes that wait, ascending.
     pub processes: Vec<ProcId>,
     /// At the place of each of them, the places of its holders.
-    pub holders: Vec<Row>,
+    pub holders: Vec<BitSet>,
     /// At the place of each of them, the places of its askers.
-    pub askers: Vec<Row>,
+    pub askers: Vec<BitSet>,
     /// At the place of each of them, a place with the same askers: a lower one, or its own.
     pub twins: Vec<usize>,
 }
@@ -81,30 +82,30 @@ fn askers_of(alloc: Global, waits: &[(ProcId, ProcId)]) -> Result<Vec<ProcId>, A
 }
 
 /// For n places, rows without any.
-fn empty_table(alloc: Global, n: usize) -> Result<Vec<Row>, AllocError>
+fn empty_table(alloc: Global, n: usize) -> Result<Vec<BitSet>, AllocError>
     ensures { IfOk result (λ table. IsTable table.items n (n / 64 + 1) (λ a b. ⊥)) }
 {
     let mut table = Vec::new(alloc);
     for place in 0..n {
-        table.push(Row::new(alloc, n / 64 + 1)?)?;
+        table.push(BitSet::new(alloc, n / 64 + 1)?)?;
     }
     Ok(table)
 }
 
 /// Adds the place b to the row of the place a.
-fn relate(table: &mut Vec<Row>, a: usize, b: usize)
+fn relate(table: &mut Vec<BitSet>, a: usize, b: usize)
     requires within { a < length table.old.items }
     requires words { b / 64 < length (row_at table.old.items a) }
     ensures long { length table.new.items ≡ length table.old.items }
     ensures wide { (k : ℕ) → length (row_at table.new.items k) ≡ length (row_at table.old.items k) }
-    ensures places { (k v : ℕ) → has_place (row_at table.new.items k) v
-        ≡ (((k == a) && (v == b)) || has_place (row_at table.old.items k) v) }
+    ensures places { (k v : ℕ) → has_number (row_at table.new.items k) v
+        ≡ (((k == a) && (v == b)) || has_number (row_at table.old.items k) v) }
 {
     table[a].insert(b);
 }
 
 /// A twin for each place.
-fn twins_of(alloc: Global, holders: &[Row], askers: &[Row]) -> Result<Vec<usize>, AllocError>
+fn twins_of(alloc: Global, holders: &[BitSet], askers: &[BitSet]) -> Result<Vec<usize>, AllocError>
     requires holders { (k : ℕ) → length (row_at holders.now k) ≤ 2 ^ 57 }
     requires askers { (k : ℕ) → length (row_at askers.now k) ≤ 2 ^ 57 }
     ensures { IfOk result (λ twins. AreTwins askers.now twins.items) }
@@ -118,7 +119,7 @@ fn twins_of(alloc: Global, holders: &[Row], askers: &[Row]) -> Result<Vec<usize>
 
 /// A place with the same askers: who asks, asks for several at once, so the least holder of an asker often has the
 /// same askers as its others.
-fn twin_of(holders: &[Row], askers: &[Row], place: usize) -> usize
+fn twin_of(holders: &[BitSet], askers: &[BitSet], place: usize) -> usize
     requires place { place < length askers.now }
     requires holders { (k : ℕ) → length (row_at holders.now k) ≤ 2 ^ 57 }
     requires askers { (k : ℕ) → length (row_at askers.now k) ≤ 2 ^ 57 }

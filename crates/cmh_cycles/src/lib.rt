@@ -3,8 +3,7 @@
 
 mod cycle;
 mod graph;
-mod row;
+mod unions;
 
 pub use crate::cycle::shortest_cycle;
 pub use crate::graph::{Graph, place_of};
-pub use crate::row::Row;

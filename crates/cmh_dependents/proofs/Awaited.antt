@@ -4,7 +4,8 @@ use Rattle.std.proofs.lemmas.Bool.{eq-eqb, ne_eqb, and_parts, and_from, or_cases
 use Rattle.cmh_frames.specs.Paths.{DependsOnItselfAmong}
 use Rattle.cmh_frames.specs.Relation.{has}
 use Rattle.cmh_waits.specs.Held.{Held, IsMember}
-use Rattle.cmh_waits.specs.Rows.{is_set, joins}
+use Rattle.cmh_bits.specs.Bits.{is_set}
+use Rattle.cmh_waits.specs.Rows.{joins}
 use Rattle.cmh_dependents.specs.Marks.{AreLeaving, AreReached, StaysHere}
 use Rattle.cmh_dependents.specs.Inner.Bits.{AreAwaited}
 use Rattle.cmh_dependents.proofs.Cycles.{depends_from, last_wait}

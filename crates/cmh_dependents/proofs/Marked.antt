@@ -9,7 +9,7 @@ use Rattle.std.proofs.lemmas.List.Elements.{Contains-push, Contains-append_left,
 use Rattle.std.proofs.lemmas.Bool.{cases_eq}
 use Rattle.std.proofs.lemmas.Map.Keys.{sorted_from_strictly_increasing, below_from_sorted}
 use Rattle.cmh_dependents.specs.Inner.Bits.{AreThose}
-use Rattle.cmh_waits.specs.Rows.{is_set}
+use Rattle.cmh_bits.specs.Bits.{is_set}
 
 -- an ascending list stays so with a greater number at its end
 pub IsStrictlyIncreasing-push : (xs : List ℕ) (p : ℕ) → IsStrictlyIncreasing xs → ((q : ℕ) → Contains xs q → q < p) → IsStrictlyIncreasing (xs ++ p ∷ [])

@@ -8,7 +8,7 @@ use Rattle.std.proofs.lemmas.Nat.Bits.{bit_at-lt, same_from_bits}
 use Rattle.cmh_frames.specs.Paths.{IsPath, WaitsAmong}
 use Rattle.cmh_frames.specs.Relation.{has}
 use Rattle.cmh_waits.specs.Held.{Held, IsMember}
-use Rattle.cmh_waits.specs.Rows.{is_set}
+use Rattle.cmh_bits.specs.Bits.{is_set}
 use Rattle.cmh_waits.proofs.RowLemmas.{in_at, found_place, same_place}
 use Rattle.cmh_dependents.specs.Marks.{IsMarked, AreReached, ReachesHere}
 use Rattle.cmh_dependents.specs.Inner.Bits.{AreThose}

@@ -5,10 +5,11 @@ ghost use Rattle.std.specs.Prelude.{Contains, IfOk, IsTrue};
 ghost use Rattle.std.specs.List.Sorted.{IsStrictlyIncreasing};
 ghost use Rattle.cmh_frames.specs.Paths.{DependsOnItselfAmong, ReachesAmong};
 ghost use Rattle.cmh_waits.specs.Held.{IsMember};
-ghost use Rattle.cmh_waits.specs.Rows.{is_set};
+ghost use Rattle.cmh_bits.specs.Bits.{is_set};
 ghost use Rattle.cmh_dependents.specs.Marks.{AreLeaving, AreReached, IsMarked, StaysHere};
 ghost use Rattle.cmh_dependents.specs.Inner.Bits.{AreAwaited, AreThose};
 
+use cmh_bits::{beyond, either, has_bit, lowest, with_bit, without_bit};
 use cmh_frames::ProcId;
 use cmh_waits::LocalWaits;
 use std::alloc::{AllocError, Global};
@@ -42,7 +43,7 @@ impl Reach {
         Reach {
             places: found.reached,
             leaving: found.leaving,
-            on_cycle: is_marked(found.awaited, start),
+            on_cycle: has_bit(found.awaited, start),
         }
     }
 
@@ -51,7 +52,7 @@ impl Reach {
         requires { place < 64 }
         ensures { result ≡ is_set self.places place }
     {
-        is_marked(self.places, place)
+        has_bit(self.places, place)
     }
 
     /// Whether the process is a member that is reached.
@@ -122,7 +123,7 @@ fn reached_from(waits: &LocalWaits, start: usize) -> Found
         let fresh = beyond(row, reached);
         awaited = either(awaited, row);
         leaving = with_leaving(leaving, waits, place);
-        work = either(without(work, place), fresh);
+        work = either(without_bit(work, place), fresh);
         reached = either(reached, fresh);
     }
     Found {
@@ -142,51 +143,8 @@ fn with_leaving(row: u64, waits: &LocalWaits, place: usize) -> u64
     if waits.remote_at(place).is_empty() {
         row
     } else {
-        row | 1 << place
+        with_bit(row, place)
     }
-}
-
-/// Whether the row has a 1 at the place.
-fn is_marked(row: u64, place: usize) -> bool
-    requires { place < 64 }
-    ensures { result ≡ is_set row place }
-{
-    row >> place & 1 == 1
-}
-
-/// The place of the lowest 1 of a row.
-pub fn lowest(row: u64) -> usize
-    requires { 0 < row }
-    ensures within { result < 64 }
-    ensures set { is_set row result ≡ true }
-    ensures least { (k : ℕ) → k < result → is_set row k ≡ false }
-{
-    row.trailing_zeros() as usize
-}
-
-/// The row with a 0 at the place, where it has a 1.
-pub fn without(row: u64, place: usize) -> u64
-    requires within { place < 64 }
-    requires set { is_set row place ≡ true }
-    ensures bits { (k : ℕ) → is_set result k ≡ (not (k == place) && is_set row k) }
-    ensures less { result < row }
-{
-    row & !(1 << place)
-}
-
-/// The bits of the row that the other one lacks.
-fn beyond(row: u64, other: u64) -> u64
-    ensures { (k : ℕ) → is_set result k ≡ (is_set row k && not (is_set other k)) }
-{
-    row & !other
-}
-
-/// The bits of either.
-fn either(row: u64, other: u64) -> u64
-    ensures bits { (k : ℕ) → is_set result k ≡ (is_set row k || is_set other k) }
-    ensures no_less { row ≤ result }
-{
-    row | other
 }
 
 /// The members with a 1 at their place, in their order.
@@ -197,7 +155,7 @@ fn members_of(alloc: Global, members: &[ProcId], row: u64) -> Result<Vec<ProcId>
 {
     let mut marked = Vec::new(alloc);
     for (place, member) in members.iter().enumerate() {
-        if is_marked(row, place) {
+        if has_bit(row, place) {
             marked.push(*member)?;
         }
     }

@@ -1,6 +1,5 @@
 -- This crate's own words. No contract of what it gives to its callers cites them.
 pub mod Codes
 pub mod Kept
-pub mod Marks
 pub mod Pairs
 pub mod Twice

@@ -2,18 +2,21 @@
 
 ghost use Rattle.std.specs.Prelude.{◌≡◌, ◌==◌, ℕ, false, IfErr, IfOk, length, map, nat_lt, None};
 ghost use Rattle.std.specs.List.{list_any, sum_by};
+ghost use Rattle.cmh_bits.specs.Bits as bits;
 ghost use Rattle.cmh_frames.specs.Edition.{process_limit};
-ghost use Rattle.cmh_frames.specs.Inner.Marks.{has_mark};
 ghost use Rattle.cmh_frames.specs.Rows as spec;
 ghost use Rattle.cmh_frames.specs.Rows.{all_members, fault_of, repeats, IsFaultOf, Row};
 ghost use Rattle.cmh_frames.specs.Inner.Twice.{repeats_process as names_again};
 ghost use Rattle.cmh_frames.specs.Inner.Kept.{is_bad as is_no_number, members_in};
 
 use crate::edition::Edition;
-use crate::marks::{WORDS, is_marked, mark};
+use cmh_bits::{has_number, insert_number};
 use cmh_runs::is_number;
 use std::marker::Model;
 use thiserror::Error;
+
+/// How many words have a bit for each of the 65,536 numbers that a row can give. They lie on the stack: 8 KB.
+const WORDS: usize = 1024;
 
 /// A site and its processes, as they are given: any numbers, in any order.
 #[derive(Debug, Drop)]
@@ -156,17 +159,18 @@ fn repeats_process(rows: &[SiteRow]) -> bool
 /// number that is named.
 fn names_twice(rows: &[SiteRow], named: &mut [u64]) -> bool
     requires all { length named.old ≡ 1024 }
-    requires unmarked { (p : ℕ) → has_mark named.old p ≡ false }
+    requires unmarked { (p : ℕ) → bits.has_number named.old p ≡ false }
     ensures { result ≡ names_again rows.now }
 {
     for later in 0..rows.len() {
         let row = &rows[rows.len() - 1 - later];
         for behind in 0..row.processes.len() {
             let process = row.processes[row.processes.len() - 1 - behind];
-            if is_marked(named, process) {
+            let number = usize::from(process);
+            if has_number(named, number) {
                 return true;
             }
-            mark(named, process);
+            insert_number(named, number);
         }
     }
     false

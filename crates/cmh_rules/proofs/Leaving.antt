@@ -13,7 +13,7 @@ use Rattle.cmh_frames.specs.declared.frame.Frame.{Frame}
 use Rattle.cmh_frames.specs.declared.frame.Frame.TheVariants.{Probe}
 use Rattle.cmh_frames.specs.Relation.{Relation, pair_cmp, has, has_some}
 use Rattle.cmh_waits.specs.Held.{Held, is_member, IsMember}
-use Rattle.cmh_waits.specs.Rows.{is_set}
+use Rattle.cmh_bits.specs.Bits.{is_set}
 use Rattle.cmh_dependents.specs.Marks.{AreLeaving, IsMarked}
 use Rattle.cmh_dependents.proofs.Marked.{AreMarkedBelow, none_below, skip_member, take_member, all_below}
 use Rattle.std.proofs.lemmas.Map.Keys.{sorted_from_strictly_increasing, below_from_sorted}

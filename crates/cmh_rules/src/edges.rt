@@ -4,7 +4,8 @@ ghost use Rattle.std.specs.Prelude.{◌≡◌, ◌≢◌, ℕ, ◌++◌, map, If
 ghost use Rattle.cmh_dependents.specs.Marks.{AreLeaving, IsMarked};
 ghost use Rattle.cmh_rules.specs.Verdicts.{AreProbesOf};
 
-use cmh_dependents::{Reach, lowest, without};
+use cmh_bits::{lowest, without_bit};
+use cmh_dependents::Reach;
 use cmh_frames::{Frame, Probe, ProcId};
 use cmh_waits::LocalWaits;
 use std::alloc::{AllocError, Global};
@@ -30,7 +31,7 @@ pub fn probes_along(
             return Ok(frames);
         };
         push_probes(&mut frames, origin, process, waits.remote_at(place))?;
-        left = without(left, place);
+        left = without_bit(left, place);
     }
     Ok(frames)
 }

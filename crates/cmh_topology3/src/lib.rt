@@ -1,7 +1,6 @@
 //! The world of edition 3: its number, and which process is at which site.
 #![tactic(auto)]
 
-mod marks;
 mod rows;
 mod topology;
 mod world;

@@ -11,9 +11,10 @@ use Rattle.cmh_frames.specs.Relation.{has, has_some, only_firsts, with_each}
 use Rattle.cmh_frames.specs.Rules.{IsAscending, owed_after_ask}
 use Rattle.cmh_frames.proofs.Pairs.{has-none, has-only, has-with_each, has-with_each_other}
 use Rattle.cmh_waits.specs.Held.{owed_before_ask}
-use Rattle.cmh_waits.specs.Rows.{AreRows, bit_of, is_at_in, is_in, is_set, relation_of}
+use Rattle.cmh_bits.specs.Bits.{is_set}
+use Rattle.cmh_waits.specs.Rows.{AreRows, bit_of, is_at_in, is_in, relation_of}
 use Rattle.cmh_waits.proofs.Asks.{has-after_ask, has-before_ask, owes_since}
-use Rattle.cmh_waits.proofs.BitLemmas.{no_bit}
+use Rattle.cmh_bits.proofs.BitLemmas.{no_bit}
 use Rattle.cmh_waits.proofs.RowLemmas.{has_bit_at, has_listed, has_none, in_at, relation_is, same_place}
 
 -- one more in front of what ascends

@@ -1,4 +1,3 @@
-pub mod BitLemmas
 pub mod Sets
 pub mod Ordered
 pub mod Members

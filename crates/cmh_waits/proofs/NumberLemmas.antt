@@ -4,21 +4,21 @@ use Rattle.std.specs.List.{filter, range_with_len}
 use Rattle.std.specs.List.Sorted.{IsStrictlyIncreasing}
 use Rattle.std.proofs.Math.Bool.{and-false, and-true}
 use Rattle.std.proofs.lemmas.Bool.{and_parts, eq-eqb, ne_eqb, eqb-true, cases_eq, cases_lt, cases_Bool}
-use Rattle.std.proofs.lemmas.List.{get_or_past, get_or-set_same, get_or-set_other, length-set}
+use Rattle.std.proofs.lemmas.List.{get_or-set_same, get_or-set_other, length-set}
 use Rattle.std.proofs.lemmas.List.Elements.{filter-append}
 use Rattle.std.proofs.lemmas.List.FromFn.{length-range_with_len, get_or-range_with_len}
 use Rattle.std.proofs.lemmas.Map.Views.{any-filter_same}
 use Rattle.cmh_frames.specs.Number.{IsNumber}
-use Rattle.cmh_waits.specs.Numbers.{AreNumbers, has_number, numbers_in}
-use Rattle.cmh_waits.specs.Rows.{is_in, is_set}
-use Rattle.cmh_waits.proofs.BitLemmas.{no_bit}
+use Rattle.cmh_bits.specs.Bits.{has_number}
+use Rattle.cmh_waits.specs.Numbers.{AreNumbers, numbers_in}
+use Rattle.cmh_bits.specs.Bits.{is_set}
+use Rattle.cmh_waits.specs.Rows.{is_in}
+use Rattle.cmh_bits.proofs.BitLemmas.{no_bit}
+use Rattle.cmh_bits.proofs.WordLemmas.{none_past}
 use Rattle.cmh_waits.proofs.Ordered.{filter_all}
 use Rattle.cmh_waits.proofs.RowLemmas.{in_at}
 
 -- ---- what is in the list of the numbers
-
-pub none_past : (ws : List ℕ) (k : ℕ) → length ws ≤ k / 64 → has_number ws k ≡ false
-none_past ws k past = ap (λ w. is_set w (k % 64)) (get_or_past ws (k / 64) 0 past) ∙ no_bit (k % 64)
 
 pub in_numbers : (ws : List ℕ) (q : ℕ) → is_in (numbers_in ws) q ≡ has_number ws q
 in_numbers ws q =

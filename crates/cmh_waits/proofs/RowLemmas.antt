@@ -14,9 +14,10 @@ use Rattle.cmh_frames.specs.Relation.{Relation, has, has_some, with_pair, withou
 use Rattle.cmh_waits.proofs.Sets.{is_pair}
 use Rattle.cmh_frames.proofs.Members.{found_at, found_from, not_decreasing}
 use Rattle.cmh_frames.proofs.Pairs.{has-with, has-without, has-none, has_some-to, same_relation}
-use Rattle.cmh_waits.proofs.BitLemmas.{no_bit, none_set}
+use Rattle.cmh_bits.proofs.BitLemmas.{no_bit, none_set}
 use Rattle.cmh_waits.proofs.Sets.{has-from_list}
-use Rattle.cmh_waits.specs.Rows.{AreRows, bit_of, is_at_in, is_in, is_set, joins, place_in, pairs_of, seconds_in, relation_of}
+use Rattle.cmh_bits.specs.Bits.{is_set}
+use Rattle.cmh_waits.specs.Rows.{AreRows, bit_of, is_at_in, is_in, joins, place_in, pairs_of, seconds_in, relation_of}
 
 -- ---- the pairs that are made
 

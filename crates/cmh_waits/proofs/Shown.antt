@@ -11,8 +11,9 @@ use Rattle.cmh_frames.specs.Relation.{Relation, has}
 use Rattle.cmh_frames.proofs.Members.{found_at, found_from}
 use Rattle.cmh_frames.proofs.Pairs.{has-empty}
 use Rattle.cmh_waits.specs.Held.{Held, IsMember, is_member, nothing_held}
-use Rattle.cmh_waits.specs.Rows.{AreRows, is_in, is_set, place_in, relation_of}
-use Rattle.cmh_waits.proofs.BitLemmas.{no_bit}
+use Rattle.cmh_bits.specs.Bits.{is_set}
+use Rattle.cmh_waits.specs.Rows.{AreRows, is_in, place_in, relation_of}
+use Rattle.cmh_bits.proofs.BitLemmas.{no_bit}
 use Rattle.cmh_waits.proofs.RowLemmas.{found_place, has_bit_at, has_listed, has_none, place_at, relation_is}
 
 -- ---- in the beginning

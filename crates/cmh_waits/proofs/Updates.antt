@@ -8,7 +8,8 @@ use Rattle.std.proofs.lemmas.List.{set-get_or, length-set}
 use Rattle.cmh_frames.specs.Relation.{Relation, has, has_some, with_pair, without_pair}
 use Rattle.cmh_frames.proofs.Pairs.{has_some-from}
 use Rattle.cmh_waits.specs.Held.{Held, is_member, got_request, replied}
-use Rattle.cmh_waits.specs.Rows.{AreRows, bit_of, is_in, is_set, relation_of}
+use Rattle.cmh_bits.specs.Bits.{is_set}
+use Rattle.cmh_waits.specs.Rows.{AreRows, bit_of, is_in, relation_of}
 use Rattle.cmh_waits.proofs.Asks.{same_held}
 use Rattle.cmh_waits.proofs.ListLemmas.{in_less}
 use Rattle.cmh_waits.proofs.RowLemmas.{bit_of-without, less_bit, rows_less, rows_list, more_listed, less_listed}

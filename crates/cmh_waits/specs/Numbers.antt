@@ -1,12 +1,8 @@
 -- Words of bits: the bit k % 64 of the word k / 64 stands for the number k.
-use Rattle.std.specs.Prelude.{◌≡◌, ℕ, ◌*◌, ◌/◌, ◌%◌, ◌≤◌, Bool, true, List, filter, length, slice_index_or}
+use Rattle.std.specs.Prelude.{◌≡◌, ℕ, ◌*◌, ◌≤◌, true, List, filter, length}
 use Rattle.std.specs.List.{range_with_len}
+use Rattle.cmh_bits.specs.Bits.{has_number}
 use Rattle.cmh_frames.specs.Number.{IsNumber}
-use Rattle.cmh_waits.specs.Rows.{is_set}
-
--- whether the words have a 1 for the number
-abbrev pub has_number : List ℕ → ℕ → Bool
-has_number words k = is_set (slice_index_or words (k / 64) 0) (k % 64)
 
 -- the numbers with a 1, ascending
 abbrev pub numbers_in : List ℕ → List ℕ

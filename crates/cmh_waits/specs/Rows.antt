@@ -1,15 +1,11 @@
 -- Rows of bits and lists of processes, one for each member, as the relation that they stand for.
 use Rattle.std.specs.Prelude.{◌≡◌, ℕ, ◌<◌, Bool, true, false, ◌&&◌, List, [], ◌∷◌, ◌++◌, ◌==◌}
 use Rattle.std.specs.Prelude.{map, filter, length, nat_lt, slice_index, slice_index_or}
-use Rattle.std.specs.Int.{bit_at}
 use Rattle.std.specs.List.{list_any, position_or_len}
 use Rattle.std.specs.FinSet as set
+use Rattle.cmh_bits.specs.Bits.{is_set}
 use Rattle.cmh_frames.specs.Relation.{Relation, has}
 use Rattle.cmh_waits.specs.Held.{Held, IsKept}
-
--- whether the number has a 1 at the place
-abbrev pub is_set : ℕ → ℕ → Bool
-is_set n k = bit_at n k == 1
 
 -- whether the row at the place a has a 1 at b
 abbrev pub bit_of : List ℕ → ℕ → ℕ → Bool

@@ -8,12 +8,13 @@ ghost use Rattle.cmh_frames.specs.Relation.{has, has_some};
 ghost use Rattle.cmh_frames.specs.Rules.{IsAscending};
 ghost use Rattle.cmh_waits.specs.Held.{IsMember, is_member, nothing_held, wakes};
 ghost use Rattle.cmh_waits.specs.Held.{asked, before_ask, before_request, got_reply, got_request, replied};
-ghost use Rattle.cmh_waits.specs.Rows.{AreRows, bit_of, is_at_in, is_in, is_set, joins, place_in, relation_of};
+ghost use Rattle.cmh_bits.specs.Bits.{is_set};
+ghost use Rattle.cmh_waits.specs.Rows.{AreRows, bit_of, is_at_in, is_in, joins, place_in, relation_of};
 
-use crate::bits::{has_bit, with_bit, without_bit};
 use crate::member_table::MemberTable;
 use crate::proc_bits::ProcBits;
 use crate::proc_list::ProcList;
+use cmh_bits::{has_bit, with_bit, without_bit};
 use cmh_frames::ProcId;
 use std::alloc::{AllocError, Global};
 use std::marker::Model;

@@ -4,10 +4,12 @@ ghost use Rattle.std.specs.Prelude.{◌≡◌, ℕ, [], ◌+◌, ◌-◌, ◌/�
 ghost use Rattle.std.specs.List.{range_with_len};
 ghost use Rattle.std.specs.List.Sorted.{IsStrictlyIncreasing};
 ghost use Rattle.cmh_frames.specs.Number.{IsNumber};
-ghost use Rattle.cmh_waits.specs.Numbers.{AreNumbers, has_number};
-ghost use Rattle.cmh_waits.specs.Rows.{is_in, is_set};
+ghost use Rattle.cmh_bits.specs.Bits.{has_number};
+ghost use Rattle.cmh_waits.specs.Numbers.{AreNumbers};
+ghost use Rattle.cmh_bits.specs.Bits.{is_set};
+ghost use Rattle.cmh_waits.specs.Rows.{is_in};
 
-use crate::bits::{flipped, has_bit, lowest, with_bit, without_bit};
+use cmh_bits::{flipped, has_bit, lowest, with_bit, without_bit};
 use cmh_frames::ProcId;
 use std::alloc::{AllocError, Global};
 use std::marker::Model;

@@ -1,11 +1,12 @@
 -- The places from which a fixed one is reached, level by level.
 use Rattle.std.specs.Prelude.{◌≡◌, ℕ, ◌+◌, ◌-◌, ◌<◌, ◌≤◌, true, List, length}
 use Rattle.cmh_frames.specs.Paths.{IsPath}
-use Rattle.cmh_cycles.specs.Rows.{has_place, row_at}
+use Rattle.cmh_bits.specs.Bits.{has_number}
+use Rattle.cmh_cycles.specs.Rows.{row_at}
 
 -- the level d has the place
 abbrev pub IsIn : List (List ℕ) → ℕ → ℕ → Type 0
-IsIn levels d v = has_place (row_at levels d) v ≡ true
+IsIn levels d v = has_number (row_at levels d) v ≡ true
 
 -- the level d has the places from which `to` is reached by d steps and no fewer
 pub record AreLevels (R : ℕ → ℕ → Type 0) (to : ℕ) (levels : List (List ℕ)) : Type 0 where

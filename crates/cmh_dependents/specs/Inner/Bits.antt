@@ -2,7 +2,8 @@
 use Rattle.std.specs.Prelude.{◌≡◌, ℕ, ◌↔◌, true, List, Contains}
 use Rattle.std.specs.List.Sorted.{IsStrictlyIncreasing}
 use Rattle.cmh_waits.specs.Held.{Held}
-use Rattle.cmh_waits.specs.Rows.{is_set, joins}
+use Rattle.cmh_bits.specs.Bits.{is_set}
+use Rattle.cmh_waits.specs.Rows.{joins}
 use Rattle.cmh_dependents.specs.Marks.{IsMarked}
 
 -- the list has the members with a 1, ascending

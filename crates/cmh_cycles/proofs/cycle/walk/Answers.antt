@@ -1,7 +1,8 @@
 use Rattle.std.proofs.Common.{◌≡◌, ℕ, ◌+◌, ◌-◌, ◌∙◌, ◌++◌, ◌∷◌, [], List, length, map, get_or, sym, ap, subst, arith, refl}
 use Rattle.std.proofs.lemmas.List.{get_or_default}
 use Rattle.cmh_cycles.specs.Graphs.{WaitsAt}
-use Rattle.cmh_cycles.specs.Rows.{has_place, row_at}
+use Rattle.cmh_bits.specs.Bits.{has_number}
+use Rattle.cmh_cycles.specs.Rows.{row_at}
 use Rattle.cmh_cycles.proofs.LevelLemmas.{words_small}
 use Rattle.cmh_cycles.proofs.CycleLemmas.{IsWalking, walk_start, walk_more, walk_goes_on, walk_end, map_push}
 use Rattle.cmh_cycles.proofs.cycle.walk.Goals as goal
@@ -67,7 +68,7 @@ unreachable-requires c =
     let at_left : c.loop-left.left ≡ (c.loop-left.left - 1) + 1 = omega (arith, some) in
     let walking = subst (IsWalking R c.args.from c.args.levels.now c.loop-left.invariant.places c.loop-left.at) at_left c.loop-left.invariant.walking in
     walk_goes_on R c.args.from c.args.levels.now c.requires.back c.loop-left.invariant.places c.loop-left.at (c.loop-left.left - 1) walking
-    (λ k h r. c.in-None.ensures.none k (ap (λ (l : List ℕ). has_place l k) (sym level) ∙ h) (ap (λ (l : List ℕ). has_place l k) (sym row) ∙ (c.requires.graph.holders.are c.loop-left.at k).1 r))
+    (λ k h r. c.in-None.ensures.none k (ap (λ (l : List ℕ). has_number l k) (sym level) ∙ h) (ap (λ (l : List ℕ). has_number l k) (sym row) ∙ (c.requires.graph.holders.are c.loop-left.at k).1 r))
 
 pub index-requires-in-Some : goal.index-requires-in-Some
 index-requires-in-Some c =
@@ -81,7 +82,7 @@ index-requires-in-Some c =
     let row : row_at g.holders.items c.loop-left.at ≡ c.index-in-loop-left.result.now = sym (c.index-in-loop-left.ensures ∙ get_or_default g.holders.items c.loop-left.at c.index-in-loop-left.result.now [] (omega (arith, inside, long))) in
     let at_left : c.loop-left.left ≡ (c.loop-left.left - 1) + 1 = omega (arith, some) in
     let walking = subst (IsWalking R c.args.from c.args.levels.now c.loop-left.invariant.places c.loop-left.at) at_left c.loop-left.invariant.walking in
-    let step = (c.requires.graph.holders.are c.loop-left.at c.in-Some.next).0 (ap (λ (l : List ℕ). has_place l c.in-Some.next) row ∙ c.in-Some.ensures.some.1) in
+    let step = (c.requires.graph.holders.are c.loop-left.at c.in-Some.next).0 (ap (λ (l : List ℕ). has_number l c.in-Some.next) row ∙ c.in-Some.ensures.some.1) in
     let below = step.1 in
     let own = g.processes.ok.0 in
     omega (arith, below, own)
@@ -99,7 +100,7 @@ loop-left-preserved c =
     let at_left : c.loop-left.left ≡ (c.loop-left.left - 1) + 1 = omega (arith, some) in
     let walking = subst (IsWalking R c.args.from c.args.levels.now c.loop-left.invariant.places c.loop-left.at) at_left c.loop-left.invariant.walking in
     let next = c.in-Some.next in
-    let step = (c.requires.graph.holders.are c.loop-left.at next).0 (ap (λ (l : List ℕ). has_place l next) row ∙ c.in-Some.ensures.some.1) in
+    let step = (c.requires.graph.holders.are c.loop-left.at next).0 (ap (λ (l : List ℕ). has_number l next) row ∙ c.in-Some.ensures.some.1) in
     let name : ℕ → ℕ = λ a. get_or g.processes.items a 0 in
     record {
       places = c.loop-left.invariant.places ++ next ∷ [];
@@ -107,8 +108,8 @@ loop-left-preserved c =
           ∙ ap (λ x. map name c.loop-left.invariant.places ++ x ∷ []) (c.index-in-Some.ensures ∙ get_or_default g.processes.items next c.index-in-Some.result.now 0 step.1) ∙ map_push name c.loop-left.invariant.places next;
       inside = step.1;
       few = omega (arith, few, some);
-      walking = walk_more R c.args.from c.args.levels.now c.requires.back c.loop-left.invariant.places c.loop-left.at (c.loop-left.left - 1) next walking step (ap (λ (l : List ℕ). has_place l next) level ∙ c.in-Some.ensures.some.0)
-          (λ k h r. c.in-Some.ensures.least k (ap (λ (l : List ℕ). has_place l k) (sym level) ∙ h) (ap (λ (l : List ℕ). has_place l k) (sym row) ∙ (c.requires.graph.holders.are c.loop-left.at k).1 r));
+      walking = walk_more R c.args.from c.args.levels.now c.requires.back c.loop-left.invariant.places c.loop-left.at (c.loop-left.left - 1) next walking step (ap (λ (l : List ℕ). has_number l next) level ∙ c.in-Some.ensures.some.0)
+          (λ k h r. c.in-Some.ensures.least k (ap (λ (l : List ℕ). has_number l k) (sym level) ∙ h) (ap (λ (l : List ℕ). has_number l k) (sym row) ∙ (c.requires.graph.holders.are c.loop-left.at k).1 r));
     }
 
 pub returns : goal.returns

@@ -1,11 +1,11 @@
-use Rattle.std.proofs.Common.{◌≡◌, ◌-◌, ◌<◌, length, get_or, sym, ap, subst, ◌∙◌, rules}
-use Rattle.cmh_frames.specs.Inner.Marks.{has_mark}
+use Rattle.std.proofs.Common.{◌≡◌, ◌-◌, ◌<◌, ◌||◌, ◌==◌, length, get_or, sym, ap, subst, ◌∙◌, rules}
+use Rattle.cmh_bits.specs.Bits.{has_number}
 use Rattle.cmh_frames.specs.Rows.{Row}
 use Rattle.cmh_frames.proofs.Repeats.{named_twice, named_once, one_named}
 use Rattle.cmh_frames.proofs.rows.names_twice.Goals as goal
 
-pub returns-then-is_marked : goal.returns-then-is_marked
-returns-then-is_marked c =
+pub returns-then-has_number : goal.returns-then-has_number
+returns-then-has_number c =
     let rows = c.args.rows.now in
     let row : Row = (c.row.inside.site, c.row.inside.processes.items) in
     let row_is : row ≡ get_or rows (length rows - 1 - c.loop-later.later) row = subst (λ (r : Row). r ≡ get_or rows (length rows - 1 - c.loop-later.later) r) (sym c.row.view_is) c.index-rows-rows.is in
@@ -13,7 +13,7 @@ returns-then-is_marked c =
     let p = c.index-process.result.now in
     let p_is : p ≡ get_or row.1 (length row.1 - 1 - c.loop-behind.behind) p = c.index-process.ensures ∙ ap (λ n. get_or row.1 (n - 1 - c.loop-behind.behind) p) len in
     sym (named_twice rows c.loop-later.later row c.loop-behind.behind p c.loop-later-test.true row_is (search rules) p_is
-    (sym (c.loop-behind.invariant.marked p) ∙ sym c.is_marked.ensures ∙ c.if-is_marked.true))
+    (sym (c.loop-behind.invariant.marked p) ∙ ap (has_number c.loop-behind.named) (sym c.from-number.ensures) ∙ sym c.has_number.ensures ∙ c.if-has_number.true))
 
 pub loop-behind-preserved : goal.loop-behind-preserved
 loop-behind-preserved c =
@@ -26,6 +26,6 @@ loop-behind-preserved c =
     let inside : c.loop-behind.behind < length row.1 = search rules in
     record {
       all = search rules;
-      marked = one_named rows c.loop-later.later row c.loop-behind.behind p c.loop-later-test.true row_is inside p_is (has_mark c.loop-behind.named) (has_mark c.mark.new.marks) c.loop-behind.invariant.marked c.mark.ensures.marks;
-      once = named_once rows c.loop-later.later row c.loop-behind.behind p c.loop-later-test.true row_is inside p_is (sym (c.loop-behind.invariant.marked p) ∙ sym c.is_marked.ensures ∙ c.if-is_marked.false) c.loop-behind.invariant.once;
+      marked = one_named rows c.loop-later.later row c.loop-behind.behind p c.loop-later-test.true row_is inside p_is (has_number c.loop-behind.named) (has_number c.insert_number.new.words) c.loop-behind.invariant.marked (λ k. c.insert_number.ensures.numbers k ∙ ap (λ n. (k == n) || has_number c.loop-behind.named k) c.from-number.ensures);
+      once = named_once rows c.loop-later.later row c.loop-behind.behind p c.loop-later-test.true row_is inside p_is (sym (c.loop-behind.invariant.marked p) ∙ ap (has_number c.loop-behind.named) (sym c.from-number.ensures) ∙ sym c.has_number.ensures ∙ c.if-has_number.false) c.loop-behind.invariant.once;
     }

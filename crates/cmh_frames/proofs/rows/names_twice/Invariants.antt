@@ -1,6 +1,6 @@
 use Rattle.std.proofs.Common.{◌≡◌, ℕ, ◌-◌, false, ◌||◌, ◌==◌, length, drop}
 use Rattle.std.specs.List.{list_any}
-use Rattle.cmh_frames.specs.Inner.Marks.{has_mark}
+use Rattle.cmh_bits.specs.Bits.{has_number}
 use Rattle.cmh_frames.specs.Inner.Twice.{has_process, repeats_among, repeats_process}
 use Rattle.cmh_frames.proofs.rows.names_twice.Given as goal
 
@@ -8,7 +8,7 @@ use Rattle.cmh_frames.proofs.rows.names_twice.Given as goal
 abbrev pub invariant-loop-behind : goal.invariant-loop-behind
 invariant-loop-behind l = record {
   all : length l.named ≡ 1024;
-  marked : (p : ℕ) → has_mark l.named p
+  marked : (p : ℕ) → has_number l.named p
       ≡ (list_any (λ q. q == p) (drop (length l.row-inside.processes.items - l.behind) l.row-inside.processes.items) || has_process (drop (length l.rows - l.later) l.rows) p);
   once : repeats_among (drop (length l.rows - l.later) l.rows) (drop (length l.row-inside.processes.items - l.behind) l.row-inside.processes.items) ≡ false;
 }
@@ -17,6 +17,6 @@ invariant-loop-behind l = record {
 abbrev pub invariant-loop-later : goal.invariant-loop-later
 invariant-loop-later l = record {
   all : length l.named ≡ 1024;
-  marked : (p : ℕ) → has_mark l.named p ≡ has_process (drop (length l.rows - l.later) l.rows) p;
+  marked : (p : ℕ) → has_number l.named p ≡ has_process (drop (length l.rows - l.later) l.rows) p;
   once : repeats_process (drop (length l.rows - l.later) l.rows) ≡ false;
 }

@@ -3,8 +3,8 @@ use Rattle.std.specs.List.Sorted.{IsStrictlyIncreasing}
 use Rattle.std.proofs.lemmas.Option.{get_or_from_slice_get, slice_get_within}
 use Rattle.cmh_frames.specs.Relation.{has}
 use Rattle.cmh_waits.specs.Held.{is_member}
-use Rattle.cmh_waits.specs.Rows.{is_set}
-use Rattle.cmh_waits.proofs.BitLemmas.{no_bit}
+use Rattle.cmh_bits.specs.Bits.{is_set}
+use Rattle.cmh_bits.proofs.BitLemmas.{no_bit, none_below}
 use Rattle.cmh_waits.proofs.RowLemmas.{in_at}
 use Rattle.cmh_rules.proofs.Leaving.{apart, past_end, probes_of_leaving, without_end, without_member, without_none}
 use Rattle.cmh_rules.proofs.edges.probes_along.Goals as goal
@@ -22,7 +22,7 @@ returns-in_default c =
     let frames = c.loop-left.frames.items in
     let outside : length v.members ≤ place = past_end v.members place (sym c.member.ensures ∙ c.in_default.is) in
     probes_of_leaving v origin c.args.reach.places leaving frames c.requires
-    (without_end v origin leaving c.loop-left.left frames c.loop-left.invariant (λ k below. c.lowest-place.ensures.least k (omega (arith, below, outside))))
+    (without_end v origin leaving c.loop-left.left frames c.loop-left.invariant (λ k below. none_below c.loop-left.left place c.lowest-place.ensures.least k (omega (arith, below, outside))))
 
 -- the processes are members, and the targets are of other sites
 pub push_probes-requires : goal.push_probes-requires
@@ -48,7 +48,7 @@ loop-left-preserved c =
     let is = get_or_from_slice_get v.members place process 0 got in
     let each = subst (λ p. (k : ℕ) → Contains targets k ↔ ((has v.waits p k ≡ true) × (is_member v k ≡ false))) is (c.remote_at.ensures.all inside) in
     rw c.in_ok-push_probes.ensures
-    (without_member v origin leaving c.loop-left.left frames c.loop-left.invariant place c.without-left.result c.lowest-place.ensures.set c.lowest-place.ensures.least c.without-left.ensures.bits process targets up inside is c.remote_at.ensures.ascending each)
+    (without_member v origin leaving c.loop-left.left frames c.loop-left.invariant place c.without_bit-left.result c.lowest-place.ensures.set (none_below c.loop-left.left place c.lowest-place.ensures.least) c.without_bit-left.ensures.bits process targets up inside is c.remote_at.ensures.ascending each)
 
 pub returns : goal.returns
 returns c =

@@ -1,7 +1,8 @@
 use Rattle.std.proofs.Common.{◌≡◌, ◌+◌, ◌<◌, ◌∙◌, ◌++◌, ℕ, Bool, true, false, suc, zero, List, [], ◌∷◌, get_or, length, take, cond, sym, ap, refl, arith}
 use Rattle.std.specs.List.{filter}
 use Rattle.std.proofs.lemmas.List.{get_or_default}
-use Rattle.cmh_waits.specs.Rows.{is_set, place_in}
+use Rattle.cmh_bits.specs.Bits.{is_set}
+use Rattle.cmh_waits.specs.Rows.{place_in}
 use Rattle.cmh_waits.proofs.RowLemmas.{place_at}
 use Rattle.cmh_waits.proofs.local_waits.members_of.Goals as goal
 use Rattle.cmh_waits.proofs.local_waits.members_of.Goals.{then-has_bit+in_ok-push, else-has_bit}

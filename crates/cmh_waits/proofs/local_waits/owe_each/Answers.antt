@@ -1,6 +1,7 @@
 use Rattle.std.proofs.Common.{◌∙◌, ◌||◌, ◌&&◌, ◌==◌, sym, ap, length, take, ◌<◌, arith}
 use Rattle.std.proofs.lemmas.List.{get_or_default, length-set}
-use Rattle.cmh_waits.specs.Rows.{bit_of, is_at_in, is_set}
+use Rattle.cmh_bits.specs.Bits.{is_set}
+use Rattle.cmh_waits.specs.Rows.{bit_of, is_at_in}
 use Rattle.cmh_waits.proofs.RowLemmas.{bit_of-with, next_member, next_other, one_more_owes}
 use Rattle.cmh_waits.proofs.local_waits.owe_each.Goals as goal
 use Rattle.cmh_waits.proofs.local_waits.owe_each.Goals.{in-Some, in_default}

@@ -2,7 +2,7 @@ use Rattle.std.proofs.Common.{get_or, sym, ap, subst, ◌∙◌}
 use Rattle.std.specs.List.Sorted.{IsStrictlyIncreasing}
 use Rattle.std.proofs.lemmas.Bool.{eqb-true, eq-eqb}
 use Rattle.cmh_waits.proofs.RowLemmas.{same_place}
-use Rattle.cmh_waits.specs.Rows.{is_set}
+use Rattle.cmh_bits.specs.Bits.{is_set}
 use Rattle.cmh_dependents.proofs.reach.Reach.contains.Goals as goal
 
 pub returns-in-Some : goal.returns-in-Some

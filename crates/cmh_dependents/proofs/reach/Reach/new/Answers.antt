@@ -15,4 +15,4 @@ returns-clause-on_cycle c =
     let at = c.in-Some.ensures.place in
     let are = subst (λ (p : ℕ). AreReached v p r.reached) at.1 c.reached_from-found.ensures.reached in
     let cycle = cycle_at v c.in-Some.start c.args.from r.reached r.awaited at.0 at.1 are c.reached_from-found.ensures.awaited in
-    (λ h. cycle.0 (sym c.is_marked.ensures ∙ h), λ d. c.is_marked.ensures ∙ cycle.1 d)
+    (λ h. cycle.0 (sym c.has_bit.ensures ∙ h), λ d. c.has_bit.ensures ∙ cycle.1 d)

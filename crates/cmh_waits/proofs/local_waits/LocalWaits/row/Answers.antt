@@ -1,6 +1,7 @@
 use Rattle.std.proofs.Common.{ℕ, List, ◌∙◌, ap}
 use Rattle.cmh_waits.specs.Held.{Held}
-use Rattle.cmh_waits.specs.Rows.{bit_of, is_set, joins}
+use Rattle.cmh_bits.specs.Bits.{is_set}
+use Rattle.cmh_waits.specs.Rows.{bit_of, joins}
 use Rattle.cmh_waits.proofs.RowLemmas.{row_bits}
 use Rattle.cmh_waits.proofs.local_waits.LocalWaits.row.Goals as goal
 

@@ -2,8 +2,10 @@ use Rattle.std.proofs.Common.{◌∙◌, ◌/◌, ◌%◌, ◌<◌, ◌≤◌, s
 use Rattle.std.proofs.lemmas.Bool.{ltb-true, ltb-false}
 use Rattle.std.proofs.lemmas.List.{get_or_default}
 use Rattle.cmh_waits.specs.Numbers.{numbers_in}
-use Rattle.cmh_waits.specs.Rows.{is_in, is_set}
-use Rattle.cmh_waits.proofs.NumberLemmas.{in_numbers, none_past}
+use Rattle.cmh_bits.specs.Bits.{is_set}
+use Rattle.cmh_waits.specs.Rows.{is_in}
+use Rattle.cmh_bits.proofs.WordLemmas.{none_past}
+use Rattle.cmh_waits.proofs.NumberLemmas.{in_numbers}
 use Rattle.cmh_waits.proofs.proc_bits.ProcBits.contains.Goals as goal
 
 pub returns-in-Some : goal.returns-in-Some

@@ -3,7 +3,7 @@ use Rattle.std.specs.List.{range_with_len}
 use Rattle.std.specs.List.Sorted.{IsStrictlyIncreasing}
 use Rattle.std.proofs.lemmas.List.{get_or_default}
 use Rattle.std.proofs.lemmas.List.Kept.{IsStrictlyIncreasing-filter}
-use Rattle.cmh_waits.specs.Numbers.{has_number}
+use Rattle.cmh_bits.specs.Bits.{has_number}
 use Rattle.cmh_waits.proofs.NumberLemmas.{has_at, range_increasing, word_more}
 use Rattle.cmh_waits.proofs.proc_bits.ProcBits.to_vec.Goals as goal
 

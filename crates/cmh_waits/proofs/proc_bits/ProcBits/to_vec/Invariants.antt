@@ -1,6 +1,6 @@
 use Rattle.std.proofs.Common.{◌≡◌, ◌*◌}
 use Rattle.std.specs.List.{filter, range_with_len}
-use Rattle.cmh_waits.specs.Numbers.{has_number}
+use Rattle.cmh_bits.specs.Bits.{has_number}
 use Rattle.cmh_waits.proofs.proc_bits.ProcBits.to_vec.Given as goal
 
 -- the processes of the words so far

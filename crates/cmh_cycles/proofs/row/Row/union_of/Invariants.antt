@@ -1,5 +1,0 @@
-use Rattle.cmh_cycles.proofs.RowLemmas.{IsUnion}
-use Rattle.cmh_cycles.proofs.row.Row.union_of.Given as goal
-
-abbrev pub invariant-loop-at : goal.invariant-loop-at
-invariant-loop-at l = IsUnion l.table l.twins l.self-inside.words.items l.union l.at
