@@ -1,0 +1,5 @@
+pub mod Clients
+pub mod Lines
+pub mod Nexts
+pub mod Talks
+pub mod Wishes
