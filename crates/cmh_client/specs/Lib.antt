@@ -1,4 +1,5 @@
 pub mod Clients
+pub mod Http
 pub mod Lines
 pub mod Nexts
 pub mod Talks

@@ -3,6 +3,7 @@
 #![tactic(auto)]
 
 mod client;
+mod http;
 mod language;
 pub mod laws;
 mod next;
@@ -11,6 +12,7 @@ mod telling;
 mod wish;
 
 pub use crate::client::{Client, MOST_QUEUED};
+pub use crate::http::speaks_http;
 pub use crate::language::{Language, Meaning};
 pub use crate::next::Next;
 pub use crate::telling::Telling;
