@@ -1,0 +1,31 @@
+//! What the lines of clients mean.
+
+ghost use Rattle.std.specs.Prelude.{IfOk};
+
+use std::alloc::AllocError;
+
+/// What a line means.
+#[derive(Debug, Drop)]
+pub enum Meaning<E, Q> {
+    /// Nothing: it has no answer.
+    Silence,
+    /// Something to be done, which is answered later.
+    Event(E),
+    /// Something that is answered once all lines before it were.
+    Question(Q),
+    /// The end: it has no answer, and what comes behind it does not count.
+    Last,
+}
+
+/// What lines mean: events and questions.
+pub trait Language<E, Q> {
+    ghost use Rattle.std.specs.Prelude.{ℕ, List};
+    ghost use Rattle.cmh_client.specs.declared.language.Meaning.{Meaning as TheMeaning};
+
+    /// What a line means, its line feed with it.
+    ghost Means: { List ℕ → TheMeaning E Q → Type 0 };
+
+    /// The only error is out of memory.
+    fn read(&mut self, line: &[u8]) -> Result<Meaning<E, Q>, AllocError>
+        ensures { IfOk result (Means line.now) };
+}
