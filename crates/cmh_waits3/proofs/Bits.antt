@@ -1,8 +1,8 @@
 -- Places as the bits of words.
-use Rattle.std.proofs.Common.{◌≡◌, ◌≢◌, ◌<◌, ◌≤◌, ◌+◌, ◌-◌, ◌*◌, ◌/◌, ◌%◌, ◌^◌, ◌⊎◌, ℕ, zero, suc, Bool, true, false, not, ◌&&◌, ◌||◌, ◌==◌, List, [], ◌∷◌, length, get_or, set, max, min, refl, sym, ap, ◌∙◌, subst, inl, inr, arith, w64}
+use Rattle.std.proofs.Common.{◌≡◌, ◌≢◌, ◌<◌, ◌≤◌, ◌+◌, ◌-◌, ◌*◌, ◌/◌, ◌%◌, ◌^◌, ◌⊎◌, ℕ, zero, suc, Bool, true, false, not, ◌&&◌, ◌||◌, ◌==◌, List, [], ◌∷◌, length, get_or, set, max, min, nat_lt, refl, sym, ap, ◌∙◌, subst, inl, inr, arith, w64}
 use Rattle.std.specs.Int.{bit_at, bit_not, trailing_zeros}
 use Rattle.std.specs.Int.Bits.{bit_and, bit_or}
-use Rattle.std.proofs.lemmas.Bool.{eq-eqb, ne_eqb, cases_eq, cases_lt}
+use Rattle.std.proofs.lemmas.Bool.{eq-eqb, ne_eqb, cases_eq, cases_lt, le-ltb, lt-ltb}
 use Rattle.std.proofs.lemmas.List.{get_or_default, get_or_past, get_or-set_same, get_or-set_other}
 use Rattle.std.proofs.lemmas.Nat.{shl_whole}
 use Rattle.std.proofs.lemmas.Nat.Bits.{bit_at_set_same, bit_at_set_other, bit_at_clear_same, bit_at_clear_other, bit_at_above, bit_at-zero, bit_at_and, bit_at_or, bit_at_not, bit_at-pow_same, bit_at-pow_other, bit_at-trailing_zeros, bit_at-lt}
@@ -41,6 +41,10 @@ two_bits P a b c d x y less below = elim (bit_cases x less) [
 -- the bits of either
 pub either_bit : (a b k : ℕ) → is_set (bit_or a b) k ≡ (is_set a k || is_set b k)
 either_bit a b k = ap (λ n. n == 1) (bit_at_or a b k) ∙ two_bits (λ x y. (max x y == 1) ≡ ((x == 1) || (y == 1))) refl refl refl refl (bit_at a k) (bit_at b k) (bit_at-lt a k) (bit_at-lt b k)
+
+-- the bits of both
+pub both_bit : (a b k : ℕ) → is_set (bit_and a b) k ≡ (is_set a k && is_set b k)
+both_bit a b k = ap (λ n. n == 1) (bit_at_and a b k) ∙ two_bits (λ x y. (min x y == 1) ≡ ((x == 1) && (y == 1))) refl refl refl refl (bit_at a k) (bit_at b k) (bit_at-lt a k) (bit_at-lt b k)
 
 -- the bits of the first that the second lacks
 pub beyond_bit : (a b k : ℕ) → b < 2 ^ 64 → k < 64 → is_set (bit_and a (bit_not w64 b)) k ≡ (is_set a k && not (is_set b k))
@@ -120,6 +124,25 @@ pairwise f none xs ys long other p q r s first second third fourth k = go (k / 6
     go (suc (suc (suc (suc more)))) bit small =
         no_bit bit ∙ sym (ap (λ x. f x (is_set (get_or ys (suc (suc (suc (suc more)))) 0) bit)) (no_word xs long (suc (suc (suc (suc more)))) bit (omega arith))
         ∙ ap (f false) (no_word ys other (suc (suc (suc (suc more)))) bit (omega arith)) ∙ none)
+
+-- the first word alone has the places below 64
+pub low_word : (xs : List ℕ) (k : ℕ) → has_place (get_or xs 0 0 ∷ 0 ∷ 0 ∷ 0 ∷ []) k ≡ (nat_lt k 64 && has_place xs k)
+low_word xs k = elim (cases_lt k 64) [
+  | inl below ↦
+      let first : k / 64 ≡ 0 = omega (arith, below) in
+      ap (λ q. is_set (get_or (get_or xs 0 0 ∷ 0 ∷ 0 ∷ 0 ∷ []) q 0) (k % 64)) first
+      ∙ sym (ap (λ z. z && has_place xs k) (lt-ltb k 64 below) ∙ ap (λ q. is_set (get_or xs q 0) (k % 64)) first)
+  | inr above ↦
+      let later : 0 < k / 64 = omega (arith, above) in
+      go (k / 64) (k % 64) later ∙ sym (ap (λ z. z && has_place xs k) (le-ltb k 64 above))
+]
+  where
+    go : (at bit : ℕ) → 0 < at → is_set (get_or (get_or xs 0 0 ∷ 0 ∷ 0 ∷ 0 ∷ []) at 0) bit ≡ false
+    go zero bit some = absurd (omega (arith, some))
+    go (suc zero) bit some = no_bit bit
+    go (suc (suc zero)) bit some = no_bit bit
+    go (suc (suc (suc zero))) bit some = no_bit bit
+    go (suc (suc (suc (suc more)))) bit some = no_bit bit
 
 -- ---- one place
 

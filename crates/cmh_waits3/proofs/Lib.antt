@@ -9,3 +9,4 @@ pub mod Searching
 pub mod Counted
 pub mod Edges
 pub mod Findings
+pub mod Summaries

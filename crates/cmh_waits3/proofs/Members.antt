@@ -1,5 +1,5 @@
 -- The rows of the processes of a site.
-use Rattle.std.proofs.Common.{◌≡◌, ◌≢◌, ℕ, suc, zero, ◌<◌, Bool, true, false, ◌&&◌, ◌||◌, ◌==◌, if◌then◌else◌, List, [], ◌∷◌, length, get_or, Result, Ok, Err, OnOk, refl, sym, ap, ◌∙◌, subst, inl, inr, arith, true≢false}
+use Rattle.std.proofs.Common.{◌≡◌, ◌≢◌, ℕ, suc, zero, ◌<◌, Bool, true, false, ◌&&◌, ◌||◌, ◌==◌, if◌then◌else◌, List, [], ◌∷◌, length, get_or, Result, Ok, Err, IfOk, refl, sym, ap, ◌∙◌, subst, inl, inr, arith, true≢false}
 use Rattle.std.specs.List.Sorted.{IsStrictlyIncreasing}
 use Rattle.std.proofs.Math.ListN.{set}
 use Rattle.std.proofs.Math.Path.{fun_ext}
@@ -237,9 +237,9 @@ ended_one_since v up long p k = ended_since v up long p (k ∷ []) ∙ ap (λ (k
 
 -- ---- in what a call gives
 
-pub on_ok : {T E : Type 0} (r : Result T E) (P Q : Type 0) → (P → Q) → OnOk r P → OnOk r Q
-on_ok (Ok x) P Q f h = f h
-on_ok (Err e) P Q f h = tt
+pub if_ok : {T E : Type 0} (r : Result T E) (P Q : T → Type 0) → ((x : T) → P x → Q x) → IfOk r P → IfOk r Q
+if_ok (Ok x) P Q f h = f x h
+if_ok (Err e) P Q f h = tt
 
 -- the row that was found at the place of a process
 module _ (ms : List ℕ) (rows : List (List Wait)) (up : IsStrictlyIncreasing ms) (long : length rows ≡ length ms) (i p : ℕ) (inside : i < length ms) (at : get_or ms i 0 ≡ p)
@@ -250,11 +250,11 @@ module _ (ms : List ℕ) (rows : List (List Wait)) (up : IsStrictlyIncreasing ms
   pub not_found : (k : ℕ) → in_list ks k ≡ true → in_list (targets_of found) k ≡ false
   not_found k h = ap (λ (r : List Wait). in_list (targets_of r) k) row ∙ there k h
 
-  pub begun : {T E : Type 0} (r : Result T E) (s : ℕ) (after : List Wait) → IsAscending ks → OnOk r (AreInserted ks s found after) → OnOk r (IsBegun v p ks s (held ms (set rows i after)))
-  begun r s after more = on_ok r _ _ (λ inserted.
+  pub begun : (s : ℕ) (after : List Wait) → IsAscending ks → AreInserted ks s found after → IsBegun v p ks s (held ms (set rows i after))
+  begun s after more inserted =
       let are = subst (λ (old : List Wait). AreInserted ks s old after) row inserted in
       subst (λ (w : Held). IsBegun w p ks s (held ms (set rows i after))) view (record {
         waits = begun_waits ms rows up long i p inside at ks s after are more there;
         since = begun_since ms rows up long i p inside at ks s after are;
         undone = begun_undone ms rows up long i p inside at ks s after are there;
-      }))
+      })

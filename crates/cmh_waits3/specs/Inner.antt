@@ -2,3 +2,4 @@
 pub mod Inserting
 pub mod Places
 pub mod Steps
+pub mod Summaries

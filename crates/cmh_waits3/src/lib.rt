@@ -6,6 +6,7 @@ mod member_table;
 mod place_set;
 mod search;
 mod site_waits;
+mod summary;
 mod wait;
 mod wait_list;
 

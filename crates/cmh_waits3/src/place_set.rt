@@ -1,10 +1,10 @@
 //! Places of a site's processes, as the bits of four words.
 
-ghost use Rattle.std.specs.Prelude.{◌≡◌, ℕ, ◌/◌, ◌%◌, ◌<◌, ◌==◌, ◌||◌, ◌&&◌, not, true, false, IfSome, MatchOption};
+ghost use Rattle.std.specs.Prelude.{◌≡◌, ℕ, ◌/◌, ◌%◌, ◌<◌, ◌==◌, ◌||◌, ◌&&◌, not, true, false, nat_lt, IfSome, MatchOption};
 ghost use Rattle.cmh_waits3.specs.Inner.Steps.{has_place, is_set};
 
 /// Some of the places 0 to 255. It takes no memory.
-#[derive(Clone, Copy)]
+#[derive(Clone, Copy, Debug)]
 pub struct PlaceSet {
     words: [u64; 4],
 }
@@ -63,6 +63,32 @@ impl PlaceSet {
         self.beyond(PlaceSet::only(place))
     }
 
+    /// With a place, if it is to be there.
+    #[inline(always)]
+    pub fn with_if(self, place: usize, is_wanted: bool) -> PlaceSet
+        requires { place < 256 }
+        ensures { (k : ℕ) → has_place result.words k ≡ ((is_wanted && (k == place)) || has_place self.words k) }
+    {
+        if is_wanted {
+            self.either(PlaceSet::only(place))
+        } else {
+            self
+        }
+    }
+
+    /// Without a place, if it is not to be there.
+    #[inline(always)]
+    pub fn without_if(self, place: usize, is_unwanted: bool) -> PlaceSet
+        requires { place < 256 }
+        ensures { (k : ℕ) → has_place result.words k ≡ (not (is_unwanted && (k == place)) && has_place self.words k) }
+    {
+        if is_unwanted {
+            self.without(place)
+        } else {
+            self
+        }
+    }
+
     /// The places of either.
     #[inline(always)]
     pub fn either(self, other: PlaceSet) -> PlaceSet
@@ -72,6 +98,29 @@ impl PlaceSet {
         let [e, f, g, h] = other.words;
         PlaceSet {
             words: [a | e, b | f, c | g, d | h],
+        }
+    }
+
+    /// The places of both.
+    #[inline(always)]
+    pub fn both(self, other: PlaceSet) -> PlaceSet
+        ensures { (k : ℕ) → has_place result.words k ≡ (has_place self.words k && has_place other.words k) }
+    {
+        let [a, b, c, d] = self.words;
+        let [e, f, g, h] = other.words;
+        PlaceSet {
+            words: [a & e, b & f, c & g, d & h],
+        }
+    }
+
+    /// Its places below 64. What is known to be 0 need not be looked at.
+    #[inline(always)]
+    pub fn low(self) -> PlaceSet
+        ensures { (k : ℕ) → has_place result.words k ≡ (nat_lt k 64 && has_place self.words k) }
+    {
+        let [a, _, _, _] = self.words;
+        PlaceSet {
+            words: [a, 0, 0, 0],
         }
     }
 

@@ -1,6 +1,6 @@
 //! What a site finds along the waits that count for an ask.
 
-ghost use Rattle.std.specs.Prelude.{◌≡◌, ◌↔◌, ℕ, ◌<◌, ◌++◌, true, false, IsTrue, List, length, slice_index, IfOk, OnOk};
+ghost use Rattle.std.specs.Prelude.{◌≡◌, ◌↔◌, ℕ, ◌<◌, ◌≤◌, ◌++◌, true, false, IsTrue, List, length, slice_index, IfOk, OnOk};
 ghost use Rattle.cmh_model3.specs.State.{State, passes};
 ghost use Rattle.cmh_model3.specs.Paths.{DependsOnItself, ReachesLocally};
 ghost use Rattle.cmh_waits3.specs.Held.{AreWaitsOf, is_member};
@@ -81,18 +81,33 @@ struct Reach {
     awaited: PlaceSet,
 }
 
-/// What the process at the place reaches by waits that count, within the site.
+/// What the process at the place reaches by waits that count, within the site. A site of 64 processes does with one word of
+/// each set.
 fn reach_from(waits: &SiteWaits, stamp: Stamp, origin: ProcId, start: usize) -> Reach
     requires { start < length waits.now.members }
     ensures reached { AreReached waits.now stamp origin (slice_index waits.now.members start) result.reached.words }
     ensures awaited { AreAwaited waits.now stamp origin result.reached.words result.awaited.words }
 {
+    if waits.members().len() <= 64 {
+        reach_within(waits, stamp, origin, start, true)
+    } else {
+        reach_within(waits, stamp, origin, start, false)
+    }
+}
+
+#[inline(always)]
+fn reach_within(waits: &SiteWaits, stamp: Stamp, origin: ProcId, start: usize, small: bool) -> Reach
+    requires start { start < length waits.now.members }
+    requires small { small ≡ true → length waits.now.members ≤ 64 }
+    ensures reached { AreReached waits.now stamp origin (slice_index waits.now.members start) result.reached.words }
+    ensures awaited { AreAwaited waits.now stamp origin result.reached.words result.awaited.words }
+{
     let _ = waits.members();
-    let mut reached = PlaceSet::only(start);
+    let mut reached = in_words(PlaceSet::only(start), small);
     let mut awaited = PlaceSet::empty();
     let mut work = reached;
     while let Some(place) = work.first() {
-        let led = led_to(waits, stamp, origin, place);
+        let led = in_words(led_to(waits, stamp, origin, place), small);
         let fresh = led.beyond(reached);
         awaited = awaited.either(led);
         work = work.without(place).either(fresh);
@@ -101,9 +116,36 @@ fn reach_from(waits: &SiteWaits, stamp: Stamp, origin: ProcId, start: usize) -> 
     Reach { reached, awaited }
 }
 
-/// The places to which waits that count lead from the process at the place.
+/// The set, in one word where the site is small.
+#[inline(always)]
+fn in_words(places: PlaceSet, small: bool) -> PlaceSet
+    requires { small ≡ true → (k : ℕ) → has_place places.words k ≡ true → k < 64 }
+    ensures { (k : ℕ) → has_place result.words k ≡ has_place places.words k }
+{
+    if small { places.low() } else { places }
+}
+
+/// The places to which waits that count lead from the process at the place. Where all of its waits count, or none, that is
+/// known.
 #[inline(always)]
 fn led_to(waits: &SiteWaits, stamp: Stamp, origin: ProcId, place: usize) -> PlaceSet
+    requires { place < length waits.now.members }
+    ensures { (k : ℕ) → has_place result.words k ≡ leads waits.now stamp origin place k }
+{
+    let asker = waits.members()[place];
+    let summary = waits.summary(place);
+    if summary.all_count(stamp, origin, asker) {
+        return summary.here;
+    }
+    if summary.none_counts(stamp, origin, asker) {
+        return PlaceSet::empty();
+    }
+    led_by_each(waits, stamp, origin, place)
+}
+
+/// The same, by each wait.
+#[inline(never)]
+fn led_by_each(waits: &SiteWaits, stamp: Stamp, origin: ProcId, place: usize) -> PlaceSet
     requires { place < length waits.now.members }
     ensures { (k : ℕ) → has_place result.words k ≡ leads waits.now stamp origin place k }
 {
@@ -134,6 +176,20 @@ fn is_reached(waits: &SiteWaits, reached: PlaceSet, process: ProcId) -> bool
 
 /// The waits that count and leave the site, of the processes at these places.
 fn edges_of(
+    alloc: Global,
+    waits: &SiteWaits,
+    stamp: Stamp,
+    origin: ProcId,
+    reached: PlaceSet,
+) -> Result<Vec<(ProcId, ProcId)>, AllocError>
+    requires { (k : ℕ) → has_place reached.words k ≡ true → k < length waits.now.members }
+    ensures { IfOk result (λ edges. AreMarkedEdges waits.now stamp origin reached.words edges.items) }
+{
+    edges_at(alloc, waits, stamp, origin, reached.both(waits.leaving()))
+}
+
+/// The same, of the processes at each of the places.
+fn edges_at(
     alloc: Global,
     waits: &SiteWaits,
     stamp: Stamp,

@@ -6,9 +6,13 @@ ghost use Rattle.cmh_model3.specs.Lists.{IsAscending, in_list, is_nonempty, set_
 ghost use Rattle.cmh_model3.specs.State.{counts, passes};
 ghost use Rattle.cmh_waits3.specs.Held.{ended, is_member, nothing_held, row_in, since_of, state_of, waits_of};
 ghost use Rattle.cmh_waits3.specs.Rows.{since_in, targets_of};
+ghost use Rattle.cmh_waits3.specs.Inner.Steps.{has_place};
+ghost use Rattle.cmh_waits3.specs.Inner.Summaries.{IsSummary};
 
 use crate::Wait;
 use crate::member_table::MemberTable;
+use crate::place_set::PlaceSet;
+use crate::summary::Summary;
 use crate::wait_list::WaitList;
 use cmh_model3::{ProcId, Stamp};
 use std::alloc::{AllocError, Global};
@@ -23,18 +27,24 @@ pub struct SiteWaits {
     members: MemberTable,
     /// At the place of each process its waits.
     rows: Vec<WaitList>,
+    /// And what a search needs of them.
+    summaries: Vec<Summary>,
+    /// The places of the processes that may wait for some of other sites. The others do not.
+    leaving: PlaceSet,
 }
 
 impl Model for SiteWaits {
     ghost use Rattle.std.specs.Prelude.{◌≡◌, length};
     ghost use Rattle.std.specs.List.Sorted.{IsStrictlyIncreasing};
     ghost use Rattle.cmh_waits3.specs.Held.{Held};
+    ghost use Rattle.cmh_waits3.specs.Inner.Summaries.{AreSummaries};
 
     ghost Value = { Held };
 
     ghost view = { λ w. record { members = w.members; rows = w.rows.items } };
 
-    ghost invariant = { λ w. IsStrictlyIncreasing w.members × (length w.rows.items ≡ length w.members) };
+    ghost invariant = { λ w. IsStrictlyIncreasing w.members × (length w.rows.items ≡ length w.members)
+        × AreSummaries w.members w.rows.items w.summaries.items w.leaving.words };
 }
 
 impl SiteWaits {
@@ -47,6 +57,8 @@ impl SiteWaits {
         Ok(SiteWaits {
             members: MemberTable::new(alloc, members)?,
             rows: WaitList::empty_lists(alloc, members.len())?,
+            summaries: vec![in alloc; Summary::of_none(); members.len()]?,
+            leaving: PlaceSet::empty(),
         })
     }
 
@@ -137,10 +149,14 @@ impl SiteWaits {
         ensures undone { OnOk result (ended self.new asker targets.now ≡ self.old) }
         ensures err { OnErr result (self.new ≡ self.old) }
     {
-        match self.members.place_of(asker) {
-            Some(place) => self.rows[place].insert_all(targets, since),
-            None => Ok(()),
-        }
+        let _ = self.members.as_slice();
+        let Some(place) = self.members.place_of(asker) else {
+            return Ok(());
+        };
+        self.rows[place].insert_all(targets, since)?;
+        let leaves = self.summaries[place].begin(&self.members, targets, since);
+        self.leaving = self.leaving.with_if(place, leaves);
+        Ok(())
     }
 
     /// The process waits for this holder no longer.
@@ -151,8 +167,12 @@ impl SiteWaits {
         ensures since { since_of self.new ≡ set_at (since_of self.old) asker (λ k.
             if in_list (without (waits_of self.old asker) holder) k then since_of self.old asker k else 0) }
     {
+        let _ = self.members.as_slice();
         if let Some(place) = self.members.place_of(asker) {
             self.rows[place].remove(holder);
+            let left = self.rows[place].as_slice();
+            self.summaries[place].end(&self.members, holder, left);
+            self.leaving = self.leaving.without_if(place, left.is_empty());
         }
     }
 
@@ -164,8 +184,12 @@ impl SiteWaits {
         ensures since { since_of self.new ≡ set_at (since_of self.old) asker (λ k.
             if in_list (without_all (waits_of self.old asker) targets.now) k then since_of self.old asker k else 0) }
     {
+        let _ = self.members.as_slice();
         if let Some(place) = self.members.place_of(asker) {
             self.rows[place].remove_all(targets);
+            let left = self.rows[place].as_slice();
+            self.summaries[place].end_all(&self.members, targets, left);
+            self.leaving = self.leaving.without_if(place, left.is_empty());
         }
     }
 
@@ -176,6 +200,8 @@ impl SiteWaits {
         Ok(SiteWaits {
             members: self.members.copy(alloc)?,
             rows: WaitList::copy_all(alloc, &self.rows)?,
+            summaries: self.summaries.to_vec(alloc)?,
+            leaving: self.leaving,
         })
     }
 
@@ -196,5 +222,23 @@ impl SiteWaits {
         ensures ascending { IsAscending (targets_of result.now) }
     {
         self.rows[place].as_slice()
+    }
+
+    /// What a search needs of the waits of the process at this place.
+    #[inline(always)]
+    pub(crate) fn summary(&self, place: usize) -> &Summary
+        requires { place < length self.now.members }
+        ensures { IsSummary self.now.members (row_in self.now.members self.now.rows (slice_index self.now.members place)) result.now }
+    {
+        &self.summaries[place]
+    }
+
+    /// The places of the processes that may wait for some of other sites. The others do not.
+    #[inline(always)]
+    pub(crate) fn leaving(&self) -> PlaceSet
+        ensures { (place k : ℕ) → place < length self.now.members → has_place result.words place ≡ false
+            → in_list (waits_of self.now (slice_index self.now.members place)) k ≡ true → is_member self.now k ≡ true }
+    {
+        self.leaving
     }
 }

@@ -21,6 +21,14 @@ impl Wait {
     pub fn counts(&self, stamp: Stamp, origin: ProcId, asker: ProcId) -> bool
         ensures { result ≡ not (is_before stamp origin self.now.since asker) }
     {
-        self.since < stamp || (self.since == stamp && asker <= origin)
+        is_no_younger(self.since, asker, stamp, origin)
     }
+}
+
+/// Whether an ask of the asker since this stamp is not younger than that of the origin with the other.
+#[inline(always)]
+pub fn is_no_younger(since: Stamp, asker: ProcId, stamp: Stamp, origin: ProcId) -> bool
+    ensures { result ≡ not (is_before stamp origin since asker) }
+{
+    since < stamp || (since == stamp && asker <= origin)
 }

@@ -1,11 +1,16 @@
-use Rattle.std.proofs.Common.{◌≡◌, ◌∙◌, List, [], length, get_or, sym, ap, subst, arith}
+use Rattle.std.proofs.Common.{◌≡◌, ◌∙◌, ◌&&◌, ◌==◌, not, List, [], length, get_or, sym, ap, subst, arith}
 use Rattle.std.proofs.Math.ListN.{set}
 use Rattle.std.specs.List.Sorted.{IsStrictlyIncreasing}
-use Rattle.std.proofs.lemmas.List.{get_or_default}
+use Rattle.std.proofs.lemmas.Bool.{ne_eqb}
+use Rattle.std.proofs.lemmas.List.{get_or_default, get_or-set_same, length-set}
+use Rattle.cmh_model3.proofs.Counts.{and_no}
 use Rattle.cmh_waits3.specs.declared.wait.Wait.{Wait}
 use Rattle.cmh_waits3.specs.Held.{Held, ended, since_of, waits_of}
+use Rattle.cmh_waits3.specs.Inner.Steps.{has_place}
+use Rattle.cmh_waits3.specs.Inner.Summaries.{IsSummary}
 use Rattle.cmh_waits3.specs.Rows.{others_than}
 use Rattle.cmh_waits3.proofs.Members.{ended_is, ended_since, ended_waits, held, rows_none}
+use Rattle.cmh_waits3.proofs.Summaries.{ended_stay, summaries_set}
 use Rattle.cmh_waits3.proofs.site_waits.SiteWaits.end_all.Goals as goal
 
 pub returns-in-Some : goal.returns-in-Some
@@ -35,3 +40,26 @@ returns-in_default c =
     let long = subst (λ (w : Held). length w.rows ≡ length w.members) c.self.view_is c.self.invariant.1 in
     let value : v ≡ ended v c.args.asker c.args.targets.now = subst (λ (w : Held). w ≡ ended w c.args.asker c.args.targets.now) c.self.view_is (sym (ap (held ms) (rows_none ms rows c.args.asker c.args.targets.now c.in_default.ensures))) in
     record { value = value; waits = ap waits_of value ∙ ended_waits v up long c.args.asker c.args.targets.now; since = ap since_of value ∙ ended_since v up long c.args.asker c.args.targets.now }
+
+pub invariant_of-self : goal.invariant_of-self
+invariant_of-self c =
+    let ms = c.self.inside.members in
+    let rows = c.self.inside.rows.items in
+    let place = c.in-Some.place in
+    let inside = c.in-Some.ensures.0 in
+    let long = c.self.invariant.1 in
+    let are = c.self.invariant.2 in
+    let ks = c.args.targets.now in
+    let row : c.index_mut.result.now ≡ get_or rows place [] = c.index_mut.ensures.value ∙ get_or_default rows place c.index_mut.result.now [] (omega (arith, inside, long)) in
+    let left = c.remove_all.new.self in
+    let is : left ≡ others_than ks (get_or rows place []) = c.remove_all.ensures ∙ ap (others_than ks) row in
+    let now : c.as_slice-left.result.now ≡ left = c.as_slice-left.ensures.value ∙ c.index.ensures ∙ get_or-set_same rows place left c.index.result.now (omega (arith, inside, long)) in
+    let before = are.each place c.index_mut-in-Some.result.now inside (sym c.index_mut-in-Some.ensures.value) in
+    let after = subst (λ (r : List Wait). IsSummary ms r c.end_all.new.self) now (c.end_all.ensures (get_or rows place []) before (now ∙ is)) in (
+      c.self.invariant.0,
+      length-set rows place left ∙ long,
+      summaries_set ms rows c.self.inside.summaries.items c.self.inside.leaving.words c.without_if-self-inside.result.words are long place inside left c.end_all.new.self after
+          (λ j ne. c.without_if-self-inside.ensures j ∙ ap (λ b. not (c.is_empty.result && b) && has_place c.self.inside.leaving.words j) (ne_eqb j place ne) ∙ ap (λ b. not b && has_place c.self.inside.leaving.words j) (and_no c.is_empty.result))
+          (ended_stay ms ks (get_or rows place []) left c.self.inside.leaving.words c.without_if-self-inside.result.words place c.is_empty.result is
+          (c.is_empty.ensures ∙ ap (λ (r : List Wait). length r == 0) now) c.without_if-self-inside.ensures (λ none k h. are.stay place k inside none h)),
+    )

@@ -1,7 +1,7 @@
 use Rattle.std.proofs.Common.{◌≡◌, ℕ, take}
 use Rattle.cmh_waits3.specs.Inner.Steps.{has_place}
 use Rattle.cmh_waits3.proofs.Counted.{led_so_far}
-use Rattle.cmh_waits3.proofs.search.led_to.Given as goal
+use Rattle.cmh_waits3.proofs.search.led_by_each.Given as goal
 
 -- the members to which those so far lead
 abbrev pub invariant-loop-wait : goal.invariant-loop-wait

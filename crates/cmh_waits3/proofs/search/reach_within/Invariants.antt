@@ -2,7 +2,7 @@ use Rattle.std.proofs.Common.{◌+◌, ◌-◌, ◌*◌, get_or}
 use Rattle.cmh_waits3.specs.Inner.Steps.{has_place}
 use Rattle.cmh_waits3.proofs.Counting.{count_below}
 use Rattle.cmh_waits3.proofs.Searching.{Searching}
-use Rattle.cmh_waits3.proofs.search.reach_from.Given as goal
+use Rattle.cmh_waits3.proofs.search.reach_within.Given as goal
 
 abbrev pub invariant-loop-place : goal.invariant-loop-place
 invariant-loop-place l = Searching l.waits l.stamp l.origin (get_or l.waits.members l.start 0) l.reached.words l.work.words l.awaited.words
