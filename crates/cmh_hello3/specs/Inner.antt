@@ -1,0 +1,2 @@
+-- This crate's own words, of the steps of reading.
+pub mod Parts
