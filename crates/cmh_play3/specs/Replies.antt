@@ -4,20 +4,11 @@ use Rattle.std.specs.Fmt.{decimal}
 use Rattle.cmh_frames.specs.Rows.{fault_number}
 use Rattle.cmh_controller3.specs.Refusals.{number_of}
 use Rattle.cmh_controller3.specs.declared.outcome.Declaration.{Declaration}
-use Rattle.cmh_model3.specs.declared.frame.Frame.{Frame}
-use Rattle.cmh_model3.specs.declared.frame.Frame.TheVariants.{Request, Reply as Reply_frame, Withdraw, Probe}
 use Rattle.cmh_report3.specs.Texts.{report_text}
+use Rattle.cmh_script3.specs.Texts.{frame_text}
 use Rattle.cmh_play3.specs.declared.reply.Done.{Done}
 use Rattle.cmh_play3.specs.declared.reply.Reply.{Reply}
 use Rattle.cmh_play3.specs.declared.reply.Reply.TheVariants.{Silent, Ok, BadLine, Late, Topology, BadLink, Closed, Empty, Lost, Refused, Taken, Got, Report}
-
--- the kind and the numbers, with a space between them
-abbrev pub frame_text : Frame → List ℕ
-frame_text (Request asker holder) = codes "request " ++ decimal asker ++ codes " " ++ decimal holder
-frame_text (Reply_frame holder asker) = codes "reply " ++ decimal holder ++ codes " " ++ decimal asker
-frame_text (Withdraw asker holder) = codes "withdraw " ++ decimal asker ++ codes " " ++ decimal holder
-frame_text (Probe origin stamp holder to) =
-    codes "probe " ++ decimal origin ++ codes " " ++ decimal stamp ++ codes " " ++ decimal holder ++ codes " " ++ decimal to
 
 -- whom a step declared, with the stop at which the cycle stood
 abbrev pub declared_text : Option Declaration → List ℕ

@@ -1,11 +1,12 @@
 //! The answers of a script, as they are printed.
 
 ghost use Rattle.std.specs.Prelude.{Some};
-ghost use Rattle.cmh_play3.specs.Replies.{done_text, frame_text, reply_text};
+ghost use Rattle.cmh_play3.specs.Replies.{done_text, reply_text};
 
 use cmh_controller3::{Declaration, Refusal};
 use cmh_model3::Frame;
 use cmh_report3::Report;
+use cmh_script3::FrameText;
 use cmh_topology3::TopologyFault;
 use std::fmt;
 
@@ -85,29 +86,5 @@ impl fmt::Display for Done {
             write!(f, " declared {process} at {stop}")?;
         }
         Ok(())
-    }
-}
-
-/// A frame by its name and its numbers.
-#[derive(Clone, Copy)]
-struct FrameText {
-    frame: Frame,
-}
-
-impl fmt::Display for FrameText {
-    ghost output = { λ text. Some (frame_text text.frame) };
-
-    fn fmt<W: fmt::Write>(&self, f: &mut fmt::Formatter<W>) -> fmt::Result {
-        match self.frame {
-            Frame::Request { asker, holder } => write!(f, "request {asker} {holder}"),
-            Frame::Reply { holder, asker } => write!(f, "reply {holder} {asker}"),
-            Frame::Withdraw { asker, holder } => write!(f, "withdraw {asker} {holder}"),
-            Frame::Probe {
-                origin,
-                stamp,
-                from,
-                to,
-            } => write!(f, "probe {origin} {stamp} {from} {to}"),
-        }
     }
 }

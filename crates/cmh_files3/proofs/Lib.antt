@@ -1,0 +1,5 @@
+pub mod StandLemmas
+mod FileLemmas
+mod FindingLemmas
+mod LineLemmas
+mod ShowLemmas

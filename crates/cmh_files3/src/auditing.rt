@@ -1,0 +1,244 @@
+//! The command `audit` of edition 3: whether the journals of all sites come from one run.
+
+ghost use Rattle.std.specs.Prelude.{◌≡◌, ◌++◌, true, OnOk, IfOk, IfErr, Some, flat_map, map, string_bytes};
+ghost use Rattle.cmh_audit3.specs.Set.{IsSet};
+ghost use Rattle.cmh_audit3.specs.Verdicts.{IsOrderOf};
+ghost use Rattle.cmh_files.specs.AuditTexts.{cuts_text};
+ghost use Rattle.cmh_files3.specs.Audits as spec;
+ghost use Rattle.cmh_files3.specs.Inner.Cuts.{cut_at};
+ghost use Rattle.cmh_files3.specs.Audits.{AreRead, AuditEnds, Audits, IsAuditFault, IsCause, IsFaultOfFiles, IsFindingOn, IsReportOn, WroteAudit};
+ghost use Rattle.cmh_console.specs.Status.{IsStatus};
+
+use crate::audit_fault::AuditFault;
+use crate::standing::controllers_after;
+use cmh_audit3::{Order, Segment, Stop, Stops, Verdict, audit, check_set, read_file, run_of};
+use cmh_console::{Fault, Output, read_topology_file3};
+use cmh_files::Cuts;
+use cmh_model3::SiteId;
+use cmh_report3::Report;
+use cmh_topology3::Topology;
+use std::alloc::{AllocError, Global};
+use std::fmt;
+use std::io::Write;
+
+/// The journals of a command, in its order.
+#[derive(Debug, Drop)]
+struct Segments {
+    segments: Vec<Segment>,
+    /// The sites whose journal was cut off, ascending, and how many bytes stand after its last entry.
+    cuts: Vec<(SiteId, usize)>,
+}
+
+/// What an audit finds.
+#[derive(Debug, Drop)]
+pub enum Finding {
+    /// The journals come from a run, on which this is the report.
+    Accepted(Report),
+    /// They come from none.
+    Refused(Stops),
+}
+
+/// What an audit comes to.
+#[derive(Debug, Drop)]
+pub struct Audited {
+    pub world: Topology,
+    /// The sites whose journal was cut off, ascending, and how many bytes stand after its last entry.
+    pub cuts: Vec<(SiteId, usize)>,
+    pub finding: Finding,
+}
+
+/// Audits the journals of all sites of a topology of edition 3, whose files are given in any order, and writes which
+/// journals were cut off, and what the audit finds.
+///
+/// The answer is the status of the program: 0 where the journals come from one run, 1 where they don't or memory ran
+/// out, 3 at any other fault. A fault is named on `err`, and a write to it that fails is ignored. Nothing is written to
+/// `out` before a fault but where writing itself failed.
+pub fn run_audit3<W: Write, E: Write>(
+    alloc: Global,
+    topology: &[u8],
+    journals: &[Vec<u8>],
+    out: &mut Output<W>,
+    err: &mut Output<E>,
+) -> u8
+    ensures status { IsStatus result }
+
+    // A report is written, or a fault is named, and nothing else.
+    ensures ends { AuditEnds topology.now (map (λ file. file.items) journals.now) out.old out.new err.old err.new result }
+{
+    match audit_into(alloc, topology, journals, out) {
+        Ok(status) => status,
+        Err(fault) => Fault::from(fault).name_on(err),
+    }
+}
+
+/// Writes what the audit comes to; answers the status.
+fn audit_into<W: Write>(
+    alloc: Global,
+    topology: &[u8],
+    journals: &[Vec<u8>],
+    out: &mut Output<W>,
+) -> Result<u8, AuditFault>
+    ensures wrote { IfOk result (WroteAudit topology.now (map (λ file. file.items) journals.now)
+        out.old.written out.new.written) }
+    ensures flushed { OnOk result (out.new.is_flushed ≡ true) }
+    ensures fault { IfErr result (IsCause topology.now (map (λ file. file.items) journals.now)
+        out.old.written out.new.written out.new.has_failed) }
+{
+    let audited = audit_files(alloc, topology, journals)?;
+    let text = audited.text(alloc)?;
+    let status = audited.status();
+    out.write_text(text.as_str())?;
+    out.flush()?;
+    Ok(status)
+}
+
+impl Audited {
+    /// The status with which `cmh audit` ends.
+    pub fn status(&self) -> u8
+        ensures { result ≡ spec.status_of self.now.finding }
+    {
+        match &self.finding {
+            Finding::Accepted(_) => 0,
+            Finding::Refused(_) => 1,
+        }
+    }
+
+    /// The lines that it writes.
+    pub fn text(&self, alloc: Global) -> Result<String, AllocError>
+        ensures { IfOk result (λ text. string_bytes text ≡ cuts_text self.now.cuts.items
+            ++ spec.finding_text self.now.finding) }
+    {
+        let cuts = Cuts { cuts: &self.cuts };
+        let finding = &self.finding;
+        let mut text = String::new(alloc);
+        write!(text, "{cuts}{finding}")?;
+        Ok(text)
+    }
+}
+
+impl fmt::Display for Finding {
+    ghost output = { λ finding. Some (spec.finding_text finding) };
+
+    fn fmt<W: fmt::Write>(&self, f: &mut fmt::Formatter<W>) -> fmt::Result {
+        match self {
+            Finding::Accepted(report) => write!(f, "{report}"),
+            Finding::Refused(stops) => {
+                let lines = StopLines {
+                    stops: stops.as_slice(),
+                };
+                write!(f, "refused\n{lines}")
+            }
+        }
+    }
+}
+
+/// Each unfinished site, with the number of its entry that couldn't be taken.
+#[derive(Drop)]
+struct StopLines<'a> {
+    stops: &'a [Stop],
+}
+
+impl<'a> fmt::Display for StopLines<'a> {
+    ghost output = { λ s. Some (flat_map spec.stop_text s.stops.now) };
+
+    fn fmt<W: fmt::Write>(&self, f: &mut fmt::Formatter<W>) -> fmt::Result {
+        for stop in self.stops {
+            let site = stop.site;
+            let entry = stop.entry;
+            write!(f, "stop {site} at {entry}\n")?;
+        }
+        Ok(())
+    }
+}
+
+/// The audit of these files. The first fault is answered: of the topology file, of the topology, of the journals in
+/// their order, and of their set.
+pub fn audit_files(alloc: Global, topology: &[u8], files: &[Vec<u8>]) -> Result<Audited, AuditFault>
+    ensures audits { IfOk result (λ audited. Audits topology.now (map (λ file. file.items) files.now)
+        audited.world audited.cuts.items audited.finding) }
+    ensures fault { IfErr result (IsAuditFault topology.now (map (λ file. file.items) files.now)) }
+{
+    let file = read_topology_file3(alloc, topology)?;
+    let world = Topology::new(alloc, file.world, &file.rows)?;
+    let Segments { segments, cuts } = read_segments(alloc, files)?;
+    check_set(&world, &segments)?;
+    let finding = finding_on(alloc, &world, segments)?;
+    Ok(Audited {
+        world,
+        cuts,
+        finding,
+    })
+}
+
+fn read_segments(alloc: Global, files: &[Vec<u8>]) -> Result<Segments, AuditFault>
+    ensures read { IfOk result (λ read. AreRead (map (λ file. file.items) files.now) read.segments.items
+        read.cuts.items) }
+    ensures fault { IfErr result (IsFaultOfFiles (map (λ file. file.items) files.now)) }
+{
+    let mut segments = Vec::new(alloc);
+    let mut cuts = Vec::new(alloc);
+    for (i, bytes) in files.iter().enumerate() {
+        match read_file(alloc, bytes) {
+            Ok((segment, after)) => {
+                note_cut(&mut cuts, site_of(&segment), after)?;
+                segments.push(segment)?;
+            }
+            Err(fault) => return Err(AuditFault::of_file(i + 1, fault)),
+        }
+    }
+    cuts.sort_unstable();
+    Ok(Segments { segments, cuts })
+}
+
+fn site_of(segment: &Segment) -> SiteId
+    ensures { result ≡ segment.now.header.site }
+{
+    segment.header.site
+}
+
+/// Notes how many bytes stand after the last entry of a site's journal, if there are any.
+fn note_cut(cuts: &mut Vec<(SiteId, usize)>, site: SiteId, after: usize) -> Result<(), AllocError>
+    ensures { OnOk result (cuts.new.items ≡ cuts.old.items ++ cut_at site after) }
+{
+    if after > 0 {
+        cuts.push((site, after))?;
+    }
+    Ok(())
+}
+
+/// What the audit of the journals of a world finds. The only error is out of memory.
+fn finding_on(
+    alloc: Global,
+    world: &Topology,
+    segments: Vec<Segment>,
+) -> Result<Finding, AllocError>
+    requires { IsSet world.now segments.items }
+    ensures { IfOk result (IsFindingOn world.now segments.items) }
+{
+    let Ok(verdict) = audit(alloc, world, &segments) else {
+        return Err(AllocError);
+    };
+    match verdict {
+        Verdict::Accepted(order) => {
+            let report = report_of(alloc, world, &order, segments)?;
+            Ok(Finding::Accepted(report))
+        }
+        Verdict::Refused(stops) => Ok(Finding::Refused(stops)),
+    }
+}
+
+/// The report on the run in which the sites take their entries in this order.
+fn report_of(
+    alloc: Global,
+    world: &Topology,
+    order: &Order,
+    segments: Vec<Segment>,
+) -> Result<Report, AllocError>
+    requires set { IsSet world.now segments.items }
+    requires order { IsOrderOf world.now segments.items order.now }
+    ensures { IfOk result (IsReportOn world.now segments.items) }
+{
+    let events = run_of(alloc, order, segments)?;
+    let controllers = controllers_after(alloc, world, &events)?;
+    Report::new(alloc, world, &controllers, &events)
+}
