@@ -14,4 +14,5 @@ pub use crate::fault::{NotPrepared, SeatFault};
 pub use crate::held::Held;
 pub use crate::held_inlet::HeldInlet;
 pub use crate::inlet::{FRAME_LEFT, Inlet, InletFault};
+pub use crate::parts::Parts;
 pub use crate::seat::Seat;

@@ -1,0 +1,10 @@
+pub mod AsBox
+pub mod Alone
+pub mod Fresh
+pub mod Growing
+pub mod Places
+pub mod Readying
+pub mod Spelled
+pub mod Steps
+pub mod TakenOut
+pub mod Waiting
