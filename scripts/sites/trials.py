@@ -16,6 +16,7 @@ from client import lost_sites, python_client
 from crowds import CROWDS
 from listening import LISTENING
 from operations import OPERATIONS, LeftOut
+from prompt import PROMPT
 from services import LONG, SERVICES
 from soak import soak
 from strangers import UNINVITED
@@ -576,7 +577,7 @@ def few_files(program):
 
 TRIALS = [two_sites, three_sites, storm, late_peer, lines_ahead, killed_peer, full_disk, kept_journals, started_twice, silent_peers, slow_hello, noise, cut_frame,
           second_connection, two_links_at_once, own_hello, resets, many_connections, held_by_silent_peers, closed_output, clusters,
-          full_disk_of_a_cluster, two_clusters, few_files, python_client, lost_sites, ends_by_signal, kills, *SERVICES, *CROWDS, *UNINVITED, *LISTENING]
+          full_disk_of_a_cluster, two_clusters, few_files, python_client, lost_sites, ends_by_signal, kills, *SERVICES, *CROWDS, *UNINVITED, *LISTENING, *PROMPT]
 
 OPERATION_SECONDS = 40.0  # that a trial of operation may take
 SIDE_BY_SIDE = 3  # trials of operation: most of them wait

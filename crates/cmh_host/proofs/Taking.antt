@@ -17,14 +17,15 @@ use Rattle.std.proofs.KnownBytes.{Appends-kept, Appends-nil, Appends-trans}
 use Rattle.cmh_frames.proofs.ListLemmas.{texts_written}
 use Rattle.cmh_station.specs.Batches.{AreAnswers, IsAnswer, SealedAll, SteppedAll, entry_for, made}
 use Rattle.cmh_station.specs.Journaled.{Journaled}
-use Rattle.cmh_station.specs.Questions.{CanStep}
+use Rattle.cmh_station.specs.Questions.{CanStep, CanStepFirst}
+use Rattle.cmh_station.specs.Steps.{Stepped}
 use Rattle.cmh_station.specs.declared.refusal.StationRefusal.{StationRefusal}
 use Rattle.cmh_station.specs.declared.refusal.StationRefusal.TheVariants.{Rule, Sealed, Full, Disk}
 use Rattle.cmh_host.specs.SiteReplies.{reply_text}
 use Rattle.cmh_host.specs.Steps.{WasStepped}
 use Rattle.cmh_host.specs.Together.{AreStepped, AreTaken, FirstRefused, WereAnswered, answer_text, reply_of}
 use Rattle.cmh_host.specs.declared.site_reply.SiteReply.{SiteReply}
-use Rattle.cmh_host.specs.declared.site_reply.SiteReply.TheVariants.{Refused}
+use Rattle.cmh_host.specs.declared.site_reply.SiteReply.TheVariants.{Taken, Refused}
 
 -- a station of which no more is known than its journal
 abbrev journaled_at : Topology → ℕ → List Entry → Journaled
@@ -77,8 +78,13 @@ taken_each t site entries (event ∷ events) [] h = absurd h
 taken_each t site entries (event ∷ events) (answer ∷ answers) h =
     (taken_one t site entries event answer h.0, taken_each t site _ events answers h.1)
 
-pub taken_all : (a b : Journaled) (events : List Event) (answers : List (Result Outcome StationRefusal)) → SteppedAll a events answers b → AreTaken events answers
-taken_all a b events answers stepped = taken_each a.topology a.site a.entries events answers stepped.answered
+pub taken_all : (events : List Event) (answers : List (Result Outcome StationRefusal)) → ((a : Journaled) × (b : Journaled) × SteppedAll a events answers b) → AreTaken events answers
+taken_all events answers h = taken_each h.0.topology h.0.site h.0.entries events answers h.2.answered
+
+-- one event was answered
+pub stepped_ok : (event : Event) (outcome : Outcome) → ((a : Journaled) × (b : Journaled) × Stepped a event outcome.sent outcome.declared b)
+    → WasStepped event (Taken (record { sent = length outcome.sent; declared = outcome.declared }))
+stepped_ok event outcome h = (h.0, h.1, outcome.sent, h.2, refl)
 
 -- the first event of a batch was accepted, and the sink failed
 failed_at : (a : Journaled) (event : Event) (answer : Result Outcome StationRefusal) → CanStep a event → IsAnswer a.topology a.site a.entries event answer
@@ -112,15 +118,14 @@ failed_at a event (Err refusal) can h = absurd (excluded refusal h)
     excluded (Rule AlreadyDeclared) h = by_rule AlreadyDeclared (λ e. cc) h.1
     excluded (Rule Unlawful) h = by_rule Unlawful (λ e. cc) h.1
 
-pub first_failed : (a b : Journaled) (events : List Event) (first : Event) → CanStep a first → 0 < length events → first ≡ get_or events 0 first → SealedAll a events b
-    → FirstRefused events Disk
-first_failed a b [] first can some is s = absurd (omega (arith, some))
-first_failed a b (event ∷ events) first can some is s = go s.answers s.answered s.some
+pub first_failed : (a b : Journaled) (events : List Event) → CanStepFirst a events → SealedAll a events b → FirstRefused events Disk
+first_failed a b [] can s = absurd can
+first_failed a b (event ∷ events) can s = go s.answers s.answered s.some
   where
     go : (answers : List (Result Outcome StationRefusal)) → AreAnswers a.topology a.site a.entries (take (length answers) (event ∷ events)) answers
         → 0 < length (made (take (length answers) (event ∷ events)) answers) → WasStepped event (Refused Disk)
     go [] h some = absurd (omega (arith, some))
-    go (answer ∷ answers) h some = failed_at a event answer (subst (CanStep a) is can) h.0
+    go (answer ∷ answers) h some = failed_at a event answer can h.0
 
 -- what was answered is what is written
 pub written : (events : List Event) (answers : List (Result Outcome StationRefusal)) → AreTaken events answers → AreStepped events (map reply_of answers)
@@ -191,10 +196,6 @@ stepped_alone [] event reply given out new one is stepped same wrote = absurd (o
 stepped_alone (first ∷ []) event reply given out new one is stepped same wrote =
     one_answered first given out new (subst (λ (e : Event). WasStepped e given) is stepped) (subst (λ (r : SiteReply). Appends out new (reply_text r)) same wrote)
 stepped_alone (first ∷ other ∷ front) event reply given out new one is stepped same wrote = absurd (omega (arith, one))
-
-pub first_failed_at : (a a' b : Journaled) (events : List Event) (first : Event) → a ≡ a' → CanStep a first → 0 < length events → first ≡ get_or events 0 first
-    → SealedAll a' events b → FirstRefused events Disk
-first_failed_at a a' b events first same can some is s = first_failed a' b events first (subst (λ (j : Journaled). CanStep j first) same can) some is s
 
 -- what was written stays when it is flushed
 pub answered_kept : (events : List Event) (old new after : Option (List ℕ)) → WereAnswered events old new → Keeps new after → WereAnswered events old after

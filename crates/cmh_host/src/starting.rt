@@ -249,6 +249,7 @@ impl<R: Wait + Drop> SiteHandle<R> {
 
 /// Gives an event to a station, and wakes the threads that write what it sent once the lock is given back. Where the
 /// journal can't be written, that is noted.
+#[tactic(auto, using(crate::proofs::Taking::stepped_ok))]
 pub fn step<R: Wait + Drop>(
     rt: &R,
     station: &FileStation<R>,
@@ -257,13 +258,7 @@ pub fn step<R: Wait + Drop>(
 ) -> SiteReply
     ensures { WasStepped event.now result }
 {
-    let mut lent = station.lock(rt);
-    let before = lent.journal().len();
-    let answer = lent.step(rt, event);
-    let news = station.news(&lent, before);
-    drop(lent);
-    station.wake_for(news);
-    match answer {
+    match station.step(rt, event) {
         Ok(outcome) => SiteReply::Taken(Done {
             sent: outcome.sent.as_slice().len(),
             declared: outcome.declared,

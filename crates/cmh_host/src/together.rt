@@ -1,17 +1,16 @@
 //! Events of lines that are there already go to the station together, so that they share a sync.
 
-ghost use Rattle.std.specs.Prelude.{◌≡◌, ◌≤◌, ◌<◌, length, true, IfOk, IfErr, IfSome, OnErr, OnOk, flat_map};
+ghost use Rattle.std.specs.Prelude.{◌≡◌, ◌≤◌, length, true, IfOk, IfErr, IfSome, OnErr, OnOk, flat_map};
 ghost use Rattle.std.specs.Io.KnownBytes.{Appends};
 ghost use Rattle.cmh_station.specs.Journaled.{batch_limit};
 ghost use Rattle.cmh_host.specs.Together.{AreTaken, FirstRefused, WereAnswered, answer_text, reply_of};
 
-use crate::JournalSink;
 use crate::site_reply::SiteReply;
 use crate::starting::{FileStation, note_seal, step};
 use cmh_carriers::Speaker;
 use cmh_console::{Output, WriteFault};
 use cmh_frames::{Done, Event, Outcome};
-use cmh_station::{KeptBoard, Station, StationRefusal};
+use cmh_station::StationRefusal;
 use std::io::Write;
 use std::sync::Wait;
 
@@ -67,40 +66,12 @@ fn take_together<R: Wait + Drop>(
     if events.len() < 2 {
         return Err(None);
     }
-    let mut lent = station.lock(rt);
-    let before = lent.journal().len();
-    let answered = step_all(rt, &mut lent, events);
-    let news = station.news(&lent, before);
-    drop(lent);
-    station.wake_for(news);
-    match answered {
+    match station.step_from_first(rt, events) {
         Ok(answers) => Ok(answers),
-        Err(refused) => {
-            if let Some(refusal) = refused {
-                note_seal(rt, speaker, refusal);
-            }
-            Err(refused)
+        Err(StationRefusal::Disk) => {
+            note_seal(rt, speaker, StationRefusal::Disk);
+            Err(Some(StationRefusal::Disk))
         }
-    }
-}
-
-/// All events with one sync, if the rules accept the first, so that it is the one to answer where the disk fails.
-fn step_all<R: Wait + Drop>(
-    rt: &R,
-    station: &mut Station<JournalSink, KeptBoard<R>>,
-    events: &[Event],
-) -> Result<Vec<Answer>, Option<StationRefusal>>
-    requires some { 0 < length events.now }
-    requires few { length events.now ≤ batch_limit }
-    ensures taken { IfOk result (λ answers. AreTaken events.now answers.items) }
-    ensures first { IfErr result (λ refused. IfSome refused (FirstRefused events.now)) }
-{
-    if station.check(&events[0]).is_err() {
-        return Err(None);
-    }
-    match station.step_all(rt, events) {
-        Ok(answers) => Ok(answers),
-        Err(StationRefusal::Disk) => Err(Some(StationRefusal::Disk)),
         Err(_) => Err(None),
     }
 }

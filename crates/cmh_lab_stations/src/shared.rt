@@ -12,7 +12,7 @@ use crate::taps::parking_to;
 use crate::telling::put_refusal;
 use cmh_console::Words;
 use cmh_frames::{Event, Frame, Outcome, SiteId};
-use cmh_lab_lines::{Answer, Unanswered, size};
+use cmh_lab_lines::{Answer, Unanswered};
 use cmh_station::{BoardReader, KeptBoard, ParkingTap, SharedStation, StationRefusal};
 use std::alloc::Global;
 use std::sync::Wait;
@@ -68,15 +68,15 @@ pub fn share<R: Wait + Copy + Drop>(
 
 impl<R: Wait + Copy + Drop> Stepping for Shared<R> {
     fn step(&mut self, event: &Event) -> Result<Outcome, StationRefusal> {
-        self.station.lock(&self.rt).step(&self.rt, event)
+        self.station.step(&self.rt, event)
     }
 
     fn step_all(&mut self, events: &[Event]) -> Steps {
-        self.station.lock(&self.rt).step_all(&self.rt, events)
+        self.station.step_all(&self.rt, events)
     }
 
     fn step_until(&mut self, events: &[Event]) -> Steps {
-        self.station.lock(&self.rt).step_until(&self.rt, events)
+        self.station.step_until(&self.rt, events)
     }
 
     fn release(&mut self) {
@@ -100,23 +100,6 @@ impl<R: Wait + Copy + Drop> Shared<R> {
             }
             Err(refusal) => put_refusal(refusal, answer),
         }
-    }
-
-    /// `wake`: the threads of all links. `wake since COUNT`: those of the links on which frames were sent after so many
-    /// entries.
-    fn wake(&self, words: &mut Words<'_>) -> Result<(), Unanswered> {
-        match words.next_word() {
-            None => self.station.wake(),
-            Some(b"since") => {
-                let before = size(words)?;
-                let station = self.station.lock(&self.rt);
-                let news = self.station.news(&station, before);
-                drop(station);
-                self.station.wake_for(news);
-            }
-            Some(_) => return Err(Unanswered::BadLine),
-        }
-        Ok(())
     }
 
     /// The station, which is shared no longer: `entries` and their number. The readers are left.
@@ -146,7 +129,7 @@ impl<R: Wait + Copy + Drop> Shared<R> {
             Ok("tell") => self.tell(answer),
             Ok("read") => read_one(&mut self.first, &mut self.second, words, answer),
             Ok("wake") => {
-                self.wake(words)?;
+                self.station.wake();
                 answer.word("ok")
             }
             Ok("park") => {

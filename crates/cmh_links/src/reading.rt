@@ -19,7 +19,7 @@ use cmh_station::StationRefusal;
 use std::sync::Wait;
 
 /// How many bytes are read at once, at most.
-const MOST_READ: usize = 512;
+const MOST_READ: usize = 4096;
 
 /// What takes the frames of a link.
 pub trait Handover {

@@ -1,6 +1,6 @@
 //! What the threads of a site share, and the two ways between its links and its station.
 
-ghost use Rattle.std.specs.Prelude.{◌≡◌, ◌==◌, ◌≤◌, [], ◌∷◌, ◌++◌, None, Some, filter, length, not, true, IfOk, OnOk};
+ghost use Rattle.std.specs.Prelude.{◌≡◌, ◌≢◌, ◌==◌, ◌≤◌, [], ◌∷◌, ◌++◌, None, Some, filter, length, not, true, IfOk, OnOk, OnErr};
 ghost use Rattle.std.specs.Arc.{arc_value};
 ghost use Rattle.cmh_frames.specs.Topology.{sites_of};
 ghost use Rattle.cmh_links.specs.Writing.{Gave};
@@ -11,7 +11,7 @@ use crate::{FrameSource, Handover, Next};
 use cmh_carriers::{Line, LinkTable, Note, SharedLinks, Speaker};
 use cmh_frames::{Edition, Frame, SiteId, Topology};
 use cmh_journal::Sink;
-use cmh_station::{Listing, ParkingTap, SharedStation, StationRefusal};
+use cmh_station::{BATCH_LIMIT, Listing, ParkingTap, SharedStation, StationRefusal};
 use std::alloc::{AllocError, Global};
 use std::sync::atomic::{AtomicBool, AtomicU16, AtomicU64, Ordering};
 use std::sync::{Arc, Wait};
@@ -139,6 +139,23 @@ impl<'a, R: Wait + Drop, S: Sink, B: Listing, L: Line + Drop> StationHandover<'a
             refused: None,
         }
     }
+
+    /// Gives frames to the station, a batch each time that it is locked, up to the first that is refused. No frames take no
+    /// lock.
+    fn give(&self, from: SiteId, frames: &[Frame]) -> Result<(), StationRefusal>
+        ensures { OnErr result (frames.now ≢ []) }
+    {
+        let mut rest = frames;
+        while !rest.is_empty() {
+            let (batch, behind) = rest.split_at(rest.len().min(BATCH_LIMIT));
+            match self.shared.station.take_frames(&self.rt, from, batch) {
+                Ok(()) => {}
+                Err(refusal) => return Err(refusal),
+            }
+            rest = behind;
+        }
+        Ok(())
+    }
 }
 
 impl<'a, R: Wait + Drop, S: Sink, B: Listing, L: Line + Drop> Handover
@@ -151,18 +168,11 @@ impl<'a, R: Wait + Drop, S: Sink, B: Listing, L: Line + Drop> Handover
         self.hand_all(from, &[frame])
     }
 
-    /// The station, for as long as it is locked, takes the frames. The threads that write are woken then. A link is claimed
-    /// before, by a good hello.
-    #[tactic(auto, using(crate::proofs::Batches::handed_untold, crate::proofs::Batches::some_left))]
+    /// The station takes the frames, and the threads that write are woken. A link is claimed before, by a good hello.
+    #[tactic(auto, using(crate::proofs::Batches::handed_untold))]
     fn hand_all(&mut self, from: SiteId, frames: &[Frame]) -> Result<(), StationRefusal> {
         self.seat.tell();
-        let mut station = self.shared.station.lock(&self.rt);
-        let before = station.journal().len();
-        let answer = station.take_frames(&self.rt, from, frames);
-        let news = self.shared.station.news(&station, before);
-        drop(station);
-        self.shared.station.wake_for(news);
-        match answer {
+        match self.give(from, frames) {
             Ok(()) => Ok(()),
             Err(refusal) => {
                 if refusal == StationRefusal::Disk {

@@ -76,13 +76,7 @@ impl<R: Wait + Drop> Host<R> {
         if events.len() < 2 {
             return Together::Alone;
         }
-        let mut lent = self.handle.station.lock(&self.rt);
-        let before = lent.journal().len();
-        let answered = lent.step_all(&self.rt, events);
-        let news = self.handle.station.news(&lent, before);
-        drop(lent);
-        self.handle.station.wake_for(news);
-        match answered {
+        match self.handle.station.step_all(&self.rt, events) {
             Ok(answers) => Together::Each(answers),
             Err(StationRefusal::Disk) => {
                 note_seal(&self.rt, self.handle.speaker.as_ref(), StationRefusal::Disk);

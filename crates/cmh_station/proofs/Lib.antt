@@ -4,6 +4,8 @@ pub mod Stops
 pub mod Ends
 pub mod Declarations
 pub mod Stepping
+pub mod Growing
 pub mod Arriving
+pub mod KeptBatches
 pub mod Refused
 pub mod Alone

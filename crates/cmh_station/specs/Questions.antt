@@ -1,5 +1,5 @@
 -- What a station answers to questions, which change nothing.
-use Rattle.std.specs.Prelude.{ℕ, ◌≡◌, ◌≢◌, ◌<◌, false, length, None}
+use Rattle.std.specs.Prelude.{ℕ, ◌≡◌, ◌≢◌, ◌<◌, false, List, [], ◌∷◌, length, None}
 use Rattle.cmh_frames.specs.Topology.{At, Topology, home}
 use Rattle.cmh_frames.specs.declared.event.Event.{Event}
 use Rattle.cmh_frames.specs.Rules.{Accepts}
@@ -14,6 +14,11 @@ pub record CanStep (a : Journaled) (event : Event) : Type 0 where
   pub is_open : a.sealed ≡ false
   pub not_full : length a.entries < entry_limit
   pub accepted : Accepts a.topology a.site (state_of a) event
+
+-- there are events, and a step takes the first of them so
+abbrev pub CanStepFirst : Journaled → List Event → Type 0
+CanStepFirst a [] = ⊥
+CanStepFirst a (event ∷ events) = CanStep a event
 
 -- Why a question about a process is refused: it is not in the topology, or at home at another site. Memory may be refused
 -- where it is at home at this one.

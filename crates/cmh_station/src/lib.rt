@@ -17,6 +17,6 @@ pub use crate::batch::BATCH_LIMIT;
 pub use crate::journaled::JournaledController;
 pub use crate::parking_tap::{LinkTap, ParkingTap};
 pub use crate::refusal::StationRefusal;
-pub use crate::shared::{News, SharedStation};
+pub use crate::shared::SharedStation;
 pub use crate::station::Station;
 pub use cmh_shared::{BoardReader, Declared, KeptBoard, Listing, Told};

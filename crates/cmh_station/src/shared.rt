@@ -1,11 +1,16 @@
 //! A station that threads share.
 
-ghost use Rattle.std.specs.Prelude.{◌≡◌, ◌≤◌, [], length, IfOk, IfErr};
+ghost use Rattle.std.specs.Prelude.{◌≡◌, ◌<◌, ◌≤◌, [], length, take, IfOk, IfErr, OnOk};
 ghost use Rattle.std.specs.Vec.{vec_len, vec_capacity};
+ghost use Rattle.cmh_station.specs.Arrivals.{TookFrames, TookSome};
+ghost use Rattle.cmh_station.specs.Batches.{AreUntilRefused, NotSteppedAll, NotSteppedFromFirst, SteppedAll};
+ghost use Rattle.cmh_station.specs.Journaled.{Journaled, batch_limit};
+ghost use Rattle.cmh_station.specs.Steps.{NotStepped, Stepped};
 
 use crate::parking_tap::{LinkTap, ParkingTap};
+use crate::refusal::StationRefusal;
 use crate::station::Station;
-use cmh_frames::SiteId;
+use cmh_frames::{Event, Frame, Outcome, SiteId};
 use cmh_journal::Sink;
 use cmh_shared::Listing;
 use crossbeam_utils::sync::{Parker, Unparker};
@@ -32,8 +37,8 @@ struct Sleeper {
 
 /// Who has something to do after steps: the threads of links that frames were sent on, and the one that tells
 /// declarations. A site has at most 63 links, and each has a bit by its place.
-#[derive(Clone, Copy, Debug, PartialEq, Eq)]
-pub struct News {
+#[derive(Clone, Copy)]
+struct News {
     links: u64,
     declares: bool,
 }
@@ -63,20 +68,122 @@ impl<S: Sink, B: Listing> SharedStation<S, B> {
         Ok((shared, with_parkers(taps, parkers, parking)))
     }
 
-    /// Has `wake_for` wake one more thread where something was declared. Only the first call counts.
+    /// Has the steps wake one more thread where something was declared. Only the first call counts.
     pub fn watch(&self, watcher: Unparker) {
         let _ = self.watcher.try_set(watcher);
     }
 
-    /// The station, lent until the guard is dropped. It waits for whoever holds it; a thread that holds it and asks
-    /// again waits for ever.
+    /// `Station::step`, with the station locked for as long; then those who have something to do after it are woken.
+    ///
+    /// Which station it was is not told: what comes out of a lock is known by its type alone.
+    pub fn step<R: Wait>(&self, rt: &R, event: &Event) -> Result<Outcome, StationRefusal>
+        ensures ok { IfOk result (λ outcome. (before : Journaled) × (after : Journaled)
+            × Stepped before event.now outcome.sent outcome.declared after) }
+        ensures refused { IfErr result (λ refusal. (before : Journaled) × (after : Journaled)
+            × NotStepped before event.now refusal after) }
+    {
+        let mut station = self.station.lock(rt);
+        let before = station.journal().len();
+        let answer = station.step(rt, event);
+        self.give_back(station, before);
+        answer
+    }
+
+    /// `Station::step_all`, as `step` above.
+    pub fn step_all<R: Wait>(
+        &self,
+        rt: &R,
+        events: &[Event],
+    ) -> Result<Vec<Result<Outcome, StationRefusal>>, StationRefusal>
+        requires { length events.now ≤ batch_limit }
+        ensures ok { IfOk result (λ answers. (before : Journaled) × (after : Journaled)
+            × SteppedAll before events.now answers.items after) }
+        ensures refused { IfErr result (λ refusal. (before : Journaled) × (after : Journaled)
+            × NotSteppedAll before events.now refusal after) }
+    {
+        let mut station = self.station.lock(rt);
+        let before = station.journal().len();
+        let answers = station.step_all(rt, events);
+        self.give_back(station, before);
+        answers
+    }
+
+    /// `step_all`, if the station can step the first event: so that one is to be refused where the disk fails. Where it
+    /// can't, the refusal is that of a step with this event, and nothing was done.
+    pub fn step_from_first<R: Wait>(
+        &self,
+        rt: &R,
+        events: &[Event],
+    ) -> Result<Vec<Result<Outcome, StationRefusal>>, StationRefusal>
+        requires some { 0 < length events.now }
+        requires few { length events.now ≤ batch_limit }
+        ensures ok { IfOk result (λ answers. (before : Journaled) × (after : Journaled)
+            × SteppedAll before events.now answers.items after) }
+        ensures refused { IfErr result (λ refusal. (before : Journaled) × (after : Journaled)
+            × NotSteppedFromFirst before events.now refusal after) }
+    {
+        let mut station = self.station.lock(rt);
+        let before = station.journal().len();
+        let answers = step_from_first(rt, &mut station, events);
+        self.give_back(station, before);
+        answers
+    }
+
+    /// `Station::step_until`, as `step` above.
+    pub fn step_until<R: Wait>(
+        &self,
+        rt: &R,
+        events: &[Event],
+    ) -> Result<Vec<Result<Outcome, StationRefusal>>, StationRefusal>
+        requires { length events.now ≤ batch_limit }
+        ensures ok { IfOk result (λ answers. (before : Journaled) × (after : Journaled)
+            × SteppedAll before (take (length answers.items) events.now) answers.items after) }
+        ensures until { IfOk result (λ answers. AreUntilRefused events.now answers.items) }
+        ensures refused { IfErr result (λ refusal. (before : Journaled) × (after : Journaled)
+            × NotSteppedAll before events.now refusal after) }
+    {
+        let mut station = self.station.lock(rt);
+        let before = station.journal().len();
+        let answers = station.step_until(rt, events);
+        self.give_back(station, before);
+        answers
+    }
+
+    /// `Station::take_frames`, as `step` above.
+    pub fn take_frames<R: Wait>(
+        &self,
+        rt: &R,
+        from: SiteId,
+        frames: &[Frame],
+    ) -> Result<(), StationRefusal>
+        ensures ok { OnOk result ((before : Journaled) × (after : Journaled) × TookFrames from frames.now before after) }
+        ensures refused { IfErr result (λ refusal. (before : Journaled) × (after : Journaled)
+            × TookSome from frames.now refusal before after) }
+    {
+        let mut station = self.station.lock(rt);
+        let before = station.journal().len();
+        let answer = station.take_frames(rt, from, frames);
+        self.give_back(station, before);
+        answer
+    }
+
+    /// Gives the lock back, and wakes who has something to do after the entries that the station has made since its journal
+    /// had so many.
+    fn give_back(&self, station: MutexGuard<'_, Station<S, B>>, before: usize) {
+        let news = self.news(&station, before);
+        drop(station);
+        self.wake_for(news);
+    }
+
+    /// The station, lent until the guard is dropped, for a look or another call that makes no entry: after a step through
+    /// it nobody would be woken. It waits for whoever holds it; a thread that holds it and asks again waits for ever.
     pub fn lock<R: Wait>(&self, rt: &R) -> MutexGuard<'_, Station<S, B>> {
         self.station.lock(rt)
     }
 
     /// Wakes the threads that sleep in `park`, of all taps. It locks nothing, waits for nobody and takes no memory.
     ///
-    /// After steps it serves to call `wake_for`, which wakes fewer.
+    /// The steps above wake fewer.
     pub fn wake(&self) {
         for sleeper in &self.sleepers {
             sleeper.unparker.unpark();
@@ -84,7 +191,7 @@ impl<S: Sink, B: Listing> SharedStation<S, B> {
     }
 
     /// Who has something to do after the entries that the station has made since its journal had so many.
-    pub fn news(&self, station: &Station<S, B>, before: usize) -> News {
+    fn news(&self, station: &Station<S, B>, before: usize) -> News {
         let mut news = News {
             links: 0,
             declares: false,
@@ -101,9 +208,7 @@ impl<S: Sink, B: Listing> SharedStation<S, B> {
     }
 
     /// Wakes those threads. It locks nothing, waits for nobody and takes no memory.
-    ///
-    /// It is called after each step, once the guard is dropped.
-    pub fn wake_for(&self, news: News) {
+    fn wake_for(&self, news: News) {
         for (place, sleeper) in self.sleepers.iter().enumerate() {
             if news.links >> (place % 64) & 1 == 1 {
                 sleeper.unparker.unpark();
@@ -172,4 +277,24 @@ fn with_parkers(
         parking.push_reserved(ParkingTap::new(tap, parker));
     }
     parking
+}
+
+/// Steps all events, if the station can step the first one.
+fn step_from_first<R: Wait, S: Sink, B: Listing>(
+    rt: &R,
+    station: &mut Station<S, B>,
+    events: &[Event],
+) -> Result<Vec<Result<Outcome, StationRefusal>>, StationRefusal>
+    requires some { 0 < length events.now }
+    requires few { length events.now ≤ batch_limit }
+    ensures ok { IfOk result (λ answers. SteppedAll station.old.core events.now answers.items station.new.core) }
+    ensures refused { IfErr result (λ refusal. NotSteppedFromFirst station.old.core events.now refusal station.new.core) }
+{
+    match station.check(&events[0]) {
+        Err(refusal) => Err(refusal),
+        Ok(()) => match station.step_all(rt, events) {
+            Ok(answers) => Ok(answers),
+            Err(refusal) => Err(refusal),
+        },
+    }
 }
