@@ -170,6 +170,7 @@ fn probes(
         ++ map (rules.probe_along (site_of topology.now) clock ask.now.origin ask.now.stamp) edges.now) }
 {
     let mut sent = sent;
+    sent.reserve(edges.len())?;
     for (from, to) in edges {
         let home = topology.home_of_known(*to);
         let frame = Frame::Probe {

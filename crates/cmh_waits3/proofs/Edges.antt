@@ -7,14 +7,16 @@ use Rattle.std.specs.Cmp.{nat_cmp_is, nat_cmp_total, tied_itself}
 use Rattle.std.proofs.lemmas.Bool.{and_from, and_parts, cases_Bool, cases_eq, cases_lt, eqb-true, eq-eqb, ne_eqb, not-true}
 use Rattle.std.proofs.lemmas.List.Elements.{Contains-append_left, Contains-append_right, Contains-append_cases}
 use Rattle.std.proofs.lemmas.List.Kept.{AllPairs-from_increasing}
-use Rattle.cmh_model3.specs.Lists.{IsAscending, in_list, is_before, pair_cmp}
+use Rattle.cmh_model3.specs.Lists.{IsAscending, is_before, pair_cmp}
 use Rattle.cmh_model3.specs.State.{counts}
 use Rattle.cmh_model3.proofs.Counts.{and_no}
 use Rattle.cmh_waits3.specs.declared.wait.Wait.{Wait}
 use Rattle.cmh_waits3.specs.Held.{Held, is_member, row_in, state_of}
+use Rattle.cmh_waits3.specs.Inner.Away.{IsAway}
 use Rattle.cmh_waits3.specs.Inner.Steps.{AreEdgesAt, AreMarkedEdges, has_place}
-use Rattle.cmh_waits3.specs.Rows.{since_in, targets_of}
-use Rattle.cmh_waits3.proofs.Counted.{counted, is_counted}
+use Rattle.cmh_waits3.specs.Rows.{targets_of}
+use Rattle.cmh_waits3.proofs.Away.{away_counts}
+use Rattle.cmh_waits3.proofs.Counted.{is_counted}
 
 -- ---- pairs in order
 
@@ -49,9 +51,9 @@ or_yes true = refl
 or_yes false = refl
 
 module _ (v : Held) (n i p : ℕ) where
-  -- a wait that counts, for a process of another site
+  -- a wait that counts
   abbrev pub leaves : Wait → Bool
-  leaves w = not (is_before n i w.since p) && not (is_member v w.target)
+  leaves w = not (is_before n i w.since p)
 
   abbrev pub edges_from : List Wait → List (ℕ × ℕ)
   edges_from ws = map (λ (w : Wait). (p, w.target)) (filter leaves ws)
@@ -75,33 +77,25 @@ module _ (v : Held) (n i p : ℕ) where
 
   -- what an edge from the list says
   abbrev Says : List Wait → ℕ × ℕ → Type 0
-  Says ws e = (e.0 ≡ p) × (list_any (is_counted n i p e.1) ws ≡ true) × (is_member v e.1 ≡ false)
-
-  says_later : (w : Wait) (ws : List Wait) (e : ℕ × ℕ) → Says ws e → Says (w ∷ ws) e
-  says_later w ws e h = (h.0, ap (λ b. is_counted n i p e.1 w || b) h.1 ∙ or_yes (is_counted n i p e.1 w), h.2)
+  Says ws e = (e.0 ≡ p) × (list_any (is_counted n i p e.1) ws ≡ true)
 
   there : (ws : List Wait) (e : ℕ × ℕ) → Contains (edges_from ws) e → Says ws e
   there [] e c = absurd (no_pair e c)
-  there (w ∷ ws) e c = go (leaves w) refl (λ d. says_later w ws e (there ws e d)) c
+  there (w ∷ ws) e c = go (leaves w) refl (λ d. let h = there ws e d in (h.0, ap (λ b. is_counted n i p e.1 w || b) h.1 ∙ or_yes (is_counted n i p e.1 w))) c
     where
       go : (b : Bool) → leaves w ≡ b → (Contains (edges_from ws) e → Says (w ∷ ws) e) → Contains (map (λ (w : Wait). (p, w.target)) (cond b (w ∷ filter leaves ws) (filter leaves ws))) e → Says (w ∷ ws) e
       go false h later c = later c
       go true h later (zero, l, is) =
-          let parts = and_parts (not (is_before n i w.since p)) (not (is_member v w.target)) h in
           let first : p ≡ e.0 = ap (λ (x : ℕ × ℕ). x.0) is in
           let second : w.target ≡ e.1 = ap (λ (x : ℕ × ℕ). x.1) is in
-          (sym first, ap (λ b. b || list_any (is_counted n i p e.1) ws) (and_from (w.target == e.1) (not (is_before n i w.since p)) (eq-eqb w.target e.1 second) parts.0), ap (is_member v) (sym second) ∙ not-true (is_member v w.target) parts.1)
+          (sym first, ap (λ b. b || list_any (is_counted n i p e.1) ws) (and_from (w.target == e.1) (not (is_before n i w.since p)) (eq-eqb w.target e.1 second) h))
       go true h later (suc k, l, is) = later (k, omega (arith, l), is)
 
-  here : (ws : List Wait) (k : ℕ) → list_any (is_counted n i p k) ws ≡ true → is_member v k ≡ false → Contains {X = ℕ × ℕ} (edges_from ws) (p, k)
-  here [] k h away = absurd (true≢false (sym h))
-  here (w ∷ ws) k h away = elim (cases_Bool (is_counted n i p k w)) [
-    | inl e ↦
-        let parts = and_parts (w.target == k) (not (is_before n i w.since p)) e in
-        let same = eqb-true w.target k parts.0 in
-        let out : leaves w ≡ true = and_from (not (is_before n i w.since p)) (not (is_member v w.target)) parts.1 (ap not (ap (is_member v) same ∙ away)) in
-        first out same
-    | inr e ↦ later (leaves w) (here ws k (sym (ap (λ b. b || list_any (is_counted n i p k) ws) e) ∙ h) away)
+  here : (ws : List Wait) (k : ℕ) → list_any (is_counted n i p k) ws ≡ true → Contains {X = ℕ × ℕ} (edges_from ws) (p, k)
+  here [] k h = absurd (true≢false (sym h))
+  here (w ∷ ws) k h = elim (cases_Bool (is_counted n i p k w)) [
+    | inl e ↦ let parts = and_parts (w.target == k) (not (is_before n i w.since p)) e in first parts.1 (eqb-true w.target k parts.0)
+    | inr e ↦ later (leaves w) (here ws k (sym (ap (λ b. b || list_any (is_counted n i p k) ws) e) ∙ h))
   ]
     where
       first : leaves w ≡ true → w.target ≡ k → Contains {X = ℕ × ℕ} (edges_from (w ∷ ws)) (p, k)
@@ -111,17 +105,18 @@ module _ (v : Held) (n i p : ℕ) where
       later true c = let l : c.0 < length (edges_from ws) = c.1 in (suc c.0, omega (arith, l), c.2)
       later false c = c
 
-  pub edges_at : (ws : List Wait) → row_in v.members v.rows p ≡ ws → IsAscending (targets_of ws) → AreEdgesAt v n i p (edges_from ws)
-  edges_at ws row up = record {
+  -- those of the waits for processes of other sites
+  pub edges_at : (ws : List Wait) → IsAway v.members (row_in v.members v.rows p) ws → IsAscending (targets_of ws) → AreEdgesAt v n i p (edges_from ws)
+  edges_at ws is up = record {
     ascending = edges_ascend ws up;
     all = λ e. (
-      λ c. let h = there ws e c in (h.0, is_counts e.1 ∙ h.1, h.2),
-      λ h. subst (λ q. Contains {X = ℕ × ℕ} (edges_from ws) (q, e.1)) (sym h.0) (here ws e.1 (sym (is_counts e.1) ∙ h.1) h.2),
+      λ c.
+          let h = there ws e c in
+          let parts = and_parts (counts (state_of v) n i p e.1) (not (is_member v e.1)) (sym (away_counts v n i p ws is up e.1) ∙ h.1) in
+          (h.0, parts.0, not-true (is_member v e.1) parts.1),
+      λ h. subst (λ q. Contains {X = ℕ × ℕ} (edges_from ws) (q, e.1)) (sym h.0) (here ws e.1 (away_counts v n i p ws is up e.1 ∙ and_from (counts (state_of v) n i p e.1) (not (is_member v e.1)) h.1 (ap not h.2))),
     );
   }
-    where
-      is_counts : (k : ℕ) → counts (state_of v) n i p k ≡ list_any (is_counted n i p k) ws
-      is_counts k = ap (λ (r : List Wait). in_list (targets_of r) k && not (is_before n i (since_in r k) p)) row ∙ sym (counted n i p k ws up)
 
 -- ---- those of each process in turn
 
@@ -184,8 +179,8 @@ pub record AreEdgesWithout (v : Held) (n i : ℕ) (marked left : List ℕ) (edge
   pub none : (k : ℕ) → k < done → has_place left k ≡ false
   pub later : (k : ℕ) → done ≤ k → has_place left k ≡ has_place marked k
 
-pub without_begin : (v : Held) (n i : ℕ) (marked : List ℕ) → AreEdgesWithout v n i marked marked []
-without_begin v n i marked = record { done = 0; below = edges_begin v n i marked; none = λ k l. absurd (omega (arith, l)); later = λ k l. refl }
+pub without_begin : (v : Held) (n i : ℕ) (marked left : List ℕ) → ((k : ℕ) → has_place left k ≡ has_place marked k) → AreEdgesWithout v n i marked left []
+without_begin v n i marked left same = record { done = 0; below = edges_begin v n i marked; none = λ k l. absurd (omega (arith, l)); later = λ k l. same k }
 
 module _ (v : Held) (n i : ℕ) (marked left : List ℕ) (edges : List (ℕ × ℕ)) (are : AreEdgesWithout v n i marked left edges) where
   -- the least that is left is looked at

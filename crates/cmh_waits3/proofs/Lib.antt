@@ -7,6 +7,7 @@ pub mod Bits
 pub mod Counting
 pub mod Searching
 pub mod Counted
+pub mod Away
 pub mod Edges
 pub mod Findings
 pub mod Summaries

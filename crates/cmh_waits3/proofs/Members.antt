@@ -88,7 +88,7 @@ rows_at (m ∷ ms) (row ∷ rows) (suc i) p ks first inside within at =
     ap (λ b. if b then others_than ks row ∷ rows else row ∷ rows_without ms rows p ks) (ne_eqb m p (first 0 (omega arith)))
     ∙ ap (λ r. row ∷ r) (rows_at ms rows i p ks (λ k less. first (suc k) (omega (arith, less))) (omega (arith, inside)) (omega (arith, within)) at)
 
-set_same : {X : Type 0} (xs : List X) (i : ℕ) (d : X) → i < length xs → set xs i (get_or xs i d) ≡ xs
+pub set_same : {X : Type 0} (xs : List X) (i : ℕ) (d : X) → i < length xs → set xs i (get_or xs i d) ≡ xs
 set_same [] i d inside = refl
 set_same (x ∷ xs) zero d inside = refl
 set_same (x ∷ xs) (suc i) d inside = ap (λ r. x ∷ r) (set_same xs i d (omega (arith, inside)))
@@ -173,13 +173,14 @@ module _ (ms : List ℕ) (rows : List (List Wait)) (up : IsStrictlyIncreasing ms
         waits_set new
         ∙ ap (set_at (waits_of (held ms rows)) p) (inserted_waits ks s old new more apart are ∙ ap (λ (r : List Wait). with_each (targets_of r) ks) (sym old_is))
 
+    pub rows_undone : ((k : ℕ) → in_list ks k ≡ true → in_list (targets_of old) k ≡ false) → set (set rows i new) i (others_than ks new) ≡ rows
+    rows_undone apart = ap (set (set rows i new) i) (are.others ks (λ k h. h) ∙ others_apart ks old apart) ∙ set_set rows i new old ∙ set_same rows i [] within
+
     pub begun_undone : ((k : ℕ) → in_list ks k ≡ true → in_list (targets_of old) k ≡ false) → ended (held ms (set rows i new)) p ks ≡ held ms rows
     begun_undone apart = ap (held ms) (
         rows_at ms (set rows i new) i p ks (not_earlier ms up i p inside at) inside (let l = long_set rows i new in let w = within in omega (arith, l, w)) at
         ∙ ap (λ r. set (set rows i new) i (others_than ks r)) (get_set rows i new [] within)
-        ∙ ap (set (set rows i new) i) (are.others ks (λ k h. h) ∙ others_apart ks old apart)
-        ∙ set_set rows i new old
-        ∙ set_same rows i [] within
+        ∙ rows_undone apart
         )
 
   -- some waits have ended
@@ -250,11 +251,17 @@ module _ (ms : List ℕ) (rows : List (List Wait)) (up : IsStrictlyIncreasing ms
   pub not_found : (k : ℕ) → in_list ks k ≡ true → in_list (targets_of found) k ≡ false
   not_found k h = ap (λ (r : List Wait). in_list (targets_of r) k) row ∙ there k h
 
-  pub begun : (s : ℕ) (after : List Wait) → IsAscending ks → AreInserted ks s found after → IsBegun v p ks s (held ms (set rows i after))
-  begun s after more inserted =
-      let are = subst (λ (old : List Wait). AreInserted ks s old after) row inserted in
-      subst (λ (w : Held). IsBegun w p ks s (held ms (set rows i after))) view (record {
-        waits = begun_waits ms rows up long i p inside at ks s after are more there;
-        since = begun_since ms rows up long i p inside at ks s after are;
-        undone = begun_undone ms rows up long i p inside at ks s after are there;
-      })
+  module _ (s : ℕ) (after : List Wait) (inserted : AreInserted ks s found after) where
+    are : AreInserted ks s (get_or rows i []) after
+    are = subst (λ (old : List Wait). AreInserted ks s old after) row inserted
+
+    pub begun : IsAscending ks → IsBegun v p ks s (held ms (set rows i after))
+    begun more = subst (λ (w : Held). IsBegun w p ks s (held ms (set rows i after))) view (record {
+      waits = begun_waits ms rows up long i p inside at ks s after are more there;
+      since = begun_since ms rows up long i p inside at ks s after are;
+      undone = begun_undone ms rows up long i p inside at ks s after are there;
+    })
+
+    -- and taken back
+    pub begun_back : (back : List Wait) → back ≡ others_than ks after → set (set rows i after) i back ≡ rows
+    begun_back back is = ap (set (set rows i after) i) is ∙ rows_undone ms rows up long i p inside at ks s after are there

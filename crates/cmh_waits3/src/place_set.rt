@@ -136,6 +136,13 @@ impl PlaceSet {
         }
     }
 
+    /// How many places it has: a hint of the room that something for each of them takes.
+    #[inline(always)]
+    pub fn count(self) -> usize {
+        let [a, b, c, d] = self.words;
+        (a.count_ones() + b.count_ones() + c.count_ones() + d.count_ones()) as usize
+    }
+
     /// Its least place.
     #[inline(always)]
     pub fn first(self) -> Option<usize>

@@ -199,9 +199,29 @@ fn edges_at(
     requires { (k : ℕ) → has_place reached.words k ≡ true → k < length waits.now.members }
     ensures { IfOk result (λ edges. AreMarkedEdges waits.now stamp origin reached.words edges.items) }
 {
+    if waits.members().len() <= 64 {
+        edges_within(alloc, waits, stamp, origin, reached, true)
+    } else {
+        edges_within(alloc, waits, stamp, origin, reached, false)
+    }
+}
+
+#[inline(always)]
+fn edges_within(
+    alloc: Global,
+    waits: &SiteWaits,
+    stamp: Stamp,
+    origin: ProcId,
+    reached: PlaceSet,
+    small: bool,
+) -> Result<Vec<(ProcId, ProcId)>, AllocError>
+    requires inside { (k : ℕ) → has_place reached.words k ≡ true → k < length waits.now.members }
+    requires small { small ≡ true → length waits.now.members ≤ 64 }
+    ensures { IfOk result (λ edges. AreMarkedEdges waits.now stamp origin reached.words edges.items) }
+{
     let _ = waits.members();
-    let mut edges = Vec::new(alloc);
-    let mut left = reached;
+    let mut left = in_words(reached, small);
+    let mut edges = Vec::with_capacity(alloc, left.count())?;
     while let Some(place) = left.first() {
         left = left.without(place);
         push_edges(&mut edges, waits, stamp, origin, place)?;
@@ -222,9 +242,9 @@ fn push_edges(
         × AreEdgesAt waits.now stamp origin (slice_index waits.now.members place) more) }
 {
     let asker = waits.members()[place];
-    let row = waits.row(place);
-    for wait in row {
-        if wait.counts(stamp, origin, asker) && !waits.is_member(wait.target) {
+    let away = waits.away(place);
+    for wait in away {
+        if wait.counts(stamp, origin, asker) {
             edges.push((asker, wait.target))?;
         }
     }

@@ -6,6 +6,7 @@ ghost use Rattle.cmh_model3.specs.Lists.{IsAscending, in_list, is_nonempty, set_
 ghost use Rattle.cmh_model3.specs.State.{counts, passes};
 ghost use Rattle.cmh_waits3.specs.Held.{ended, is_member, nothing_held, row_in, since_of, state_of, waits_of};
 ghost use Rattle.cmh_waits3.specs.Rows.{since_in, targets_of};
+ghost use Rattle.cmh_waits3.specs.Inner.Away.{IsAway};
 ghost use Rattle.cmh_waits3.specs.Inner.Steps.{has_place};
 ghost use Rattle.cmh_waits3.specs.Inner.Summaries.{IsSummary};
 
@@ -27,6 +28,8 @@ pub struct SiteWaits {
     members: MemberTable,
     /// At the place of each process its waits.
     rows: Vec<WaitList>,
+    /// Those of them that are for processes of other sites.
+    away: Vec<WaitList>,
     /// And what a search needs of them.
     summaries: Vec<Summary>,
     /// The places of the processes that may wait for some of other sites. The others do not.
@@ -37,6 +40,7 @@ impl Model for SiteWaits {
     ghost use Rattle.std.specs.Prelude.{◌≡◌, length};
     ghost use Rattle.std.specs.List.Sorted.{IsStrictlyIncreasing};
     ghost use Rattle.cmh_waits3.specs.Held.{Held};
+    ghost use Rattle.cmh_waits3.specs.Inner.Away.{AreAway};
     ghost use Rattle.cmh_waits3.specs.Inner.Summaries.{AreSummaries};
 
     ghost Value = { Held };
@@ -44,7 +48,8 @@ impl Model for SiteWaits {
     ghost view = { λ w. record { members = w.members; rows = w.rows.items } };
 
     ghost invariant = { λ w. IsStrictlyIncreasing w.members × (length w.rows.items ≡ length w.members)
-        × AreSummaries w.members w.rows.items w.summaries.items w.leaving.words };
+        × AreSummaries w.members w.rows.items w.summaries.items w.leaving.words
+        × AreAway w.members w.rows.items w.away.items };
 }
 
 impl SiteWaits {
@@ -57,6 +62,7 @@ impl SiteWaits {
         Ok(SiteWaits {
             members: MemberTable::new(alloc, members)?,
             rows: WaitList::empty_lists(alloc, members.len())?,
+            away: WaitList::empty_lists(alloc, members.len())?,
             summaries: vec![in alloc; Summary::of_none(); members.len()]?,
             leaving: PlaceSet::empty(),
         })
@@ -154,6 +160,10 @@ impl SiteWaits {
             return Ok(());
         };
         self.rows[place].insert_all(targets, since)?;
+        if let Err(error) = self.away[place].insert_away(&self.members, targets, since) {
+            self.rows[place].remove_all(targets);
+            return Err(error);
+        }
         let leaves = self.summaries[place].begin(&self.members, targets, since);
         self.leaving = self.leaving.with_if(place, leaves);
         Ok(())
@@ -170,6 +180,7 @@ impl SiteWaits {
         let _ = self.members.as_slice();
         if let Some(place) = self.members.place_of(asker) {
             self.rows[place].remove(holder);
+            self.away[place].remove(holder);
             let left = self.rows[place].as_slice();
             self.summaries[place].end(&self.members, holder, left);
             self.leaving = self.leaving.without_if(place, left.is_empty());
@@ -187,6 +198,7 @@ impl SiteWaits {
         let _ = self.members.as_slice();
         if let Some(place) = self.members.place_of(asker) {
             self.rows[place].remove_all(targets);
+            self.away[place].remove_all(targets);
             let left = self.rows[place].as_slice();
             self.summaries[place].end_all(&self.members, targets, left);
             self.leaving = self.leaving.without_if(place, left.is_empty());
@@ -200,6 +212,7 @@ impl SiteWaits {
         Ok(SiteWaits {
             members: self.members.copy(alloc)?,
             rows: WaitList::copy_all(alloc, &self.rows)?,
+            away: WaitList::copy_all(alloc, &self.away)?,
             summaries: self.summaries.to_vec(alloc)?,
             leaving: self.leaving,
         })
@@ -222,6 +235,16 @@ impl SiteWaits {
         ensures ascending { IsAscending (targets_of result.now) }
     {
         self.rows[place].as_slice()
+    }
+
+    /// Those of them that are for processes of other sites.
+    #[inline(always)]
+    pub(crate) fn away(&self, place: usize) -> &[Wait]
+        requires { place < length self.now.members }
+        ensures away { IsAway self.now.members (row_in self.now.members self.now.rows (slice_index self.now.members place)) result.now }
+        ensures ascending { IsAscending (targets_of result.now) }
+    {
+        self.away[place].as_slice()
     }
 
     /// What a search needs of the waits of the process at this place.

@@ -3,10 +3,12 @@
 ghost use Rattle.std.specs.Prelude.{◌≡◌, ℕ, [], ◌∷◌, ◌+◌, ◌<◌, ◌≤◌, true, false, IfOk, IfErr, OnOk, OnErr, length, slice_index, replicate};
 ghost use Rattle.cmh_model3.specs.Lists.{IsAscending, in_list};
 ghost use Rattle.std.specs.Vec.{vec_capacity, vec_len};
+ghost use Rattle.cmh_waits3.specs.Inner.Away.{AreInsertedAway};
 ghost use Rattle.cmh_waits3.specs.Inner.Inserting.{AreInserted, IsPlaceFor};
 ghost use Rattle.cmh_waits3.specs.Rows.{others_than, targets_of};
 
 use crate::Wait;
+use crate::member_table::MemberTable;
 use cmh_model3::{ProcId, Stamp};
 use std::alloc::{AllocError, Global};
 use std::marker::Model;
@@ -80,6 +82,23 @@ impl WaitList {
         Ok(())
     }
 
+    /// Adds waits for those of these that are not among the members. They have the same stamp.
+    pub fn insert_away(
+        &mut self,
+        members: &MemberTable,
+        targets: &[ProcId],
+        since: Stamp,
+    ) -> Result<(), AllocError>
+        requires ascending { IsAscending targets.now }
+        requires new { (k : ℕ) → in_list targets.now k ≡ true → in_list (targets_of self.old) k ≡ false }
+        ensures ok { OnOk result (AreInsertedAway members.now targets.now since self.old self.new) }
+        ensures err { OnErr result (self.new ≡ self.old) }
+    {
+        self.waits.reserve(targets.len())?;
+        insert_each_away(&mut self.waits, members, targets, since);
+        Ok(())
+    }
+
     /// Takes the waits for these out, as far as there are any.
     pub fn remove_all(&mut self, targets: &[ProcId])
         ensures { self.new ≡ others_than targets.now self.old }
@@ -134,6 +153,22 @@ fn insert_each(waits: &mut Vec<Wait>, targets: &[ProcId], since: Stamp)
 {
     for target in targets {
         insert(waits, *target, since);
+    }
+}
+
+/// Adds waits for those that are not among the members to a list that has room for them.
+fn insert_each_away(waits: &mut Vec<Wait>, members: &MemberTable, targets: &[ProcId], since: Stamp)
+    requires ascending { IsAscending (targets_of waits.old.items) }
+    requires targets { IsAscending targets.now }
+    requires new { (k : ℕ) → in_list targets.now k ≡ true → in_list (targets_of waits.old.items) k ≡ false }
+    requires room { vec_len waits.old + length targets.now ≤ vec_capacity waits.old }
+    ensures are { AreInsertedAway members.now targets.now since waits.old.items waits.new.items }
+{
+    for target in targets {
+        match members.place_of(*target) {
+            Some(_) => {}
+            None => insert(waits, *target, since),
+        }
     }
 }
 

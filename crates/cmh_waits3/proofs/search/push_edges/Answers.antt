@@ -1,4 +1,4 @@
-use Rattle.std.proofs.Common.{◌≡◌, ◌∙◌, ◌++◌, ℕ, List, get_or, take, sym, ap, subst}
+use Rattle.std.proofs.Common.{◌≡◌, ◌∙◌, ◌++◌, ℕ, List, get_or, take, ap, subst}
 use Rattle.std.proofs.lemmas.List.{get_or_default}
 use Rattle.cmh_waits3.specs.declared.wait.Wait.{Wait}
 use Rattle.cmh_waits3.proofs.Counted.{take_past}
@@ -8,7 +8,7 @@ use Rattle.cmh_waits3.proofs.search.push_edges.Goals as goal
 pub returns : goal.returns
 returns c =
     let v = c.args.waits.now in
-    let ws = c.row-row.result.now in
+    let ws = c.away-away.result.now in
     let n = c.args.stamp in
     let i = c.args.origin in
     let place = c.args.place in
@@ -20,5 +20,5 @@ returns c =
       c.loop-wait.invariant
           ∙ ap (λ x. old ++ edges_from v n i x (take c.loop-wait.wait-index ws)) is
           ∙ ap (λ (r : List Wait). old ++ edges_from v n i p r) (take_past ws c.loop-wait.wait-index c.loop-wait-test.false),
-      edges_at v n i p ws (sym c.row-row.ensures.row) c.row-row.ensures.ascending,
+      edges_at v n i p ws c.away-away.ensures.away c.away-away.ensures.ascending,
     )

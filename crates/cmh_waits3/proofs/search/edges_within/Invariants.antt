@@ -1,7 +1,7 @@
 use Rattle.cmh_waits3.specs.Inner.Steps.{has_place}
 use Rattle.cmh_waits3.proofs.Counting.{count_below}
 use Rattle.cmh_waits3.proofs.Edges.{AreEdgesWithout}
-use Rattle.cmh_waits3.proofs.search.edges_at.Given as goal
+use Rattle.cmh_waits3.proofs.search.edges_within.Given as goal
 
 -- the edges of those that are not left
 abbrev pub invariant-loop-place : goal.invariant-loop-place
