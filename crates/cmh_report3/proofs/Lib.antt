@@ -7,3 +7,6 @@ pub mod Cycles
 pub mod Standing
 pub mod Fitting
 pub mod Naming
+pub mod Ended
+pub mod Newest
+pub mod Told

@@ -2,5 +2,6 @@ pub mod Endings
 pub mod Declarations
 pub mod Transit
 pub mod Reports
+pub mod Laws
 pub mod Texts
 pub mod Inner

@@ -1,5 +1,5 @@
 -- The lines of a report.
-use Rattle.std.specs.Prelude.{ℕ, zero, suc, List, [], ◌++◌, codes, Option, None, Some, flat_map}
+use Rattle.std.specs.Prelude.{ℕ, zero, suc, List, ◌++◌, codes, None, Some, flat_map}
 use Rattle.std.specs.Fmt.{decimal}
 use Rattle.cmh_frames.specs.Texts.{processes_text}
 use Rattle.cmh_report3.specs.declared.cycle.CycleNow.{CycleNow}
@@ -15,7 +15,7 @@ transit_text (suc messages) = codes "in transit " ++ decimal (suc messages) ++ c
 abbrev pub pair_text : List ℕ → ℕ × ℕ → List ℕ
 pair_text word pair = word ++ decimal pair.0 ++ codes " " ++ decimal pair.1 ++ codes "\n"
 
--- a cycle, and what became of it; that no run comes to the last two of these forms is not proved
+-- a cycle, and what became of it; by `report_law` no run comes to the last two of these forms
 abbrev pub cycle_text : CycleNow → List ℕ
 cycle_text (cycle.Stands members) = codes "cycle" ++ processes_text members.items ++ codes " stands"
 cycle_text (cycle.Left members (Some by)) = codes "cycle" ++ processes_text members.items ++ codes " left by " ++ decimal by

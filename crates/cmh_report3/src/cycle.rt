@@ -19,12 +19,12 @@ pub enum CycleNow {
     /// Its waits stand since: the shortest and of those the least of such cycles, from the process to itself.
     Stands(Vec<ProcId>),
     /// None is left whose waits stand since. `members` is the shortest and least cycle of the stop, and `by` the least of
-    /// its members that has given up its wait for the next one.
+    /// its members that has given up its wait for the next one. By `report_law` there is one.
     Left {
         members: Vec<ProcId>,
         by: Option<ProcId>,
     },
-    /// There was none at the stop. We know of no run in which that is so.
+    /// There was none at the stop. In no run is that so, by `report_law`.
     None,
 }
 

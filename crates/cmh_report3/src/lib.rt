@@ -8,6 +8,7 @@
 mod clocks;
 mod cycle;
 mod declared;
+mod laws;
 mod pairs;
 mod report;
 mod stop;
@@ -16,4 +17,5 @@ mod totals;
 mod waits;
 
 pub use crate::cycle::{CycleNow, Deadlock};
+pub use crate::laws::report_law;
 pub use crate::report::Report;
