@@ -1,0 +1,4 @@
+pub mod Sites
+pub mod Machines
+pub mod Entries
+pub mod Inner
