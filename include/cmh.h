@@ -18,17 +18,19 @@
  *            else that the call is given. A pointer is never null, not even for a length of 0, and it is aligned for its
  *            type; a handle is aligned to 8.
  * COUNTS     After 0 *count is how much of `out` was written, and the rest of `out` is as it was. There is one exception:
- *            cmh_site_declared, _waits and _owed count how many processes there are, which may be more than `out` has
- *            room for.
+ *            the calls `_declared`, `_waits`, `_owed` and `_leaving` of a site count how many processes there are, which may
+ *            be more than `out` has room for.
  * CODES      0 is success. After any other code nothing has changed: neither the handle nor what was lent. There are two
- *            exceptions: a reader keeps the fault of its link, and cmh_audit tells after CMH_SHORT how much room it needs.
+ *            exceptions: a reader keeps the fault of its link; and after CMH_SHORT cmh_audit, cmh_site3_step,
+ *            cmh_site3_prepare and cmh_entry3_sendings tell by *count how much room they need.
  *            Where several codes fit, the answer is the first that holds, in the order in which the call names them;
  *            CMH_NO_MEMORY may come instead.
  * THREADS    A handle is in one call at a time; different handles may be in calls of different threads at once. A handle
  *            may pass to another thread by a lock, a start or a join. No call may come from a signal handler, nor from the
  *            forked child of a process with threads.
  * MEMORY     The program's malloc, realloc and free. cmh_entry_sending, cmh_entry_declared, cmh_hello, cmh_site_header,
- *            cmh_site_keep, cmh_site_drop, cmh_reader_sender, the `_free`s and cmh_version take none.
+ *            cmh_site3_head, cmh_site3_entry_max, the `_keep`s and `_drop`s, cmh_reader_sender, the `_free`s and cmh_version
+ *            take none.
  * STACK      At most 16 KB, but for the calls that read JSON, cmh_site_new_json and cmh_audit: 24 KB for a topology, and at
  *            most 64 KB where members that are not looked at nest deeper.
  * VERSIONS   cmh_version() is the CMH_VERSION of the header that the library was built with: compare its first two bytes.
@@ -65,6 +67,12 @@ enum {
     CMH_NO_MEMORY = 11,
     CMH_JOURNAL_FULL = 12, /* it holds 1,000,000 entries */
 
+    /* Those of edition 3 alone. */
+    CMH_LEAVING = 14,       /* an ask names a process that the asker is leaving */
+    CMH_ALREADY_WAITS = 15, /* an ask names a process that the asker waits for */
+    CMH_NOT_WAITING = 16,   /* a withdrawal names a process that the process does not wait for */
+    CMH_CLOCK_SPENT = 17,   /* the clock of the site can't rise */
+
     /* What only a caller of this library can get wrong. */
     CMH_NO_SPELLING = 20,  /* the bytes are not those of one event, or of one entry */
     CMH_SHORT = 21,        /* `out` is too short */
@@ -87,7 +95,10 @@ enum {
     /* The faults of a link: 40 and their number in docs/formats.md. */
     CMH_BAD_HELLO = 41,
     CMH_BAD_FRAME = 42,
-    CMH_WRONG_SITE = 43
+    CMH_WRONG_SITE = 43,
+
+    /* What only a caller with a site of edition 3 can get wrong. */
+    CMH_NO_WORLD = 50 /* the number of a world has not 16 bytes */
 };
 
 /* ---- a site ---- */
@@ -214,6 +225,94 @@ cmh_code cmh_hello(uint8_t edition, uint16_t site, uint8_t *out, size_t out_len)
  * Codes: NO_FILES, and SHORT, after which *count is how long the text is. */
 cmh_code cmh_audit(const uint8_t *json, size_t json_len, const uint8_t *files, size_t files_len, const size_t *lens,
                    size_t lens_len, uint8_t *out, size_t out_len, size_t *count, uint8_t *status);
+
+/* ---- a site of edition 3 ----
+ *
+ * In edition 3 a blocked process may ask for more, and a process may withdraw its waits: so a deadlock ends, and the run goes
+ * on with the same processes. A world has at most 64 sites and 4,096 processes, and a process waits for at most 255 others. A
+ * message is a frame with the clock of its sender: its length is 13, or 23 where its first byte is 03. The clock and the stamps
+ * are kept by the site. The journal is a segment of epoch 0, whose entries are chained by marks: they stand in its file in the
+ * order in which they were written, and nothing stands between them. The order is as above:
+ *
+ *   an event  ->  cmh_site3_step  ->  append the entry to the journal and sync it  ->  then send its messages
+ *
+ * The messages of one site to another have to come once and in their order. What is at the head of this page holds here, too.
+ */
+
+typedef struct {
+    bool is_open;
+    void *held;
+} cmh_site3;
+
+/* How many bytes the number of a world has. */
+#define CMH_WORLD_LEN 16
+
+/* How long the beginning of a journal is. */
+#define CMH_SITE3_HEAD_LEN 71
+
+/* How many processes of one site there are at most. */
+#define CMH_SITE3_PROCESSES_MAX 256
+
+/* The longest message. */
+#define CMH_MESSAGE_MAX 23
+
+/* How long the longest entry is: 1,701,897 bytes. Few come near: a step with one message makes 35 to 60 bytes. So lend what
+ * you have, and more after SHORT. */
+size_t cmh_site3_entry_max(void);
+
+/* Opens site `number` of the world with this number and these rows, before its first step. The rows are words as those of
+ * cmh_site_new. The number of the world has CMH_WORLD_LEN bytes: draw them at random for each run that begins, the same for
+ * all its sites (`cmh new-world` prints some). All is copied.
+ * Codes: OPEN, NO_WORLD, NO_ROWS, TOPOLOGY_.., NOT_HERE. */
+cmh_code cmh_site3_new(cmh_site3 *site, const uint8_t *world, size_t world_len, const uint16_t *rows, size_t rows_len,
+                       uint16_t number);
+
+/* Writes the 71 bytes with which the site's journal begins.
+ * Codes: CLOSED, SHORT. */
+cmh_code cmh_site3_head(cmh_site3 *site, uint8_t *out, size_t out_len);
+
+/* Takes one event: ask 01 j n k.., reply 02 k j, start 03 i, got 04 A message, or withdraw 07 j n k... The targets of an ask
+ * or a withdrawal are 1 to 255, they ascend, and none is j itself: else the bytes are those of no event. Of an ask none may
+ * be one that j waits for already, or is leaving; of a withdrawal each is one that j waits for.
+ * Writes the entry, and how long it is. After SHORT *count is how long it would be: nothing has changed, so lend that much and
+ * make the call again. Send nothing before the entry is kept. Where the append or the sync fails, free the site: its state is
+ * ahead of its journal.
+ * Codes: CLOSED, PREPARED, JOURNAL_FULL, NO_SPELLING, the refusals 1 to 6, 8 and 14 to 17, SHORT. */
+cmh_code cmh_site3_step(cmh_site3 *site, const uint8_t *event, size_t event_len, uint8_t *out, size_t out_len,
+                        size_t *count);
+
+/* A step in two halves, as cmh_site_prepare, _keep and _drop. In between, step, prepare, declared, waits, owed and leaving
+ * answer PREPARED.
+ * Codes: as of cmh_site3_step; and of the last two CLOSED, NOT_PREPARED. */
+cmh_code cmh_site3_prepare(cmh_site3 *site, const uint8_t *event, size_t event_len, uint8_t *out, size_t out_len,
+                           size_t *count);
+cmh_code cmh_site3_keep(cmh_site3 *site);
+cmh_code cmh_site3_drop(cmh_site3 *site);
+
+/* Each of these writes processes, ascending. *count is how many there are, also where `out` has room for fewer: then the
+ * last are left out, and `out` holds out_len of them. They are those that are declared deadlocked here now, at most
+ * CMH_SITE3_PROCESSES_MAX: a process that asks, is started or is blocked no more is not declared until it is found again.
+ * Those that a process of this site waits for, at most 255. Those whose requests a process of this site has not answered. And
+ * those of other sites that a process of this site has given up and can't ask again before their sites have answered. Of
+ * the last two there are at most 4,095.
+ * Codes: CLOSED, PREPARED, and of the last three UNKNOWN_PROCESS, NOT_HERE. */
+cmh_code cmh_site3_declared(cmh_site3 *site, uint16_t *out, size_t out_len, size_t *count);
+cmh_code cmh_site3_waits(cmh_site3 *site, uint16_t process, uint16_t *out, size_t out_len, size_t *count);
+cmh_code cmh_site3_owed(cmh_site3 *site, uint16_t process, uint16_t *out, size_t out_len, size_t *count);
+cmh_code cmh_site3_leaving(cmh_site3 *site, uint16_t process, uint16_t *out, size_t out_len, size_t *count);
+
+/* Closes the site. An entry that is prepared is dropped. */
+void cmh_site3_free(cmh_site3 *site);
+
+/* Tells the messages that an entry sends, in the order in which they are to be sent, and how many they are. An entry of n
+ * bytes sends at most n / 16. After SHORT *count is how many they are. The mark of the entry is not looked at.
+ * Codes: NO_SPELLING, SHORT. */
+cmh_code cmh_entry3_sendings(const uint8_t *entry, size_t entry_len, cmh_sending *out, size_t out_len, size_t *count);
+
+/* Tells the process that the entry declares, and the stamp of the stop at which its cycle stood; or 0 and 0. The process may
+ * withdraw: then the deadlock has ended.
+ * Codes: NO_SPELLING. */
+cmh_code cmh_entry3_declared(const uint8_t *entry, size_t entry_len, uint16_t *process, uint64_t *stamp);
 
 #ifdef __cplusplus
 }

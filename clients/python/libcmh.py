@@ -1,4 +1,4 @@
-"""The proved core of cmh as a library, for Python 3.10 and later: `Site`, `Reader` and `audit` over include/cmh.h.
+"""The proved core of cmh as a library, for Python 3.10 and later: `Site`, `Site3`, `Reader` and `audit` over include/cmh.h.
 
 `scripts/library/build` makes the shared library. It is found where LIBCMH names it, else at out/library/libcmh.so, else
 where the system looks for libraries. Nothing here reads a file, opens a socket or starts a thread. An object is used by
@@ -12,19 +12,21 @@ import ctypes
 import operator
 import os
 from collections.abc import Iterable, Mapping, Sequence
-from ctypes import POINTER, byref, c_bool, c_char_p, c_size_t, c_uint8, c_uint16, c_uint32, c_void_p
+from ctypes import POINTER, byref, c_bool, c_char_p, c_size_t, c_uint8, c_uint16, c_uint32, c_uint64, c_void_p
 from dataclasses import dataclass
 
 CODES = {1: 'unknown process', 2: 'not here', 3: 'bad targets', 4: 'blocked', 5: 'not blocked', 6: 'not owed',
-         7: 'already declared', 8: 'unlawful', 11: 'out of memory', 12: 'journal full', 20: 'not an event or an entry',
+         7: 'already declared', 8: 'unlawful', 11: 'out of memory', 12: 'journal full', 14: 'leaving', 15: 'already waits',
+         16: 'not waiting', 17: 'clock spent', 20: 'not an event or an entry',
          21: 'too short', 22: 'closed', 23: 'open already', 24: 'no such edition', 25: 'not the rows of a topology',
          26: 'an entry is prepared', 27: 'no entry is prepared', 28: 'not the number of a site', 29: 'no such frame',
          30: 'lengths that do not fit', 31: 'too many sites or processes', 32: 'a site has two rows',
          33: 'a process is named twice', 34: 'not the number of a site or a process', 41: 'bad hello', 42: 'bad frame',
-         43: 'hello of another site'}
+         43: 'hello of another site', 50: 'not the number of a world'}
 VERSION, HEADER_LEN, HELLO_LEN, FRAME_LEFT, ENTRY_MAX, PROCESSES_MAX = 0x00010000, 7, 6, 6, 20881, 64
+WORLD_LEN, HEAD_LEN_3 = 16, 71
 SONAME = f'libcmh.so.{VERSION >> 24}.{VERSION >> 16 & 0xFF}'
-BAD_TARGETS, SHORT, NO_SENDING = 3, 21, 29
+BAD_TARGETS, NOT_WAITING, SHORT, NO_SENDING = 3, 16, 21, 29
 
 
 class Refused(Exception):
@@ -77,6 +79,17 @@ _CALLS = {
     'cmh_site_declared': [_HANDLE, _WORDS, c_size_t, _COUNT],
     'cmh_site_waits': [_HANDLE, _Word, _WORDS, c_size_t, _COUNT],
     'cmh_site_owed': [_HANDLE, _Word, _WORDS, c_size_t, _COUNT],
+    'cmh_site3_new': [_HANDLE, *_IN, _WORDS, c_size_t, _Word],
+    'cmh_site3_head': [_HANDLE, *_OUT],
+    'cmh_site3_prepare': [_HANDLE, *_IN, *_OUT, _COUNT],
+    'cmh_site3_keep': [_HANDLE],
+    'cmh_site3_drop': [_HANDLE],
+    'cmh_site3_declared': [_HANDLE, _WORDS, c_size_t, _COUNT],
+    'cmh_site3_waits': [_HANDLE, _Word, _WORDS, c_size_t, _COUNT],
+    'cmh_site3_owed': [_HANDLE, _Word, _WORDS, c_size_t, _COUNT],
+    'cmh_site3_leaving': [_HANDLE, _Word, _WORDS, c_size_t, _COUNT],
+    'cmh_entry3_sendings': [*_IN, POINTER(_Sending), c_size_t, _COUNT],
+    'cmh_entry3_declared': [*_IN, _WORDS, POINTER(c_uint64)],
     'cmh_entry_sending': [_Byte, *_IN, c_size_t, POINTER(_Sending)],
     'cmh_entry_declared': [_Byte, *_IN, _WORDS],
     'cmh_reader_new': [_HANDLE, _Byte, _WORDS, c_size_t],
@@ -94,7 +107,8 @@ def _load() -> ctypes.CDLL:
         call.argtypes, call.restype = arguments, c_uint32
     library.cmh_version.argtypes, library.cmh_version.restype = [], c_uint32
     library.cmh_reader_sender.argtypes, library.cmh_reader_sender.restype = [_HANDLE], c_uint16
-    for name in ('cmh_site_free', 'cmh_reader_free'):
+    library.cmh_site3_entry_max.argtypes, library.cmh_site3_entry_max.restype = [], c_size_t
+    for name in ('cmh_site_free', 'cmh_site3_free', 'cmh_reader_free'):
         getattr(library, name).argtypes, getattr(library, name).restype = [_HANDLE], None
     if library.cmh_version() >> 16 != VERSION >> 16:
         raise ImportError(f'libcmh has version {library.cmh_version():#010x}, and this module is for {VERSION:#010x}')
@@ -125,6 +139,10 @@ def _row(site: int, processes: Iterable[int]) -> list[int]:
     return [site, len(named), *named]
 
 
+def _rows(rows: Mapping[int, Sequence[int]]) -> tuple[ctypes.Array, int]:
+    return _words(word for site, processes in rows.items() for word in _row(site, processes))
+
+
 @dataclass(frozen=True)
 class Entry:
     """What a site's journal holds next. It is appended and synced before its frames are sent."""
@@ -144,43 +162,48 @@ class Entry:
         return cls(spelled, tuple(sendings), declared.value or None)
 
 
-class Site:
-    """The controller of one site, before its first step. A refused call raises `Refused`, and changes nothing."""
-
-    def __init__(self, edition: int, rows: Mapping[int, Sequence[int]], number: int):
-        """Opens site `number` of the world in which each site of `rows` has these processes."""
-        listed = [word for site, processes in rows.items() for word in _row(site, processes)]
-        self._begin()
-        _call('cmh_site_new', byref(self._handle), edition, *_words(listed), number)
-        self._edition = edition
+@dataclass(frozen=True)
+class Entry3(Entry):
+    """The same in edition 3. Its sendings are messages."""
+    stamp: int | None                           #: of the stop at which the cycle of that process stood
 
     @classmethod
-    def from_json(cls, topology: bytes, number: int) -> Site:
-        """Opens site `number` of the world that the text of a topology file gives."""
-        site = cls.__new__(cls)
-        site._begin()
-        _call('cmh_site_new_json', byref(site._handle), topology, len(topology), number)
-        site._edition = site.header()[4]
-        return site
+    def of(cls, spelled: bytes) -> Entry3:
+        """Reads the bytes of one entry. Its mark is not looked at."""
+        room = max(len(spelled) // 16, 1)
+        sent, count, declared, stamp = (_Sending * room)(), c_size_t(), c_uint16(), c_uint64()
+        _call('cmh_entry3_sendings', spelled, len(spelled), sent, room, byref(count))
+        _call('cmh_entry3_declared', spelled, len(spelled), byref(declared), byref(stamp))
+        sendings = tuple((each.to, spelled[each.offset:each.offset + each.len]) for each in sent[:count.value])
+        return cls(spelled, sendings, declared.value or None, stamp.value or None)
 
-    def _begin(self) -> None:
-        self._handle, self._out, self._count = _Handle(), (c_uint8 * ENTRY_MAX)(), c_size_t()
 
-    def header(self) -> bytes:
-        """The bytes with which the journal begins."""
-        _call('cmh_site_header', byref(self._handle), self._out, len(self._out))
-        return bytes(self._out[:HEADER_LEN])
+class _Site:
+    """What the sites of all editions have. The names of their calls begin with `_calls`."""
+
+    def _begin(self, room: int) -> None:
+        self._handle, self._out, self._count = _Handle(), (c_uint8 * room)(), c_size_t()
+
+    def _head(self, call: str, length: int) -> bytes:
+        _call(call, byref(self._handle), self._out, len(self._out))
+        return bytes(self._out[:length])
 
     def step(self, event: bytes) -> Entry:
         """Takes an event, in the bytes of docs/formats.md."""
-        return self._entry('cmh_site_step', event)
+        return self._entry('step', event)
+
+    def _named(self, kind: bytes, process: int, others: Iterable[int], nobody: int) -> Entry:
+        """Takes an event of a process that names others, in any order."""
+        ascending = sorted(set(others))
+        if not ascending:
+            raise Refused(nobody)
+        if len(ascending) > 255 or process in ascending:
+            raise Refused(BAD_TARGETS)
+        return self.step(kind + _number(process) + bytes([len(ascending)]) + b''.join(map(_number, ascending)))
 
     def ask(self, asker: int, holders: Iterable[int]) -> Entry:
         """A process of this site asks for what these hold, in any order, and waits for all of them."""
-        ascending = sorted(set(holders))
-        if not 0 < len(ascending) < 256 or asker in ascending:
-            raise Refused(BAD_TARGETS)
-        return self.step(b'\x01' + _number(asker) + bytes([len(ascending)]) + b''.join(map(_number, ascending)))
+        return self._named(b'\x01', asker, holders, BAD_TARGETS)
 
     def reply(self, holder: int, asker: int) -> Entry:
         """A process of this site grants what the asker asked for."""
@@ -196,42 +219,42 @@ class Site:
 
     def prepare(self, event: bytes) -> Entry:
         """The first half of a step: then `keep` once the journal holds the entry, or `drop` where it can't."""
-        return self._entry('cmh_site_prepare', event)
+        return self._entry('prepare', event)
 
     def keep(self) -> None:
-        _call('cmh_site_keep', byref(self._handle))
+        _call(f'{self._calls}keep', byref(self._handle))
 
     def drop(self) -> None:
         """The site is as it was before the event."""
-        _call('cmh_site_drop', byref(self._handle))
+        _call(f'{self._calls}drop', byref(self._handle))
 
     def declared(self) -> list[int]:
-        """The processes of this site that were declared deadlocked, ascending."""
-        return self._processes('cmh_site_declared')
+        """The processes of this site that are declared deadlocked, ascending."""
+        return self._processes('declared')
 
     def waits(self, process: int) -> list[int]:
         """The processes that a process of this site waits for, ascending."""
-        return self._processes('cmh_site_waits', process)
+        return self._processes('waits', process)
 
     def owed(self, process: int) -> list[int]:
         """The processes whose requests a process of this site has not answered, ascending."""
-        return self._processes('cmh_site_owed', process)
+        return self._processes('owed', process)
 
     def close(self) -> None:
         """Gives the memory back. An entry that is prepared is dropped."""
-        _library.cmh_site_free(byref(self._handle))
+        getattr(_library, f'{self._calls}free')(byref(self._handle))
 
     def _entry(self, call: str, event: bytes) -> Entry:
-        _call(call, byref(self._handle), event, len(event), self._out, len(self._out), byref(self._count))
-        return Entry.of(self._edition, ctypes.string_at(self._out, self._count.value))
+        _call(self._calls + call, byref(self._handle), event, len(event), self._out, len(self._out), byref(self._count))
+        return self._read(ctypes.string_at(self._out, self._count.value))
 
     def _processes(self, call: str, *process: int) -> list[int]:
-        # A process waits for 32 others at most, and owes no more than there are.
-        room = (c_uint16 * 1024)()
-        _call(call, byref(self._handle), *process, room, len(room), byref(self._count))
+        # No process waits for, owes or leaves more others than a world has.
+        room = (c_uint16 * 4096)()
+        _call(self._calls + call, byref(self._handle), *process, room, len(room), byref(self._count))
         return room[:self._count.value]
 
-    def __enter__(self) -> Site:
+    def __enter__(self) -> _Site:
         return self
 
     def __exit__(self, *_: object) -> None:
@@ -240,6 +263,80 @@ class Site:
     def __del__(self) -> None:
         if hasattr(self, '_handle'):
             self.close()
+
+
+class Site(_Site):
+    """The controller of one site, before its first step. A refused call raises `Refused`, and changes nothing."""
+    _calls = 'cmh_site_'
+
+    def __init__(self, edition: int, rows: Mapping[int, Sequence[int]], number: int):
+        """Opens site `number` of the world in which each site of `rows` has these processes."""
+        self._begin(ENTRY_MAX)
+        _call('cmh_site_new', byref(self._handle), edition, *_rows(rows), number)
+        self._edition = edition
+
+    @classmethod
+    def from_json(cls, topology: bytes, number: int) -> Site:
+        """Opens site `number` of the world that the text of a topology file gives."""
+        site = cls.__new__(cls)
+        site._begin(ENTRY_MAX)
+        _call('cmh_site_new_json', byref(site._handle), topology, len(topology), number)
+        site._edition = site.header()[4]
+        return site
+
+    def header(self) -> bytes:
+        """The bytes with which the journal begins."""
+        return self._head('cmh_site_header', HEADER_LEN)
+
+    def _read(self, spelled: bytes) -> Entry:
+        return Entry.of(self._edition, spelled)
+
+
+class Site3(_Site):
+    """The controller of one site of edition 3, before its first step: a blocked process may ask for more, and a process may
+    withdraw its waits, so a deadlock ends."""
+    _calls = 'cmh_site3_'
+
+    def __init__(self, world: bytes, rows: Mapping[int, Sequence[int]], number: int):
+        """Opens site `number` of the world with this number, 16 bytes, in which each site of `rows` has these processes."""
+        self._begin(4096)
+        _call('cmh_site3_new', byref(self._handle), world, len(world), *_rows(rows), number)
+
+    def head(self) -> bytes:
+        """The bytes with which the journal begins."""
+        return self._head('cmh_site3_head', HEAD_LEN_3)
+
+    def withdraw(self, process: int, holders: Iterable[int]) -> Entry3:
+        """A process of this site gives up its waits for these, in any order."""
+        return self._named(b'\x07', process, holders, NOT_WAITING)
+
+    def leaving(self, process: int) -> list[int]:
+        """The processes of other sites that a process of this site gave up, and can't ask again before their sites have
+        answered, ascending."""
+        return self._processes('leaving', process)
+
+    def step(self, event: bytes) -> Entry3:
+        """Takes an event, in the bytes of docs/formats.md: both halves of a step, since out of memory may also come once the
+        entry is read."""
+        entry = self.prepare(event)
+        self.keep()
+        return entry
+
+    def _entry(self, call: str, event: bytes) -> Entry3:
+        try:
+            return super()._entry(call, event)
+        except Refused as refused:
+            if refused.code != SHORT:
+                raise
+        self._out = (c_uint8 * self._count.value)()
+        return super()._entry(call, event)
+
+    def _read(self, spelled: bytes) -> Entry3:
+        try:
+            return Entry3.of(spelled)
+        except BaseException:
+            self.drop()
+            raise
 
 
 class Reader:

@@ -12,7 +12,7 @@
 #include <stdlib.h>
 #include <string.h>
 
-enum { LINE = 1 << 17, WORDS = 256, NAMES = 64, NAME = 16, ROWS = 4096, JOURNAL = 1 << 14, FILE_ROOM = 8 << 20, FILES = 8, OUT = 1 << 17 };
+enum { LINE = 1 << 17, WORDS = 256, NAMES = 64, NAME = 16, ROWS = 4096, JOURNAL = 1 << 14, FILE_ROOM = 8 << 20, FILES = 8, OUT = 1 << 17, SENDINGS = 1 << 12 };
 
 struct topology {
     uint8_t edition;
@@ -20,8 +20,10 @@ struct topology {
     size_t len;
 };
 
+/* Of the two handles that of its edition is open. */
 struct site {
     cmh_site handle;
+    cmh_site3 handle3;
     uint8_t edition, journal[JOURNAL];
     size_t len;
 };
@@ -49,6 +51,9 @@ static size_t files_used, rounds;
 static char line[LINE], answer[OUT], *word[WORDS];
 static size_t words, at, answered;
 static uint8_t in[LINE], out[OUT];
+
+/* The number of the world of edition 3. */
+static const uint8_t world[CMH_WORLD_LEN];
 
 /* ---- the answer */
 
@@ -89,6 +94,9 @@ static bool done(cmh_code code)
 
 static unsigned number_at(const uint8_t *bytes) { return (unsigned)bytes[0] << 8 | bytes[1]; }
 
+/* A clock or a stamp. No test has one above 2^32. */
+static unsigned stamp_at(const uint8_t *bytes) { return number_at(bytes + 4) << 16 | number_at(bytes + 6); }
+
 /* Says a frame and gives its length. */
 static size_t say_frame(const uint8_t *frame)
 {
@@ -99,9 +107,45 @@ static size_t say_frame(const uint8_t *frame)
     return len;
 }
 
+static void say_message(const uint8_t *message)
+{
+    static const char *const kinds[] = {"withdraw", "request", "reply", "probe"};
+    const uint8_t *numbers = message + 9;
+    say("%s", kinds[message[0] & 3]);
+    if (message[0] == 3) {
+        say("%u %u", number_at(message + 17), stamp_at(numbers));
+        numbers = message + 19;
+    }
+    say("%u %u at %u", number_at(numbers), number_at(numbers + 2), stamp_at(message + 1));
+}
+
+/* The same in edition 3. Where memory is refused the entry is read once more. */
+static void say_entry3(const uint8_t *entry, size_t len)
+{
+    static cmh_sending sent[SENDINGS];
+    size_t count;
+    uint16_t declared;
+    uint64_t stamp;
+    cmh_code code = cmh_entry3_sendings(entry, len, sent, SENDINGS, &count);
+    if (code == CMH_NO_MEMORY) code = cmh_entry3_sendings(entry, len, sent, SENDINGS, &count);
+    if (!done(code)) return;
+    for (size_t i = 0; i < count; i++) {
+        say("sent");
+        say_message(entry + sent[i].offset);
+        say("to %u", sent[i].to);
+    }
+    code = cmh_entry3_declared(entry, len, &declared, &stamp);
+    if (code == CMH_NO_MEMORY) code = cmh_entry3_declared(entry, len, &declared, &stamp);
+    if (done(code) && declared) say("declared %u at %u", declared, (unsigned)stamp);
+}
+
 /* Says what an entry sends and declares. */
 static void say_entry(uint8_t edition, const uint8_t *entry, size_t len)
 {
+    if (edition == 3) {
+        say_entry3(entry, len);
+        return;
+    }
     cmh_sending sending;
     uint16_t declared;
     cmh_code code;
@@ -149,7 +193,10 @@ static size_t place_of(const char *name)
 
 static void let_go(size_t place)
 {
-    if (named[place].kind == SITE) cmh_site_free(&named[place].of.site.handle);
+    if (named[place].kind == SITE) {
+        cmh_site_free(&named[place].of.site.handle);
+        cmh_site3_free(&named[place].of.site.handle3);
+    }
     if (named[place].kind == READER) cmh_reader_free(&named[place].of.reader);
     if (named[place].kind != BYTES) memset(&named[place].of, 0, sizeof named[place].of);
     named[place].kind = FREE;
@@ -191,6 +238,7 @@ static void topology(void)
     size_t place = new_place(TOPOLOGY);
     struct topology *made = &named[place].of.topology;
     cmh_site trial = {0};
+    cmh_site3 trial3 = {0};
     cmh_code code;
     made->edition = (uint8_t)number();
     while (at < words) {
@@ -201,10 +249,19 @@ static void topology(void)
         while (*rest && rest[1]) made->rows[made->len++] = (uint16_t)strtoul(rest + 1, &rest, 10);
         made->rows[count] = (uint16_t)(made->len - count - 1);
     }
-    code = cmh_site_new(&trial, made->edition, made->rows, made->len, 0);
+    if (made->edition == 3) code = cmh_site3_new(&trial3, world, sizeof world, made->rows, made->len, 0);
+    else code = cmh_site_new(&trial, made->edition, made->rows, made->len, 0);
     cmh_site_free(&trial);
+    cmh_site3_free(&trial3);
     if (code == CMH_NOT_HERE) say("ok");
     else if (!done(code)) let_go(place);
+}
+
+/* Writes what the journal of a site begins with, and answers how long it is. */
+static size_t begin(struct site *of, uint8_t *to)
+{
+    if (of->edition == 3) return cmh_site3_head(&of->handle3, to, JOURNAL) ? 0 : CMH_SITE3_HEAD_LEN;
+    return cmh_site_header(&of->handle, to, JOURNAL) ? 0 : CMH_HEADER_LEN;
 }
 
 /* site S T SITE, or json S SITE TEXT */
@@ -212,7 +269,6 @@ static void site(bool is_json)
 {
     size_t place = new_place(SITE), of = is_json ? 0 : known(TOPOLOGY);
     struct site *made = &named[place].of.site;
-    uint8_t header[CMH_HEADER_LEN];
     cmh_code code;
     if (of == NAMES) return;
     if (is_json) {
@@ -221,16 +277,17 @@ static void site(bool is_json)
         code = cmh_site_new_json(&made->handle, (const uint8_t *)text, strlen(text), here);
     } else {
         struct topology *topology = &named[of].of.topology;
-        code = cmh_site_new(&made->handle, topology->edition, topology->rows, topology->len, (uint16_t)number());
+        uint16_t here = (uint16_t)number();
+        made->edition = topology->edition;
+        if (made->edition == 3) code = cmh_site3_new(&made->handle3, world, sizeof world, topology->rows, topology->len, here);
+        else code = cmh_site_new(&made->handle, topology->edition, topology->rows, topology->len, here);
     }
     if (!done(code)) {
         let_go(place);
         return;
     }
-    if (cmh_site_header(&made->handle, header, sizeof header)) exit(5);
-    made->edition = header[4];
-    made->len = sizeof header;
-    memcpy(made->journal, header, sizeof header);
+    made->len = begin(made, made->journal);
+    made->edition = made->journal[4];
     say("ok");
 }
 
@@ -239,8 +296,14 @@ static void step(struct site *of, const char *how)
 {
     size_t len = bytes(in, sizeof in), count;
     bool prepares = strcmp(how, "step") != 0, keeps = strcmp(how, "back") != 0;
-    cmh_code code = (prepares ? cmh_site_prepare : cmh_site_step)(&of->handle, in, len, out, sizeof out, &count);
-    if (code == CMH_OK && prepares) code = (keeps ? cmh_site_keep : cmh_site_drop)(&of->handle);
+    cmh_code code;
+    if (of->edition == 3) {
+        code = (prepares ? cmh_site3_prepare : cmh_site3_step)(&of->handle3, in, len, out, sizeof out, &count);
+        if (code == CMH_OK && prepares) code = (keeps ? cmh_site3_keep : cmh_site3_drop)(&of->handle3);
+    } else {
+        code = (prepares ? cmh_site_prepare : cmh_site_step)(&of->handle, in, len, out, sizeof out, &count);
+        if (code == CMH_OK && prepares) code = (keeps ? cmh_site_keep : cmh_site_drop)(&of->handle);
+    }
     if (!done(code)) return;
     say("ok");
     say_entry(of->edition, out, count);
@@ -273,15 +336,34 @@ static void say_processes(cmh_code code, const uint16_t *processes, size_t count
     for (size_t i = 0; i < count; i++) say("%u", processes[i]);
 }
 
+/* S leaving P, and the questions of editions 1 and 2 */
+static void of_site3(struct site *of, const char *call)
+{
+    static uint16_t processes[4096];
+    cmh_site3 *site = &of->handle3;
+    size_t count = 0;
+    cmh_code code;
+    if (!strcmp(call, "declared")) code = cmh_site3_declared(site, processes, 4096, &count);
+    else if (!strcmp(call, "waits")) code = cmh_site3_waits(site, (uint16_t)number(), processes, 4096, &count);
+    else if (!strcmp(call, "owed")) code = cmh_site3_owed(site, (uint16_t)number(), processes, 4096, &count);
+    else if (!strcmp(call, "leaving")) code = cmh_site3_leaving(site, (uint16_t)number(), processes, 4096, &count);
+    else {
+        bad_line();
+        return;
+    }
+    say_processes(code, processes, count);
+}
+
 static void of_site(struct site *of)
 {
     static uint16_t processes[1024];
     const char *call = next();
     size_t count = 0;
     if (!strcmp(call, "step") || !strcmp(call, "prepare") || !strcmp(call, "back")) step(of, call);
-    else if (!strcmp(call, "times")) times(of);
-    else if (!strcmp(call, "header")) say_bytes(out, done(cmh_site_header(&of->handle, out, sizeof out)) ? CMH_HEADER_LEN : 0);
+    else if (!strcmp(call, "header")) say_bytes(out, begin(of, out));
     else if (!strcmp(call, "journal")) say_bytes(of->journal, of->len);
+    else if (of->edition == 3) of_site3(of, call);
+    else if (!strcmp(call, "times")) times(of);
     else if (!strcmp(call, "declared")) {
         cmh_code code = cmh_site_declared(&of->handle, processes, 1024, &count);
         say_processes(code, processes, count);

@@ -1,4 +1,4 @@
-//! The proved core of cmh, safe to call: [`Site`], [`Reader`] and [`audit`] over `include/cmh.h`.
+//! The proved core of cmh, safe to call: [`Site`], [`Site3`], [`Reader`] and [`audit`] over `include/cmh.h`.
 //!
 //! Nothing here reads a file, opens a socket or starts a thread. The bytes are those of `docs/formats.md`, and
 //! `docs/library.md` has a complete loop. A site or a reader may go to another thread, but it is in one call at a time:
@@ -12,12 +12,15 @@
 use std::{error, fmt, result};
 
 mod raw;
+mod site3;
+
+pub use site3::{Declaration, Entry3, Prepared3, Site3, World};
 
 /// Why a call was refused. Nothing has changed then, but that a [`Reader`] keeps the fault of its link.
 #[derive(Clone, Copy, Debug, PartialEq, Eq)]
 #[non_exhaustive]
 pub enum Error {
-    /// A refusal of `docs/rules.md`, by its number from 1 to 8.
+    /// A refusal of `docs/rules.md`, by its number: 1 to 8, and in edition 3 also 14 to 17.
     Refusal(u32),
     OutOfMemory,
     /// The journal holds 1,000,000 entries.
@@ -47,7 +50,7 @@ pub type Result<T> = result::Result<T, Error>;
 impl Error {
     fn of(code: u32) -> Error {
         match code {
-            1..=8 => Error::Refusal(code),
+            1..=8 | 14..=17 => Error::Refusal(code),
             11 => Error::OutOfMemory,
             12 => Error::JournalFull,
             20 => Error::Spelling,
@@ -152,6 +155,19 @@ pub struct Row<'a> {
     pub processes: &'a [u16],
 }
 
+impl Row<'_> {
+    /// Of each row the site, how many processes it has, and these.
+    fn words(rows: &[Row<'_>]) -> Result<Vec<u16>> {
+        let mut words = Vec::new();
+        for row in rows {
+            words.push(row.site);
+            words.push(u16::try_from(row.processes.len()).map_err(|_| Error::Topology(1))?);
+            words.extend_from_slice(row.processes);
+        }
+        Ok(words)
+    }
+}
+
 /// The controller of one site, which is opened before its first step.
 #[derive(Debug)]
 pub struct Site {
@@ -166,12 +182,7 @@ unsafe impl Send for Site {}
 impl Site {
     /// Opens a site of the world with these rows.
     pub fn new(edition: Edition, rows: &[Row<'_>], number: u16) -> Result<Site> {
-        let mut words = Vec::new();
-        for row in rows {
-            words.push(row.site);
-            words.push(u16::try_from(row.processes.len()).map_err(|_| Error::Topology(1))?);
-            words.extend_from_slice(row.processes);
-        }
+        let words = Row::words(rows)?;
         let mut raw = raw::Handle::CLOSED;
         // SAFETY: the handle is closed, and the slice is lent for the call.
         checked(unsafe {

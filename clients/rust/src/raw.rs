@@ -1,4 +1,4 @@
-//! `include/cmh.h` as it stands.
+//! `include/cmh.h` as it stands, but for `cmh_site3_step`, which this crate does in two halves.
 
 use std::{ffi::c_void, ptr};
 
@@ -11,10 +11,13 @@ pub const HELLO_LEN: usize = 6;
 pub const FRAME_LEFT: usize = 6;
 pub const ENTRY_MAX: usize = 20_881;
 
-/// A process owes no more others than there are.
-pub const PROCESSES_MAX: usize = 1024;
+/// No process waits for, owes or leaves more others than a world has.
+pub const PROCESSES_MAX: usize = 4096;
 
-/// A `cmh_site` or a `cmh_reader`.
+pub const WORLD_LEN: usize = 16;
+pub const SITE3_HEAD_LEN: usize = 71;
+
+/// A `cmh_site`, a `cmh_site3` or a `cmh_reader`.
 #[repr(C)]
 #[derive(Debug)]
 pub struct Handle {
@@ -30,7 +33,7 @@ impl Handle {
 }
 
 #[repr(C)]
-#[derive(Debug, Default)]
+#[derive(Clone, Debug, Default)]
 pub struct Sending {
     pub to: u16,
     pub offset: usize,
@@ -109,6 +112,66 @@ unsafe extern "C" {
         entry: *const u8,
         entry_len: usize,
         process: &mut u16,
+    ) -> u32;
+    pub fn cmh_site3_new(
+        site: &mut Handle,
+        world: *const u8,
+        world_len: usize,
+        rows: *const u16,
+        rows_len: usize,
+        number: u16,
+    ) -> u32;
+    pub fn cmh_site3_head(site: &mut Handle, out: *mut u8, out_len: usize) -> u32;
+    pub fn cmh_site3_prepare(
+        site: &mut Handle,
+        event: *const u8,
+        event_len: usize,
+        out: *mut u8,
+        out_len: usize,
+        count: &mut usize,
+    ) -> u32;
+    pub fn cmh_site3_keep(site: &mut Handle) -> u32;
+    pub fn cmh_site3_drop(site: &mut Handle) -> u32;
+    pub fn cmh_site3_declared(
+        site: &mut Handle,
+        out: *mut u16,
+        out_len: usize,
+        count: &mut usize,
+    ) -> u32;
+    pub fn cmh_site3_waits(
+        site: &mut Handle,
+        process: u16,
+        out: *mut u16,
+        out_len: usize,
+        count: &mut usize,
+    ) -> u32;
+    pub fn cmh_site3_owed(
+        site: &mut Handle,
+        process: u16,
+        out: *mut u16,
+        out_len: usize,
+        count: &mut usize,
+    ) -> u32;
+    pub fn cmh_site3_leaving(
+        site: &mut Handle,
+        process: u16,
+        out: *mut u16,
+        out_len: usize,
+        count: &mut usize,
+    ) -> u32;
+    pub fn cmh_site3_free(site: &mut Handle);
+    pub fn cmh_entry3_sendings(
+        entry: *const u8,
+        entry_len: usize,
+        out: *mut Sending,
+        out_len: usize,
+        count: &mut usize,
+    ) -> u32;
+    pub fn cmh_entry3_declared(
+        entry: *const u8,
+        entry_len: usize,
+        process: &mut u16,
+        stamp: &mut u64,
     ) -> u32;
     pub fn cmh_reader_new(
         reader: &mut Handle,

@@ -1,3 +1,4 @@
 pub mod Files
 pub mod Lists
 pub mod Placed
+pub mod Sendings3

@@ -1,5 +1,5 @@
 -- Rows as words, files as pieces of bytes, and numbers that are written over others.
-use Rattle.std.proofs.Common.{◌≡◌, ◌≢◌, ℕ, suc, zero, ◌+◌, ◌-◌, ◌<◌, ◌≤◌, List, [], ◌∷◌, ◌++◌, length, drop, get_or, set, take, refl, sym, ap, ◌∙◌, arith, length-append}
+use Rattle.std.proofs.Common.{◌≡◌, ◌≢◌, ℕ, suc, zero, ◌+◌, ◌-◌, ◌<◌, ◌≤◌, List, [], ◌∷◌, ◌++◌, length, drop, get_or, map, set, take, refl, sym, ap, ◌∙◌, arith, length-append}
 use Rattle.std.proofs.lemmas.List.{take-append-drop}
 use Rattle.cmh_frames.specs.Rows.{Row}
 use Rattle.cmh_c.specs.Opening.{words_of}
@@ -48,7 +48,19 @@ two_words (x ∷ y ∷ rest) ps after n h first later =
     let back : after ≡ drop n rest = later ∙ ap (drop n) all in
     ap (λ l. x ∷ y ∷ l) (sym (take-append-drop n rest)) ∙ ap (λ l. x ∷ y ∷ l ++ drop n rest) (sym front) ∙ ap (λ l. x ∷ y ∷ ps ++ l) (sym back)
 
--- ---- numbers
+-- ---- numbers, and what stands for them
+
+-- one more of those that are written over the first
+pub put_mapped : {X Y : Type 0} (f : X → Y) (ps : List X) (os : List Y) (d : X) (i : ℕ) → i < length ps → i < length os
+    → set (map f (take i ps) ++ drop i os) i (f (get_or ps i d)) ≡ map f (take (i + 1) ps) ++ drop (i + 1) os
+put_mapped f [] os d i a b = absurd (omega (arith, a))
+put_mapped f (p ∷ ps) [] d i a b = absurd (omega (arith, b))
+put_mapped f (p ∷ ps) (o ∷ os) d zero a b = refl
+put_mapped f (p ∷ ps) (o ∷ os) d (suc i) a b =
+    let below : i < length ps = omega (arith, a) in
+    let room : i < length os = omega (arith, b) in
+    let next : suc (i + 1) ≡ suc i + 1 = omega arith in
+    ap (λ l. f p ∷ l) (put_mapped f ps os d i below room) ∙ ap (λ n. map f (take n (p ∷ ps)) ++ drop n (o ∷ os)) next
 
 pub put_number : (ps os : List ℕ) (i : ℕ) → i < length ps → i < length os → set (take i ps ++ drop i os) i (get_or ps i 0) ≡ take (i + 1) ps ++ drop (i + 1) os
 put_number [] os i a b = absurd (omega (arith, a))

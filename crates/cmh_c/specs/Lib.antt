@@ -1,6 +1,9 @@
 pub mod Auditing
 pub mod Codes
+pub mod Codes3
 pub mod Entries
+pub mod Entries3
 pub mod Inner
 pub mod Opening
+pub mod Opening3
 pub mod Reading

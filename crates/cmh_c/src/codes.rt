@@ -1,12 +1,14 @@
 //! The numbers that the functions answer.
 
-ghost use Rattle.std.specs.Prelude.{◌≡◌, ◌<◌};
+ghost use Rattle.std.specs.Prelude.{◌≡◌, ◌≢◌, ◌<◌};
 ghost use Rattle.cmh_c.specs.Codes as spec;
+ghost use Rattle.cmh_c.specs.Codes3 as spec3;
 ghost use Rattle.cmh_c.specs.Inner.Faults.{code_of_call};
 
 use cmh_frames::TopologyFault;
 use cmh_reader::ReadFault;
 use cmh_seat::{InletFault, SeatFault};
+use cmh_seat3::{EntryFault, SeatFault as SeatFault3};
 use std::alloc::{AllocError, AllocFailed};
 
 pub const DONE: u32 = 0;
@@ -46,6 +48,8 @@ pub enum CallFault {
     Sending,
     /// The lengths of the files don't sum to the bytes that there are.
     Files,
+    /// The number of the world has not 16 bytes.
+    World,
     /// Out of memory.
     Memory,
 }
@@ -66,6 +70,7 @@ impl CallFault {
             CallFault::Number => 28,
             CallFault::Sending => 29,
             CallFault::Files => 30,
+            CallFault::World => 50,
             CallFault::Topology(fault) => 30 + u32::from(fault.number()),
         }
     }
@@ -113,5 +118,30 @@ pub fn code_of_reading(fault: InletFault) -> u32
         InletFault::Short => SHORT,
         InletFault::Read(ReadFault::Memory) => NO_MEMORY,
         InletFault::Read(fault) => 40 + u32::from(fault.number()),
+    }
+}
+
+pub fn code_of3(fault: SeatFault3) -> u32
+    ensures value { result ≡ spec3.code_of fault }
+    ensures positive { 0 < result }
+{
+    match fault {
+        SeatFault3::Rule(refusal) => u32::from(refusal.number()),
+        SeatFault3::Starved => NO_MEMORY,
+        SeatFault3::Full => 12,
+        SeatFault3::NoEvent => 20,
+        SeatFault3::Short(_) => SHORT,
+        SeatFault3::Prepared => 26,
+    }
+}
+
+pub fn code_of_entry3(fault: EntryFault) -> u32
+    ensures value { result ≡ spec3.code_of_entry fault }
+    ensures positive { 0 < result }
+    ensures fits { result ≢ 21 }
+{
+    match fault {
+        EntryFault::NoEntry => 20,
+        EntryFault::Memory => NO_MEMORY,
     }
 }

@@ -1,5 +1,6 @@
 pub mod AsBox
 pub mod Alone
+pub mod Ascends
 pub mod Fresh
 pub mod Growing
 pub mod Places

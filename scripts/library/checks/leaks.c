@@ -4,7 +4,7 @@
 enum { ROOM = 256 };
 
 static const uint16_t rows[] = {1, 1, 1, 2, 1, 2};
-static unsigned long steps;
+static unsigned long steps, steps3; /* of editions 1 and 2, and of edition 3 */
 
 static void take(cmh_site *site, const uint8_t *event, size_t len, uint8_t *out, size_t *count)
 {
@@ -32,6 +32,46 @@ static void turn(cmh_site *one, cmh_site *two)
     EXPECT(cmh_site_waits(one, 1, processes, 64, &count) == CMH_OK && count == 0);
 }
 
+/* ---- edition 3 */
+
+static void take3(cmh_site3 *site, const uint8_t *event, size_t len, uint8_t *out, size_t *count)
+{
+    EXPECT(cmh_site3_step(site, event, len, out, ROOM, count) == CMH_OK);
+    steps3++;
+}
+
+/* Brings the messages of an entry to the other site, whose last entry stands in its place. */
+static void carry(cmh_site3 *to, unsigned from, uint8_t *entry, size_t *count)
+{
+    uint8_t event[64], messages[4][CMH_MESSAGE_MAX];
+    cmh_sending sent[4];
+    size_t sendings;
+    EXPECT(cmh_entry3_sendings(entry, *count, sent, 4, &sendings) == CMH_OK);
+    for (size_t i = 0; i < sendings; i++) memcpy(messages[i], entry + sent[i].offset, sent[i].len);
+    for (size_t i = 0; i < sendings; i++) take3(to, event, spell_message(event, from, messages[i], sent[i].len), entry, count);
+}
+
+/* One asks and withdraws; in between an event that is refused, one that is too long, and one that is dropped. */
+static void turn3(cmh_site3 *one, cmh_site3 *two)
+{
+    uint8_t event[64], out[ROOM];
+    uint16_t holder = 2, processes[64];
+    size_t count, len;
+    take3(one, event, spell_ask(event, 1, 1, &holder), out, &len);
+    carry(two, 1, out, &len);
+    EXPECT(cmh_site3_step(one, event, spell_ask(event, 1, 1, &holder), out, ROOM, &count) == CMH_ALREADY_WAITS);
+    EXPECT(cmh_site3_step(one, event, spell_start(event, 1), out, 4, &count) == CMH_SHORT && count == 15 + 26);
+    EXPECT(cmh_site3_prepare(two, event, spell_reply(event, 2, 1), out, ROOM, &count) == CMH_OK);
+    EXPECT(cmh_site3_drop(two) == CMH_OK);
+    EXPECT(cmh_site3_owed(two, 2, processes, 64, &count) == CMH_OK && count == 1);
+    take3(one, event, spell_withdraw(event, 1, 1, &holder), out, &len);
+    EXPECT(cmh_site3_leaving(one, 1, processes, 64, &count) == CMH_OK && count == 1);
+    EXPECT(cmh_site3_declared(one, processes, 64, &count) == CMH_OK && count == 0);
+    carry(two, 1, out, &len);
+    carry(one, 2, out, &len);
+    EXPECT(cmh_site3_leaving(one, 1, processes, 64, &count) == CMH_OK && count == 0);
+}
+
 /* A link of frames, fed in pieces of three bytes. */
 static void read_link(void)
 {
@@ -46,6 +86,22 @@ static void read_link(void)
         EXPECT(cmh_reader_feed(&reader, link + at, 3, out, ROOM, &count) == CMH_OK);
     EXPECT(all == 60);
     cmh_reader_free(&reader);
+}
+
+/* The same in edition 3. */
+static void run3(unsigned long wanted)
+{
+    static const uint8_t world[CMH_WORLD_LEN];
+    cmh_site3 one = {0}, two = {0};
+    uint8_t event[64], out[ROOM];
+    uint16_t holder = 2;
+    size_t len;
+    EXPECT(cmh_site3_new(&one, world, sizeof world, rows, 6, 1) == CMH_OK);
+    EXPECT(cmh_site3_new(&two, world, sizeof world, rows, 6, 2) == CMH_OK);
+    for (int turns = 0; turns < 50000 && steps3 < wanted; turns++) turn3(&one, &two);
+    EXPECT(cmh_site3_prepare(&one, event, spell_ask(event, 1, 1, &holder), out, ROOM, &len) == CMH_OK);
+    cmh_site3_free(&one);
+    cmh_site3_free(&two);
 }
 
 int main(int count, char **words)
@@ -63,6 +119,7 @@ int main(int count, char **words)
         }
         cmh_site_free(&one); /* with an entry that is prepared */
         cmh_site_free(&two);
+        run3(wanted);
         read_link();
     }
     printf("%lu steps\n", steps);

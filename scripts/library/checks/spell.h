@@ -45,6 +45,22 @@ static inline size_t spell_got(uint8_t *at, unsigned from, const uint8_t *frame)
     return 3 + frame_len(frame);
 }
 
+/* Those of edition 3. */
+static inline size_t spell_withdraw(uint8_t *at, unsigned process, size_t count, const uint16_t *holders)
+{
+    size_t len = spell_ask(at, process, count, holders);
+    at[0] = 7;
+    return len;
+}
+
+static inline size_t spell_message(uint8_t *at, unsigned from, const uint8_t *message, size_t len)
+{
+    at[0] = 4;
+    put(at + 1, from);
+    memcpy(at + 3, message, len);
+    return 3 + len;
+}
+
 #define EXPECT(holds) \
     do { \
         if (!(holds)) { \

@@ -6,7 +6,7 @@
 enum { DEPTH = 1 << 20, PAINT = 0xA5, MOST = 16384, MOST_FOR_JSON = 24576, MOST_FOR_NESTED = 65536 };
 
 /* How deep JSON may nest, how many processes a site may have, and how many an ask may name. */
-enum { LEVELS = 127, MEMBERS = 64, TARGETS = 32 };
+enum { LEVELS = 127, MEMBERS = 64, TARGETS = 32, MEMBERS3 = 256, TARGETS3 = 255 };
 
 static __attribute__((noinline)) void paint(void)
 {
@@ -82,6 +82,50 @@ static void fullest(void)
     EXPECT(status == 0);
 }
 
+/* The same in edition 3: 255 processes that each wait for 255 others at another site, and one that asks for all of them. */
+static void fullest3(void)
+{
+    static const uint8_t world[CMH_WORLD_LEN];
+    static uint16_t rows[4 + MEMBERS3 + TARGETS3] = {1, MEMBERS3}, processes[MEMBERS3];
+    uint16_t holders[TARGETS3];
+    uint8_t event[4 + 2 * TARGETS3], head[CMH_SITE3_HEAD_LEN];
+    size_t room = cmh_site3_entry_max(), count, sendings, len;
+    uint8_t *entry = malloc(room);
+    cmh_sending *sent = malloc(room / 16 * sizeof *sent);
+    uint16_t declared;
+    uint64_t stamp;
+    cmh_site3 site = {0};
+    EXPECT(entry && sent);
+    for (unsigned i = 0; i < MEMBERS3; i++) rows[2 + i] = (uint16_t)(1 + i);
+    rows[2 + MEMBERS3] = 2;
+    rows[3 + MEMBERS3] = TARGETS3;
+    for (unsigned i = 0; i < TARGETS3; i++) rows[4 + MEMBERS3 + i] = holders[i] = (uint16_t)(1001 + i);
+    MEASURE("3: new, 256", MOST, EXPECT(cmh_site3_new(&site, world, sizeof world, rows, sizeof rows / sizeof *rows, 1) == CMH_OK));
+    MEASURE("3: head", MOST, EXPECT(cmh_site3_head(&site, head, sizeof head) == CMH_OK));
+    for (unsigned asker = 2; asker <= MEMBERS3; asker++) {
+        len = spell_ask(event, asker, TARGETS3, holders);
+        MEASURE("3: ask for 255", MOST, EXPECT(cmh_site3_step(&site, event, len, entry, room, &count) == CMH_OK));
+    }
+    for (unsigned i = 0; i < TARGETS3; i++) holders[i] = (uint16_t)(2 + i);
+    len = spell_ask(event, 1, TARGETS3, holders);
+    MEASURE("3: prepare", MOST, EXPECT(cmh_site3_prepare(&site, event, len, entry, room, &count) == CMH_OK));
+    MEASURE("3: drop", MOST, EXPECT(cmh_site3_drop(&site) == CMH_OK));
+    MEASURE("3: short", MOST, EXPECT(cmh_site3_prepare(&site, event, len, entry, 9, &count) == CMH_SHORT));
+    MEASURE("3: step", MOST, EXPECT(cmh_site3_step(&site, event, len, entry, room, &count) == CMH_OK));
+    MEASURE("3: sendings", MOST, EXPECT(cmh_entry3_sendings(entry, count, sent, room / 16, &sendings) == CMH_OK));
+    EXPECT(sendings == TARGETS3 * TARGETS3);
+    MEASURE("3: declared by", MOST, EXPECT(cmh_entry3_declared(entry, count, &declared, &stamp) == CMH_OK));
+    MEASURE("3: waits", MOST, EXPECT(cmh_site3_waits(&site, 1, processes, MEMBERS3, &count) == CMH_OK && count == TARGETS3));
+    MEASURE("3: owed", MOST, EXPECT(cmh_site3_owed(&site, 2, processes, MEMBERS3, &count) == CMH_OK && count == 1));
+    len = spell_withdraw(event, 1, TARGETS3, holders);
+    MEASURE("3: withdraw", MOST, EXPECT(cmh_site3_step(&site, event, len, entry, room, &count) == CMH_OK));
+    MEASURE("3: leaving", MOST, EXPECT(cmh_site3_leaving(&site, 1, processes, MEMBERS3, &count) == CMH_OK && count == 0));
+    MEASURE("3: declared", MOST, EXPECT(cmh_site3_declared(&site, processes, MEMBERS3, &count) == CMH_OK && count == 0));
+    MEASURE("3: free", MOST, cmh_site3_free(&site));
+    free(entry);
+    free(sent);
+}
+
 int main(void)
 {
     static const uint16_t rows[] = {1, 1, 1, 2, 1, 2};
@@ -120,6 +164,7 @@ int main(void)
     cmh_site_free(&other);
     cmh_reader_free(&reader);
     fullest();
+    fullest3();
     nest();
     MEASURE("new, nested", MOST_FOR_NESTED, EXPECT(cmh_site_new_json(&other, (const uint8_t *)nested, strlen(nested), 2) == CMH_OK));
     cmh_site_free(&other);
