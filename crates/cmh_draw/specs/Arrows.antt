@@ -8,6 +8,7 @@ use Rattle.cmh_journal.specs.Journal.{Journal}
 use Rattle.cmh_audit.specs.Journals.{journal_of}
 use Rattle.cmh_draw.specs.Each.{each_from}
 use Rattle.cmh_draw.specs.declared.mark.Arrow.{Arrow}
+use Rattle.cmh_draw.specs.declared.mark.DrawnFrame.TheVariants.{Older}
 use Rattle.cmh_draw.specs.declared.mark.EntrySpot.{EntrySpot}
 
 -- where the entry of this number of a site is drawn: in the row of the site, in the column that this row has for it, or
@@ -20,7 +21,7 @@ spot_of columns row site number =
 -- the frames that entries sent to where it says, as arrows that end nowhere; the entry of a number stands at its spot
 abbrev pub sent_where : (ℕ → Bool) → (ℕ → EntrySpot) → List Entry → List Arrow
 sent_where goes spot entries = each_from (λ number (e : Entry). each_from (λ place (x : ℕ × Frame). if goes x.0
-    then (record { from = spot number; place = place; to = x.0; frame = x.1; got = None }) ∷ [] else []) 0 e.sent) 1 entries
+    then (record { from = spot number; place = place; to = x.0; frame = Older x.1; got = None }) ∷ [] else []) 0 e.sent) 1 entries
 
 -- the numbers of the entries that got a frame from the site
 abbrev pub got_from : ℕ → List Entry → List ℕ

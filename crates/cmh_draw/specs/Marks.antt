@@ -1,7 +1,7 @@
 -- What is drawn.
-use Rattle.std.specs.Prelude.{◌≡◌, ℕ, ◌≤◌, Bool, ◌&&◌, ◌==◌, List, [], ◌∷◌, ◌++◌, drop, length, map, unwrap_or, zip}
+use Rattle.std.specs.Prelude.{◌≡◌, ℕ, ◌≤◌, Bool, false, ◌&&◌, ◌==◌, List, [], ◌∷◌, ◌++◌, drop, length, map, None, unwrap_or, zip}
 use Rattle.std.specs.List.{AllByRecursion, list_any}
-use Rattle.std.specs.Option.{option_map_or}
+use Rattle.std.specs.Option.{option_map, option_map_or}
 use Rattle.cmh_frames.specs.Rules.{IsAscending}
 use Rattle.cmh_frames.specs.Topology.{Topology, sites_of, members_of, home}
 use Rattle.cmh_frames.specs.Entries.{Entry}
@@ -12,6 +12,8 @@ use Rattle.cmh_audit.specs.declared.verdict.Verdict.{Verdict}
 use Rattle.cmh_audit.specs.declared.verdict.Verdict.TheVariants.{Accepted, Refused}
 use Rattle.cmh_draw.specs.Arrows.{arrows_of, spot_of}
 use Rattle.cmh_draw.specs.Each.{each_from, number_from}
+use Rattle.cmh_draw.specs.declared.mark.Declared.{Declared}
+use Rattle.cmh_draw.specs.declared.mark.DrawnEvent.TheVariants.{Older}
 use Rattle.cmh_draw.specs.declared.mark.Mark as marks
 use Rattle.cmh_draw.specs.declared.mark.Mark.TheVariants.{Site, Process, Wait, Entry as Entry_mark, Arrow, Stop}
 use Rattle.cmh_draw.specs.declared.mark.Spot.{Spot}
@@ -31,10 +33,14 @@ stop_marks t columns (Refused stops) =
 
 -- ---- a run
 
+-- a process of editions 1 and 2 that was declared: it has no stop, and is so for ever
+abbrev pub older_declared : ℕ → Declared
+older_declared process = record { process = process; stop = None; is_over = false }
+
 -- a mark for each entry of all sites
 abbrev pub entry_marks : Topology → List Journal → List (List ℕ) → List marks.Mark
 entry_marks t journals columns = each_from (λ row site. each_from (λ number (e : Entry). Entry_mark
-    (record { at = spot_of columns row site number; event = e.event; declared = e.declared }) ∷ []) 1
+    (record { at = spot_of columns row site number; event = Older e.event; declared = option_map older_declared e.declared }) ∷ []) 1
     (journal_of journals site)) 0 (sites_of t)
 
 -- The picture of a run: each site, each frame, each entry and each stop once, and nothing else. Each entry has a column
@@ -45,6 +51,7 @@ pub record IsRunPicture (t : Topology) (journals : List Journal) (verdict : Verd
   pub are_ascending : AllByRecursion IsAscending columns
   pub are_within : AllByRecursion (λ of. AllByRecursion (λ column. column ≤ picture.columns) of) columns
   pub kind_is : picture.kind ≡ Run
+  pub edition_is : picture.may_withdraw ≡ false
   pub rows_are : picture.rows ≡ length (sites_of t)
   pub marks_are : picture.marks.items ≡ site_marks t (λ site. picture.columns) ++ map Arrow (arrows_of t journals columns)
       ++ entry_marks t journals columns ++ stop_marks t columns verdict
@@ -91,6 +98,7 @@ waits_marks t (Refused stops) = stop_marks t [] (Refused stops) ++ process_marks
 -- place within it for each process
 pub record IsWaitsPicture (t : Topology) (verdict : Verdict) (picture : Picture) : Type 0 where
   pub kind_is : picture.kind ≡ Waits
+  pub edition_is : picture.may_withdraw ≡ false
   pub columns_are : picture.columns ≡ length (sites_of t)
   pub has_room : AllByRecursion (λ site. length (members_of t site) ≤ picture.rows) (sites_of t)
   pub marks_are : picture.marks.items ≡ site_marks t (λ site. length (members_of t site)) ++ waits_marks t verdict

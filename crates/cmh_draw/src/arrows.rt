@@ -5,10 +5,11 @@ ghost use Rattle.cmh_frames.specs.Journals.{frame_from};
 ghost use Rattle.cmh_audit.specs.Journals.{journal_of};
 ghost use Rattle.cmh_draw.specs.Arrows as spec;
 ghost use Rattle.cmh_draw.specs.Inner.Ways as inner;
+ghost use Rattle.cmh_draw.specs.declared.mark.DrawnFrame.TheVariants.{Older};
 
 use crate::columns::{Columns, column_of};
 use crate::drawn_run::{DrawnRun, Line};
-use crate::mark::{Arrow, EntrySpot, Spot};
+use crate::mark::{Arrow, DrawnFrame, EntrySpot, Spot};
 use cmh_audit::entries_at;
 use cmh_frames::{Entry, Event, Frame, SiteId, Topology};
 use std::alloc::{AllocError, Global};
@@ -77,7 +78,7 @@ fn add_to_site(
 }
 
 /// Adds the arrows of a link with their ends: the frame at each place of those sent is got at this place of those got.
-fn pair_up(
+pub fn pair_up(
     columns: &[Columns],
     to: &Line,
     sent: &[Arrow],
@@ -165,7 +166,7 @@ fn add_if(
     all: &mut Vec<Arrow>,
 ) -> Result<(), AllocError>
     ensures { OnOk result (all.new.items ≡ all.old.items ++ inner.if_on is_on
-        (record { from = at.now; place = place; to = sent.now.0; frame = sent.now.1; got = None })) }
+        (record { from = at.now; place = place; to = sent.now.0; frame = Older sent.now.1; got = None })) }
 {
     if is_on {
         let (to, frame) = *sent;
@@ -173,7 +174,7 @@ fn add_if(
             from: *at,
             place,
             to,
-            frame,
+            frame: DrawnFrame::Older(frame),
             got: None,
         })?;
     }

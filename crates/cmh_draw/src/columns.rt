@@ -8,7 +8,7 @@ use crate::arrows::arrows_of;
 use crate::drawn_run::DrawnRun;
 use crate::mark::{Arrow, EntrySpot};
 use cmh_audit::entries_at;
-use cmh_frames::{SiteId, Topology};
+use cmh_frames::Topology;
 use cmh_journal::Journal;
 use std::alloc::{AllocError, Global};
 use std::marker::Model;
@@ -60,14 +60,14 @@ pub fn columns_of(
     Ok(all)
 }
 
-/// The columns that were found for the entries of a site, where they are so many and ascend, as they always are.
-fn checked(
+/// The columns that were found for the entries of a site, where they are so many and ascend, as they always are. More
+/// than `u32` can number count as out of memory.
+pub fn checked(
     alloc: Global,
     count: usize,
     found: &[Columns],
     row: usize,
 ) -> Result<Columns, AllocError>
-    requires { count ≤ 1000000 }
     ensures length { IfOk result (λ site. length site ≡ count) }
     ensures ascending { IfOk result (λ site. IsAscending site) }
 {
@@ -95,12 +95,14 @@ fn is_ascending(columns: &[u32]) -> bool
 
 /// Each entry in the column of its number, from 0.
 fn numbers_to(alloc: Global, count: usize) -> Result<Columns, AllocError>
-    requires { count ≤ 1000000 }
     ensures length { IfOk result (λ site. length site ≡ count) }
     ensures ascending { IfOk result (λ site. IsAscending site) }
 {
     let mut columns = Vec::new(alloc);
     for i in 0..count {
+        if i > u32::MAX as usize {
+            return Err(AllocError);
+        }
         columns.push(i as u32)?;
     }
     Ok(Columns::new(columns))
@@ -143,9 +145,22 @@ fn search(
         columns: &[],
     };
     let arrows = arrows_of(alloc, &unplaced)?;
-    let sources = sources_of(alloc, topology.sites(), journals, &arrows)?;
+    let mut lengths = Vec::new(alloc);
+    for site in topology.sites() {
+        lengths.push(entries_at(journals, *site).len())?;
+    }
+    search_by(alloc, &lengths, &arrows)
+}
+
+/// The same, where each site has so many entries, by the arrows between them.
+pub fn search_by(
+    alloc: Global,
+    lengths: &[usize],
+    arrows: &[Arrow],
+) -> Result<Vec<Columns>, AllocError> {
+    let sources = sources_of(alloc, lengths, arrows)?;
     let mut found = Vec::new(alloc);
-    for _ in topology.sites() {
+    for _ in lengths {
         let columns = Vec::new(alloc);
         found.push(Columns::new(columns))?;
     }
@@ -170,14 +185,13 @@ fn search(
 
 fn sources_of(
     alloc: Global,
-    sites: &[SiteId],
-    journals: &[Journal],
+    lengths: &[usize],
     arrows: &[Arrow],
 ) -> Result<Vec<Sources>, AllocError> {
     let mut all = Vec::new(alloc);
-    for site in sites {
+    for length in lengths {
         let mut sources = Vec::new(alloc);
-        sources.resize(entries_at(journals, *site).len(), None)?;
+        sources.resize(*length, None)?;
         all.push(Sources { sources })?;
     }
     for arrow in arrows {

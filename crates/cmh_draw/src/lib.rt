@@ -10,7 +10,13 @@ mod running;
 mod size;
 mod waiting;
 
-pub use crate::mark::{Arrow, EntryMark, EntrySpot, Mark, Process, Site, Spot, Wait};
+pub use crate::arrows::{pair_up, spot_of};
+pub use crate::columns::{Columns, checked, search_by};
+pub use crate::drawn_run::Line;
+pub use crate::mark::{
+    Arrow, Declared, DrawnEvent, DrawnFrame, EntryMark, EntrySpot, Mark, Process, Site, Spot, Wait,
+};
 pub use crate::picture::{Kind, NoKind, Picture};
-pub use crate::running::run_picture;
-pub use crate::waiting::waits_picture;
+pub use crate::running::{add_arrows, row_of, run_picture};
+pub use crate::size::width_of;
+pub use crate::waiting::{has_step, place_of, waits_picture};

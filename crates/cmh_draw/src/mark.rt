@@ -1,6 +1,7 @@
 //! What a picture is made of.
 
 use cmh_frames::{Event, Frame, ProcId, SiteId};
+use cmh_model3::Stamp;
 
 /// A place in a picture: a column from the left and a row from the top, both from 0.
 #[derive(Clone, Copy, Debug)]
@@ -23,6 +24,10 @@ pub enum Mark {
     Site(Site),
     Process(Process),
     Wait(Wait),
+    /// A process that was declared, and whose cycle a member has left since.
+    Released(Process),
+    /// The asker has given up its wait for the holder, which has not answered yet.
+    Leaving(Wait),
     Entry(EntryMark),
     Arrow(Arrow),
     /// An entry that can't be taken: no run of these journals gets further. In a picture of waits it stands in the row
@@ -58,12 +63,40 @@ pub struct Wait {
     pub is_on_cycle: bool,
 }
 
+/// What happened at a site.
+#[derive(Debug, Drop)]
+pub enum DrawnEvent {
+    /// In editions 1 and 2.
+    Older(Event),
+    /// In edition 3.
+    Newer(cmh_model3::Event),
+}
+
+/// What one site sends to another.
+#[derive(Clone, Copy, Debug)]
+pub enum DrawnFrame {
+    /// In editions 1 and 2.
+    Older(Frame),
+    /// In edition 3.
+    Newer(cmh_model3::Frame),
+}
+
+/// A process that was declared.
+#[derive(Clone, Copy, Debug)]
+pub struct Declared {
+    pub process: ProcId,
+    /// The stop at which its cycle stood, in edition 3.
+    pub stop: Option<Stamp>,
+    /// Whether it is over: the cycle was left since, or the process asked again.
+    pub is_over: bool,
+}
+
 /// What happened at a site, and who was declared then.
 #[derive(Debug, Drop)]
 pub struct EntryMark {
     pub at: EntrySpot,
-    pub event: Event,
-    pub declared: Option<ProcId>,
+    pub event: DrawnEvent,
+    pub declared: Option<Declared>,
 }
 
 /// A frame from the entry that sent it, with its place among all that this entry sent, from 0, to the entry that got it.
@@ -73,6 +106,6 @@ pub struct Arrow {
     pub from: EntrySpot,
     pub place: usize,
     pub to: SiteId,
-    pub frame: Frame,
+    pub frame: DrawnFrame,
     pub got: Option<EntrySpot>,
 }

@@ -37,6 +37,8 @@ impl FromStr for Kind {
 #[derive(Debug, Drop)]
 pub struct Picture {
     pub kind: Kind,
+    /// Whether processes may withdraw, as in edition 3: then the legend says how that looks.
+    pub may_withdraw: bool,
     pub columns: u32,
     pub rows: u32,
     pub marks: Vec<Mark>,

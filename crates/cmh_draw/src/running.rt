@@ -1,22 +1,22 @@
 //! The run as a space-time diagram: a line a site, a mark an entry, an arrow a frame.
 
-ghost use Rattle.std.specs.Prelude.{◌≡◌, ◌≤◌, ◌++◌, IfOk, OnOk, length, map};
+ghost use Rattle.std.specs.Prelude.{◌≡◌, ◌≤◌, ◌++◌, IfOk, OnOk, length, map, option_map};
 ghost use Rattle.cmh_audit.specs.Journals.{journal_of};
 ghost use Rattle.cmh_draw.specs.Arrows.{arrows_of};
 ghost use Rattle.cmh_draw.specs.Each.{number_from};
 ghost use Rattle.cmh_draw.specs.Inner.Marks.{entry_marks, stop_mark};
 ghost use Rattle.cmh_draw.specs.Marks as spec;
-ghost use Rattle.cmh_draw.specs.Marks.{IsRunPicture};
+ghost use Rattle.cmh_draw.specs.Marks.{IsRunPicture, older_declared};
 ghost use Rattle.cmh_draw.specs.declared.mark.Mark.TheVariants.{Arrow as Arrow_mark};
 
 use crate::arrows::{arrows_of, spot_of};
 use crate::columns::{Columns, columns_of};
 use crate::drawn_run::{DrawnRun, Line};
-use crate::mark::{Arrow, EntryMark, Mark, Site};
+use crate::mark::{Arrow, Declared, DrawnEvent, EntryMark, Mark, Site};
 use crate::picture::{Kind, Picture};
 use crate::size::width_of;
 use cmh_audit::{Verdict, entries_at};
-use cmh_frames::{SiteId, Topology};
+use cmh_frames::{ProcId, SiteId, Topology};
 use cmh_journal::Journal;
 use std::alloc::{AllocError, Global};
 
@@ -44,6 +44,7 @@ pub fn run_picture(
     let marks = marks_of(alloc, &run, verdict, width)?;
     Ok(Picture {
         kind: Kind::Run,
+        may_withdraw: false,
         columns: width,
         rows: topology.sites().len() as u32,
         marks,
@@ -87,7 +88,8 @@ fn add_sites(topology: &Topology, width: u32, marks: &mut Vec<Mark>) -> Result<(
     Ok(())
 }
 
-fn add_arrows(arrows: &[Arrow], marks: &mut Vec<Mark>) -> Result<(), AllocError>
+/// An arrow for each.
+pub fn add_arrows(arrows: &[Arrow], marks: &mut Vec<Mark>) -> Result<(), AllocError>
     ensures { OnOk result (marks.new.items ≡ marks.old.items ++ map Arrow_mark arrows.now) }
 {
     for arrow in arrows {
@@ -131,11 +133,25 @@ fn add_entries(
         let event = entry.event.copy(alloc)?;
         marks.push(Mark::Entry(EntryMark {
             at,
-            event,
-            declared: entry.declared,
+            event: DrawnEvent::Older(event),
+            declared: older(entry.declared),
         }))?;
     }
     Ok(())
+}
+
+/// A process of editions 1 and 2 that was declared, if one was.
+const fn older(declared: Option<ProcId>) -> Option<Declared>
+    ensures { result ≡ option_map older_declared declared }
+{
+    match declared {
+        Some(process) => Some(Declared {
+            process,
+            stop: None,
+            is_over: false,
+        }),
+        None => None,
+    }
 }
 
 /// A mark at each entry at which a site stops: in its column, in the row of the site's place.

@@ -3,14 +3,13 @@
 ghost use Rattle.std.specs.Prelude.{◌≤◌, length};
 ghost use Rattle.std.specs.List.{AllByRecursion};
 ghost use Rattle.cmh_frames.specs.Topology.{sites_of, members_of};
-ghost use Rattle.cmh_draw.specs.Inner.Columns.{AreWithin};
 
 use crate::columns::Columns;
 use cmh_frames::Topology;
 
 /// One more than the last column of all.
 pub fn width_of(columns: &[Columns]) -> u32
-    ensures { AreWithin result columns.now }
+    ensures { AllByRecursion (λ site. AllByRecursion (λ column. column ≤ result) site) columns.now }
 {
     let mut width = 1;
     for site in columns {

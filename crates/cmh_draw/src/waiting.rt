@@ -1,6 +1,6 @@
 //! Who waits for whom at the end.
 
-ghost use Rattle.std.specs.Prelude.{◌≡◌, ◌≤◌, ◌++◌, ◌==◌, [], IfOk, OnOk, length, map, unwrap_or};
+ghost use Rattle.std.specs.Prelude.{◌≡◌, ◌≤◌, ◌++◌, ◌&&◌, ◌==◌, [], IfOk, OnOk, drop, length, map, unwrap_or, zip};
 ghost use Rattle.std.specs.List.{list_any};
 ghost use Rattle.cmh_audit.specs.Reports.{cycle_of};
 ghost use Rattle.cmh_frames.specs.Topology.{members_of};
@@ -44,6 +44,7 @@ pub fn waits_picture(
     }
     Ok(Picture {
         kind: Kind::Waits,
+        may_withdraw: false,
         columns: topology.sites().len() as u32,
         rows: height_of(topology),
         marks,
@@ -143,8 +144,8 @@ fn spot_of(topology: &Topology, process: ProcId) -> Spot
 }
 
 /// The place of a process among these, from 0; 0 where it is none of them.
-fn place_of(members: &[ProcId], process: ProcId) -> u32
-    requires { length members.now ≤ 64 }
+pub fn place_of(members: &[ProcId], process: ProcId) -> u32
+    requires { length members.now ≤ 256 }
     ensures { result ≡ number_from 0 members.now process }
 {
     for (row, other) in members.iter().enumerate() {
@@ -177,7 +178,14 @@ fn is_on_cycle_of(report: &Report, process: ProcId, asker: ProcId, holder: ProcI
 }
 
 /// Whether the asker stands right before the holder.
-fn has_step(members: &[ProcId], asker: ProcId, holder: ProcId) -> bool
+pub fn has_step(members: &[ProcId], asker: ProcId, holder: ProcId) -> bool
+    ensures { result ≡ list_any (λ step. (step.0 == asker) && (step.1 == holder))
+        (zip members.now (drop 1 members.now)) }
+{
+    steps(members, asker, holder)
+}
+
+fn steps(members: &[ProcId], asker: ProcId, holder: ProcId) -> bool
     ensures { result ≡ inner.steps asker holder members.now }
 {
     for (i, member) in members.iter().enumerate() {

@@ -5,11 +5,13 @@ use Rattle.cmh_frames.specs.Topology.{Topology}
 use Rattle.cmh_journal.specs.Journal.{Journal}
 use Rattle.cmh_audit.specs.declared.verdict.Verdict.{Verdict}
 use Rattle.cmh_draw.specs.Marks.{IsRunPicture, IsWaitsPicture}
+use Rattle.cmh_draw.specs.declared.mark.Mark.{Mark}
 use Rattle.cmh_draw.specs.declared.picture.Kind.{Kind}
 use Rattle.cmh_draw.specs.declared.picture.Kind.TheVariants.{Waits, Run}
 use Rattle.cmh_draw.specs.declared.picture.Picture.{Picture}
 use Rattle.cmh_console.specs.Device.{Writing}
 use Rattle.cmh_files.specs.Audits.{Audits, IsCause}
+use Rattle.cmh_files.specs.declared.audit_fault.AuditFault.TheVariants.{Output, Memory}
 use Rattle.cmh_picture.specs.Parts.{marks_in}
 use Rattle.cmh_picture.specs.PictureFaults.{NamesPictureFault}
 use Rattle.cmh_picture.specs.PictureTexts.{IsDrawn}
@@ -47,21 +49,26 @@ abbrev pub IsMany : Kind → ℕ → Type 0
 IsMany Waits count = ⊥
 IsMany Run count = mark_limit < count
 
--- a picture shows what is asked for of the picture of the files, and that is not too much
-pub record ShowsFiles (topology : List ℕ) (files : List (List ℕ)) (kind : Kind) (part : Option Part) (picture : Picture) : Type 0 where
-  pub whole : Picture
-  pub draws : DrawsFiles topology files kind whole
-  pub marks_are : picture.marks.items ≡ marks_in part whole.marks.items
-  pub few : IsFew kind (length picture.marks.items)
+-- what was written is a text of what is asked for of a picture with these marks, and that is not too much
+pub record WrotePart (kind : Kind) (format : Format) (part : Option Part) (marks : List Mark) (old new : Option (List ℕ)) : Type 0 where
+  pub text : List ℕ
+  pub few : IsFew kind (length (marks_in part marks))
+  pub is_drawn : IsDrawn format (marks_in part marks) text
+  pub wrote : Appends old new text
 
--- what was written is a text of a picture that shows the files
+-- Why it is not written. Nothing was written then, but where the writer failed.
+abbrev pub IsPartCause : Kind → Option Part → List Mark → Option (List ℕ) → Option (List ℕ) → Bool → PictureFault → Type 0
+IsPartCause kind part marks old new has_failed (Audit Output) = has_failed ≡ true
+IsPartCause kind part marks old new has_failed (Audit Memory) = new ≡ old
+IsPartCause kind part marks old new has_failed (Audit fault) = ⊥
+IsPartCause kind part marks old new has_failed TooManyMarks = IsMany kind (length (marks_in part marks)) × (new ≡ old)
+
+-- what was written is a text of what is asked for of the picture of the files
 pub record WroteDrawing (topology : List ℕ) (files : List (List ℕ)) (kind : Kind) (format : Format) (part : Option Part)
     (old new : Option (List ℕ)) : Type 0 where
-  pub picture : Picture
-  pub text : List ℕ
-  pub shows : ShowsFiles topology files kind part picture
-  pub is_drawn : IsDrawn format picture.marks.items text
-  pub wrote : Appends old new text
+  pub whole : Picture
+  pub draws : DrawsFiles topology files kind whole
+  pub shows : WrotePart kind format part whole.marks.items old new
 
 -- what is asked for of the picture of the files has too many marks
 pub record HasTooManyMarks (topology : List ℕ) (files : List (List ℕ)) (kind : Kind) (part : Option Part) : Type 0 where

@@ -1,4 +1,5 @@
 pub mod Formats
+pub mod Words
 pub mod Names
 pub mod PictureTexts
 pub mod Parts

@@ -1,14 +1,14 @@
 //! Marks as text for Graphviz. Labels are nodes of their own with a white ground: in runs Graphviz draws edges first, so
 //! that no arrow lies on a label.
 
-use crate::label::{DeclaredText, OpenText, SiteText, StepText, StopText};
+use crate::label::{OpenText, SiteText, StepText, StopText};
 use crate::layout::{Layout, length_of, place_of};
-use crate::look::{Look, look_of};
+use crate::look::{FrameLook, Look, look_of, look_of_frame};
 use crate::point::Point;
 use crate::scene::Scene;
 use crate::svg_run::{is_below, way_of};
-use cmh_draw::{Arrow, EntryMark, EntrySpot, Kind, Mark, Process, Site, Wait};
-use cmh_frames::{Event, Frame};
+use crate::words::{DeclaredText, FrameText, got_of};
+use cmh_draw::{Arrow, DrawnFrame, EntryMark, EntrySpot, Kind, Mark, Process, Site, Wait};
 use std::alloc::{AllocError, Global};
 use std::fmt;
 
@@ -48,6 +48,8 @@ pub fn shape_of(alloc: Global, scene: Scene<'_>, mark: &Mark) -> Result<String, 
         },
         Mark::Process(process) => add_process(*process, &mut text)?,
         Mark::Wait(wait) => add_wait(*wait, &mut text)?,
+        Mark::Released(process) => add_released(*process, &mut text)?,
+        Mark::Leaving(wait) => add_leaving(*wait, &mut text)?,
         Mark::Entry(entry) => add_entry(alloc, scene, entry, &mut text)?,
         Mark::Arrow(arrow) => add_arrow(alloc, scene, arrow, &mut text)?,
         Mark::Stop(stop) => match scene.picture.kind {
@@ -78,13 +80,24 @@ fn add_halt(stop: EntrySpot, text: &mut String) -> Result<(), AllocError> {
 }
 
 fn add_process(of: Process, text: &mut String) -> Result<(), AllocError> {
-    let site = of.site;
-    let process = of.process;
     let look = if of.is_declared {
         "shape=doubleoctagon, fillcolor=\"#E69F00\""
     } else {
         "shape=circle, fillcolor=white"
     };
+    add_member(of, look, text)
+}
+
+fn add_released(of: Process, text: &mut String) -> Result<(), AllocError> {
+    add_member(of, OVER, text)
+}
+
+/// How one looks who was declared, and that is over.
+const OVER: &str = "shape=octagon, color=\"#D55E00\", fillcolor=white";
+
+fn add_member(of: Process, look: &str, text: &mut String) -> Result<(), AllocError> {
+    let site = of.site;
+    let process = of.process;
     write!(
         text,
         "subgraph cluster_{site} {{ p{process} [label={process}, {look}] }}\n"
@@ -100,6 +113,15 @@ fn add_wait(wait: Wait, text: &mut String) -> Result<(), AllocError> {
         "style=dashed"
     };
     write!(text, "p{asker} -> p{holder} [{look}]\n")
+}
+
+fn add_leaving(wait: Wait, text: &mut String) -> Result<(), AllocError> {
+    let asker = wait.asker;
+    let holder = wait.holder;
+    write!(
+        text,
+        "p{asker} -> p{holder} [color=\"#CC79A7\", style=dotted, arrowhead=odot, label=\"gave it up\"]\n"
+    )
 }
 
 // ---- a run
@@ -139,21 +161,25 @@ fn add_entry(
         Look::Act => "shape=circle, fillcolor=\"#56B4E9\"",
         Look::Got => "shape=box, fillcolor=white",
         Look::Declared => "shape=doubleoctagon, fillcolor=\"#E69F00\"",
+        Look::Over => OVER,
+        Look::Withdraw => "shape=diamond, fillcolor=\"#CC79A7\", height=0.4, width=0.4",
     };
     write!(
         text,
         "{node} [label={number}, fixedsize=true, {position}, {look}]\n"
     )?;
     let side = Side::of(scene, entry);
-    match &entry.event {
-        Event::Got { frame, .. } => {
-            let length = length_of(alloc, frame)?;
-            add_label(text, node, "got", left_of(at, length, side.near), *frame)?;
-        }
-        event => {
-            let words = StepText { event };
+    match got_of(&entry.event) {
+        Some((_, frame)) => {
+            let words = FrameText { frame };
             let length = length_of(alloc, &words)?;
-            let words = StepText { event };
+            add_label(text, node, "got", left_of(at, length, side.near), words)?;
+        }
+        None => {
+            let words = StepText {
+                event: &entry.event,
+            };
+            let length = length_of(alloc, &words)?;
             add_label(text, node, "step", left_of(at, length, side.near), words)?;
         }
     }
@@ -179,8 +205,8 @@ impl Side {
 
     /// The side from which no arrow comes: over the entry, but under it where it got a frame from above.
     fn of(scene: Scene<'_>, entry: &EntryMark) -> Side {
-        match &entry.event {
-            Event::Got { from, .. } if !is_below(scene, *from, entry.at) => Side::UNDER,
+        match got_of(&entry.event) {
+            Some((from, _)) if !is_below(scene, from, entry.at) => Side::UNDER,
             _ => Side::OVER,
         }
     }
@@ -194,8 +220,8 @@ fn add_declared(
     text: &mut String,
 ) -> Result<(), AllocError> {
     match entry.declared {
-        Some(process) => {
-            let words = DeclaredText { process };
+        Some(declared) => {
+            let words = DeclaredText { declared };
             let length = length_of(alloc, &words)?;
             let node = Node { at: entry.at };
             add_label(text, node, "who", left_of(at, length, down), words)
@@ -247,11 +273,12 @@ fn add_arrow(
     }
 }
 
-const fn look_of_frame(frame: &Frame) -> &'static str {
-    match frame {
-        Frame::Request(_) => "color=\"#0072B2\", style=solid, penwidth=1.5",
-        Frame::Reply(_) => "color=\"#009E73\", style=dashed, penwidth=1.5",
-        Frame::Probe(_) => "color=\"#D55E00\", style=dotted, penwidth=1.5",
+fn pen_of(frame: DrawnFrame) -> &'static str {
+    match look_of_frame(frame) {
+        FrameLook::Request => "color=\"#0072B2\", style=solid, penwidth=1.5",
+        FrameLook::Reply => "color=\"#009E73\", style=dashed, penwidth=1.5",
+        FrameLook::Probe => "color=\"#D55E00\", style=dotted, penwidth=1.5",
+        FrameLook::Withdraw => "color=\"#CC79A7\", style=dashed, penwidth=3",
     }
 }
 
@@ -270,7 +297,7 @@ fn add_open(
     let at = left_of(at, length, 42).moved(0, place_of(arrow).saturating_mul(13));
     let node = Node { at: arrow.from };
     let position = Position { at };
-    let look = look_of_frame(&arrow.frame);
+    let look = pen_of(arrow.frame);
     let place = arrow.place;
     write!(
         text,
@@ -322,7 +349,7 @@ fn add_edge(
     got: &EntrySpot,
     text: &mut String,
 ) -> Result<(), AllocError> {
-    let look = look_of_frame(&arrow.frame);
+    let look = pen_of(arrow.frame);
     let from = Node { at: arrow.from };
     let way = way_of(layout, arrow, got);
     let got = Node { at: *got };

@@ -4,8 +4,7 @@ ghost use Rattle.std.specs.Prelude.{◌≡◌, true, OnOk, IfOk, IfErr, map};
 ghost use Rattle.std.specs.Bool.{OnFalse, OnTrue};
 ghost use Rattle.cmh_files.specs.Audits.{IsAuditFault};
 ghost use Rattle.cmh_console.specs.Status.{IsStatus};
-ghost use Rattle.cmh_picture.specs.Draws.{DrawEnds, DrawsFiles, IsFew, IsMany, IsPictureCause, IsPictureOf, ShowsFiles, WroteDrawing};
-ghost use Rattle.cmh_picture.specs.Inner.Showing.{IsPictureFault};
+ghost use Rattle.cmh_picture.specs.Draws.{DrawEnds, DrawsFiles, IsFew, IsMany, IsPartCause, IsPictureCause, IsPictureOf, WroteDrawing, WrotePart};
 
 use crate::format::Format;
 use crate::part::{Part, part_of};
@@ -73,26 +72,41 @@ fn draw_into<W: Write>(
         (map (λ file. file.items) drawing.now.journals.now) drawing.now.kind drawing.now.part
         out.old.written out.new.written out.new.has_failed) }
 {
-    let picture = shown_picture(alloc, drawing)?;
-    let text = picture_text(alloc, drawing.format, drawing.part, &picture)?;
+    let whole = picture_of_files(alloc, drawing)?;
+    write_picture(
+        alloc,
+        drawing.kind,
+        drawing.format,
+        drawing.part,
+        whole,
+        out,
+    )
+}
+
+/// Writes the part of a picture of this kind that is asked for, if it is not too large.
+///
+/// Nothing is written before a fault but where writing itself failed.
+pub fn write_picture<W: Write>(
+    alloc: Global,
+    kind: Kind,
+    format: Format,
+    part: Option<Part>,
+    whole: Picture,
+    out: &mut Output<W>,
+) -> Result<(), PictureFault>
+    ensures wrote { OnOk result (WrotePart kind format part whole.marks.items out.old.written out.new.written) }
+    ensures flushed { OnOk result (out.new.is_flushed ≡ true) }
+    ensures fault { IfErr result (IsPartCause kind part whole.marks.items
+        out.old.written out.new.written out.new.has_failed) }
+{
+    let picture = part_of(part, whole);
+    if is_too_large(kind, picture.marks.len()) {
+        return Err(PictureFault::TooManyMarks);
+    }
+    let text = picture_text(alloc, format, part, &picture)?;
     out.write_text(text)?;
     out.flush()?;
     Ok(())
-}
-
-/// The part of the picture that is asked for, if it is not too large.
-fn shown_picture(alloc: Global, drawing: &Drawing<'_>) -> Result<Picture, PictureFault>
-    ensures shows { IfOk result (ShowsFiles drawing.now.topology.now
-        (map (λ file. file.items) drawing.now.journals.now) drawing.now.kind drawing.now.part) }
-    ensures fault { IfErr result (IsPictureFault drawing.now.topology.now
-        (map (λ file. file.items) drawing.now.journals.now) drawing.now.kind drawing.now.part) }
-{
-    let whole = picture_of_files(alloc, drawing)?;
-    let picture = part_of(drawing.part, whole);
-    if is_too_large(drawing.kind, picture.marks.len()) {
-        return Err(PictureFault::TooManyMarks);
-    }
-    Ok(picture)
 }
 
 /// Whether a picture of this kind may not have so many marks.

@@ -1,34 +1,76 @@
 //! The words of labels.
 
-use cmh_files::EventText;
-use cmh_frames::{Event, Frame, ProcId, SiteId};
+use crate::words::{EventText, FrameText, ask_word};
+use cmh_draw::{DrawnEvent, DrawnFrame};
+use cmh_frames::{Event, ProcId, SiteId};
+use cmh_model3::Event as Event3;
 use std::fmt;
 
-/// What a process did. Of many that it asked, the first are named and the others counted.
+/// What a process did. Of many that it named, the first are told and the others counted.
 #[derive(Clone, Copy)]
 pub struct StepText<'a> {
-    pub event: &'a Event,
+    pub event: &'a DrawnEvent,
 }
 
-/// How many processes that were asked a label names where it doesn't name them all.
+/// How many of these processes a label tells where it doesn't tell them all.
 const NAMED: usize = 3;
 
 impl<'a> fmt::Display for StepText<'a> {
     fn fmt<W: fmt::Write>(&self, f: &mut fmt::Formatter<W>) -> fmt::Result {
-        match self.event {
-            Event::Ask { asker, targets } if targets.as_slice().len() > NAMED + 2 => {
-                write!(f, "ask {asker}")?;
-                for target in targets.as_slice().iter().take(NAMED) {
+        match many_of(self.event) {
+            Some(
+                Many {
+                    word,
+                    process,
+                    targets,
+                },
+            ) => {
+                write!(f, "{word} {process}")?;
+                for target in targets.iter().take(NAMED) {
                     write!(f, " {target}")?;
                 }
-                let more = targets.as_slice().len() - NAMED;
+                let more = targets.len().saturating_sub(NAMED);
                 write!(f, " and {more} more")
             }
-            event => {
-                let text = EventText { event };
+            None => {
+                let text = EventText { event: self.event };
                 write!(f, "{text}")
             }
         }
+    }
+}
+
+/// More processes than a label tells, and which process named them by which word.
+#[derive(Clone, Copy)]
+struct Many<'a> {
+    word: &'static str,
+    process: ProcId,
+    targets: &'a [ProcId],
+}
+
+fn many_of(event: &DrawnEvent) -> Option<Many<'_>> {
+    let many = match event {
+        DrawnEvent::Older(Event::Ask { asker, targets }) => Many {
+            word: "ask",
+            process: *asker,
+            targets: targets.as_slice(),
+        },
+        DrawnEvent::Newer(Event3::Ask { asker, targets }) => Many {
+            word: ask_word(targets.as_slice()),
+            process: *asker,
+            targets: targets.as_slice(),
+        },
+        DrawnEvent::Newer(Event3::Withdraw { asker, targets }) => Many {
+            word: "withdraw",
+            process: *asker,
+            targets: targets.as_slice(),
+        },
+        _ => return None,
+    };
+    if many.targets.len() > NAMED + 2 {
+        Some(many)
+    } else {
+        None
     }
 }
 
@@ -44,28 +86,16 @@ impl fmt::Display for SiteText {
     }
 }
 
-#[derive(Clone, Copy)]
-pub struct DeclaredText {
-    pub process: ProcId,
-}
-
-impl fmt::Display for DeclaredText {
-    fn fmt<W: fmt::Write>(&self, f: &mut fmt::Formatter<W>) -> fmt::Result {
-        let process = self.process;
-        write!(f, "declared {process}")
-    }
-}
-
 /// A frame that nobody got, and the site that it goes to.
 #[derive(Clone, Copy)]
 pub struct OpenText {
-    pub frame: Frame,
+    pub frame: DrawnFrame,
     pub to: SiteId,
 }
 
 impl fmt::Display for OpenText {
     fn fmt<W: fmt::Write>(&self, f: &mut fmt::Formatter<W>) -> fmt::Result {
-        let frame = self.frame;
+        let frame = FrameText { frame: self.frame };
         let to = self.to;
         write!(f, "{frame} to {to}")
     }

@@ -4,8 +4,8 @@ use crate::format::Format;
 use crate::label::StepText;
 use crate::part::Part;
 use crate::point::Point;
-use cmh_draw::{Arrow, EntryMark, Mark, Spot};
-use cmh_frames::Event;
+use crate::words::{DeclaredText, FrameText, got_of};
+use cmh_draw::{Arrow, Declared, EntryMark, Mark, Spot};
 use std::alloc::{AllocError, Global};
 use std::fmt;
 
@@ -103,27 +103,44 @@ impl Longest {
 
     fn add(&mut self, alloc: Global, mark: &Mark) -> Result<(), AllocError> {
         match mark {
-            Mark::Entry(entry) => self.add_step(alloc, entry),
+            Mark::Entry(entry) => {
+                self.add_step(alloc, entry)?;
+                self.add_declared(alloc, entry.declared)
+            }
             Mark::Arrow(arrow) => self.add_arrow(alloc, arrow),
             _ => Ok(()),
         }
     }
 
     fn add_step(&mut self, alloc: Global, entry: &EntryMark) -> Result<(), AllocError> {
-        match entry.event {
-            Event::Got { .. } => {}
-            _ => {
-                let text = StepText {
-                    event: &entry.event,
-                };
-                self.step = self.step.max(length_of(alloc, &text)?);
-            }
+        if got_of(&entry.event).is_none() {
+            let text = StepText {
+                event: &entry.event,
+            };
+            self.step = self.step.max(length_of(alloc, &text)?);
         }
         Ok(())
     }
 
+    /// With its stop a declaration may be longer than the labels of frames.
+    fn add_declared(
+        &mut self,
+        alloc: Global,
+        declared: Option<Declared>,
+    ) -> Result<(), AllocError> {
+        match declared {
+            Some(declared) if declared.stop.is_some() => {
+                let text = DeclaredText { declared };
+                self.label = self.label.max(length_of(alloc, &text)?);
+                Ok(())
+            }
+            _ => Ok(()),
+        }
+    }
+
     fn add_arrow(&mut self, alloc: Global, arrow: &Arrow) -> Result<(), AllocError> {
-        let length = length_of(alloc, &arrow.frame)?;
+        let text = FrameText { frame: arrow.frame };
+        let length = length_of(alloc, &text)?;
         if arrow.got.is_some() {
             self.label = self.label.max(length);
         } else {

@@ -18,9 +18,10 @@ mod style;
 mod svg;
 mod svg_run;
 mod svg_waits;
+mod words;
 
-pub use crate::drawing::{Drawing, run_draw};
+pub use crate::drawing::{Drawing, run_draw, write_picture};
 pub use crate::format::{Format, NoFormat};
 pub use crate::part::Part;
 pub use crate::picture_fault::PictureFault;
-pub use cmh_draw::{Kind, NoKind};
+pub use cmh_draw::{Kind, NoKind, Picture};

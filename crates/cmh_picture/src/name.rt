@@ -1,14 +1,14 @@
 //! The name of a mark: what it stands for, in words.
 
-ghost use Rattle.std.specs.Prelude.{◌++◌, Some, codes};
+ghost use Rattle.std.specs.Prelude.{[], ◌++◌, Some, codes};
 ghost use Rattle.std.specs.Fmt.{decimal};
 ghost use Rattle.std.specs.Option.{option_map_or};
 ghost use Rattle.cmh_draw.specs.declared.mark.Mark.TheVariants as marks;
 ghost use Rattle.cmh_picture.specs.Names as spec;
+ghost use Rattle.cmh_picture.specs.Words as words;
 
-use cmh_draw::{Arrow, EntrySpot, Mark};
-use cmh_files::EventText;
-use cmh_frames::DeclaredText;
+use crate::words::{DeclaredText, EventText, FrameText};
+use cmh_draw::{Arrow, Declared, EntrySpot, Mark};
 use std::fmt;
 
 /// The name of a mark. A browser shows it where a reader points at the mark.
@@ -36,12 +36,22 @@ impl<'a> fmt::Display for MarkName<'a> {
                 let holder = wait.holder;
                 write!(f, "{asker} waits for {holder}")
             }
+            Mark::Released(of) => {
+                let site = of.site;
+                let process = of.process;
+                write!(f, "process {process} at site {site}: its cycle was left")
+            }
+            Mark::Leaving(wait) => {
+                let asker = wait.asker;
+                let holder = wait.holder;
+                write!(f, "{asker} gave up its wait for {holder}")
+            }
             Mark::Entry(entry) => {
                 let at = EntryName { at: entry.at };
                 let event = EventText {
                     event: &entry.event,
                 };
-                let declared = DeclaredText {
+                let declared = DeclaredName {
                     declared: entry.declared,
                 };
                 write!(f, "{at}: {event}{declared}")
@@ -74,6 +84,27 @@ impl fmt::Display for EntryName {
     }
 }
 
+/// The process that was declared, if one was.
+#[derive(Clone, Copy)]
+struct DeclaredName {
+    declared: Option<Declared>,
+}
+
+impl fmt::Display for DeclaredName {
+    ghost output = { λ name. Some
+        (option_map_or (λ declared. codes " " ++ words.declared_text declared) name.declared []) };
+
+    fn fmt<W: fmt::Write>(&self, f: &mut fmt::Formatter<W>) -> fmt::Result {
+        match self.declared {
+            Some(declared) => {
+                let text = DeclaredText { declared };
+                write!(f, " {text}")
+            }
+            None => Ok(()),
+        }
+    }
+}
+
 #[derive(Drop)]
 struct ArrowName<'a> {
     arrow: &'a Arrow,
@@ -83,7 +114,9 @@ impl<'a> fmt::Display for ArrowName<'a> {
     ghost output = { λ name. Some (spec.name_of (marks.Arrow name.arrow.now)) };
 
     fn fmt<W: fmt::Write>(&self, f: &mut fmt::Formatter<W>) -> fmt::Result {
-        let frame = self.arrow.frame;
+        let frame = FrameText {
+            frame: self.arrow.frame,
+        };
         let from = EntryName {
             at: self.arrow.from,
         };

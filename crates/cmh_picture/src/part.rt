@@ -48,6 +48,7 @@ impl Part {
     {
         let Picture {
             kind,
+            may_withdraw,
             columns,
             rows,
             mut marks,
@@ -55,6 +56,7 @@ impl Part {
         marks.retain(|mark| self.shows(mark));
         Picture {
             kind,
+            may_withdraw,
             columns: columns.min(self.last),
             rows,
             marks,

@@ -160,8 +160,11 @@ const HALVINGS: u32 = 6;
 pub fn processes_of(alloc: Global, marks: &[Mark]) -> Result<Vec<Point>, AllocError> {
     let mut points = Vec::new(alloc);
     for mark in marks {
-        if let Mark::Process(process) = mark {
-            points.push(process_point(process.spot))?;
+        match mark {
+            Mark::Process(process) | Mark::Released(process) => {
+                points.push(process_point(process.spot))?;
+            }
+            _ => {}
         }
     }
     Ok(points)

@@ -63,3 +63,34 @@ pub const RUN_LEGEND: &str = "\
 <g class='probe'><path d='M236 48h40'/></g><text x='284' y='52'>probe</text>
 <g class='open'><path d='M346 48h34'/></g><text x='394' y='52'>nobody got it: lost or waiting</text>
 ";
+
+/// What is added where processes may withdraw: to the legend of waits.
+pub const WAITS_MORE: &str = "\
+<style>
+.over path{fill:#fff;stroke:#D55E00;stroke-width:2}
+.over text{text-anchor:middle}
+.leaving path{stroke:#CC79A7;stroke-dasharray:2 4;marker-end:url(#wait)}
+.leaving .cross{stroke:#A2487A;stroke-width:3;stroke-dasharray:none;marker-end:none}
+</style>
+<g class='over'><path d='M424 14h8l6 6v8l-6 6h-8l-6 -6v-8z'/></g><text x='450' y='26'>its cycle was left</text>
+<g class='leaving'><path d='M340 44h30'/><path class='cross' d='M348 37l14 14m0 -14l-14 14'/></g><text x='390' y='48'>gave it up, no answer yet</text>
+";
+
+/// And to that of a run.
+pub const RUN_MORE: &str = "\
+<style>
+.over path{fill:#fff;stroke:#D55E00;stroke-width:2}
+.withdrawal path{fill:#CC79A7}
+.withdrawal .step{text-anchor:end;font-weight:bold}
+.withdrawal .number{text-anchor:middle}
+.withdraw{font-size:11px}
+text.withdraw{fill:#A2487A}
+.withdraw path{stroke:#CC79A7;stroke-width:3;stroke-dasharray:9 3 2 3;marker-end:url(#withdraw)}
+.open path{stroke-dasharray:none;marker-end:url(#open)}
+</style>
+<defs><marker id='withdraw' refX='10' refY='5' markerWidth='10' markerHeight='10' markerUnits='userSpaceOnUse' orient='auto'>
+<polygon points='0,0 10,5 0,10' fill='#CC79A7'/></marker></defs>
+<g class='withdrawal'><path d='M28 60l12 12l-12 12l-12 -12z'/></g><text x='48' y='76'>withdraws</text>
+<g class='declared'><g class='over'><path d='M138 60h8l6 6v8l-6 6h-8l-6 -6v-8z'/></g></g><text x='164' y='76'>declared, no longer</text>
+<g class='withdraw'><path d='M286 72h40'/></g><text x='334' y='76'>withdraw</text>
+";

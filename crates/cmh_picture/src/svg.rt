@@ -1,13 +1,12 @@
 //! Marks as SVG.
 
-use crate::look::{Look, look_of, word_of};
+use crate::look::{Look, look_of, open_word_of, word_of};
 use crate::point::Point;
 use crate::scene::Scene;
-use crate::style::{RUN_LEGEND, STYLE, WAITS_LEGEND};
+use crate::style::{RUN_LEGEND, RUN_MORE, STYLE, WAITS_LEGEND, WAITS_MORE};
 use crate::svg_run::{add_arrow, add_entry, add_line, add_stop};
-use crate::svg_waits::{add_halt, add_home, add_process, add_wait};
+use crate::svg_waits::{add_halt, add_home, add_leaving, add_process, add_released, add_wait};
 use cmh_draw::{Kind, Mark};
-use cmh_frames::Frame;
 use std::alloc::{AllocError, Global};
 use std::fmt;
 
@@ -20,8 +19,13 @@ pub fn head_of(alloc: Global, scene: Scene<'_>) -> Result<String, AllocError> {
         Kind::Waits => WAITS_LEGEND,
         Kind::Run => RUN_LEGEND,
     };
+    let more = match scene.picture.kind {
+        _ if !scene.picture.may_withdraw => "",
+        Kind::Waits => WAITS_MORE,
+        Kind::Run => RUN_MORE,
+    };
     format!(in alloc;
-        "xmlns='http://www.w3.org/2000/svg' width='{width}' height='{height}' viewBox='0 0 {width} {height}'>\n{STYLE}{legend}"
+        "xmlns='http://www.w3.org/2000/svg' width='{width}' height='{height}' viewBox='0 0 {width} {height}'>\n{STYLE}{legend}{more}"
     )
 }
 
@@ -33,17 +37,17 @@ pub fn class_of(mark: &Mark) -> &'static str {
         Mark::Process(_) => "process",
         Mark::Wait(wait) if wait.is_on_cycle => "cycle",
         Mark::Wait(_) => "wait",
+        Mark::Released(_) => "process over",
+        Mark::Leaving(_) => "leaving",
         Mark::Entry(entry) => match look_of(entry) {
             Look::Act => "act",
             Look::Got => "got",
             Look::Declared => "declared",
+            Look::Over => "declared over",
+            Look::Withdraw => "withdrawal",
         },
-        Mark::Arrow(arrow) if arrow.got.is_some() => word_of(&arrow.frame),
-        Mark::Arrow(arrow) => match arrow.frame {
-            Frame::Request(_) => "request open",
-            Frame::Reply(_) => "reply open",
-            Frame::Probe(_) => "probe open",
-        },
+        Mark::Arrow(arrow) if arrow.got.is_some() => word_of(arrow.frame),
+        Mark::Arrow(arrow) => open_word_of(arrow.frame),
         Mark::Stop(_) => "stop",
     }
 }
@@ -58,6 +62,8 @@ pub fn shape_of(alloc: Global, scene: Scene<'_>, mark: &Mark) -> Result<String, 
         },
         Mark::Process(process) => add_process(*process, &mut text)?,
         Mark::Wait(wait) => add_wait(scene, *wait, &mut text)?,
+        Mark::Released(process) => add_released(*process, &mut text)?,
+        Mark::Leaving(wait) => add_leaving(scene, *wait, &mut text)?,
         Mark::Entry(entry) => add_entry(scene, entry, &mut text)?,
         Mark::Arrow(arrow) => add_arrow(scene.layout, arrow, &mut text)?,
         Mark::Stop(stop) => match scene.picture.kind {

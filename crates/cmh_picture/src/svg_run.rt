@@ -1,14 +1,15 @@
 //! The marks of a run as SVG. Arrows leave an entry to its right, so all labels of an entry but its number stand on its
 //! left.
 
-use crate::label::{DeclaredText, OpenText, SiteText, StepText, StopText};
+use crate::label::{OpenText, SiteText, StepText, StopText};
 use crate::layout::{Layout, place_of};
 use crate::look::{Look, look_of, word_of};
 use crate::point::Point;
 use crate::scene::Scene;
 use crate::svg::add_label;
-use cmh_draw::{Arrow, EntryMark, EntrySpot, Site, Spot};
-use cmh_frames::{Event, Frame, ProcId, SiteId};
+use crate::words::{DeclaredText, FrameText, got_of};
+use cmh_draw::{Arrow, Declared, DrawnEvent, DrawnFrame, EntryMark, EntrySpot, Site, Spot};
+use cmh_frames::SiteId;
 use std::alloc::AllocError;
 use std::fmt;
 
@@ -55,23 +56,24 @@ fn add_name(text: &mut String, site: SiteId, at: Point) -> Result<(), AllocError
     add_label(text, "name", at.moved(0, 4), SiteText { site })
 }
 
-/// A disk where a process did something, a square where a frame came, an octagon where one was declared, with the
-/// entry's number in it.
+/// A disk where a process did something, a diamond where it withdrew, a square where a frame came, an octagon where one
+/// was declared, with the entry's number in it.
 pub fn add_entry(scene: Scene<'_>, entry: &EntryMark, text: &mut String) -> Result<(), AllocError> {
     let at = scene.layout.point(entry.at.spot);
     let shape = match look_of(entry) {
         Look::Act => "m-10 0a10 10 0 1 0 20 0a10 10 0 1 0 -20 0",
         Look::Got => "m-9 -9h18v18h-18z",
-        Look::Declared => "m-5 -12h10l7 7v10l-7 7h-10l-7 -7v-10z",
+        Look::Declared | Look::Over => "m-5 -12h10l7 7v10l-7 7h-10l-7 -7v-10z",
+        Look::Withdraw => "m0 -14l14 14l-14 14l-14 -14z",
     };
     write!(text, "<path d='M{at}{shape}'/>")?;
     add_label(text, "number", at.moved(0, 3), entry.at.number)?;
-    match &entry.event {
-        Event::Got { from, frame } => {
-            let is_from_below = is_below(scene, *from, entry.at);
-            add_got(at, is_from_below, *frame, entry.declared, text)
+    match got_of(&entry.event) {
+        Some((from, frame)) => {
+            let is_from_below = is_below(scene, from, entry.at);
+            add_got(at, is_from_below, frame, entry.declared, text)
         }
-        event => add_step(at, event, entry.declared, text),
+        None => add_step(at, &entry.event, entry.declared, text),
     }
 }
 
@@ -86,17 +88,17 @@ pub fn is_below(scene: Scene<'_>, site: SiteId, at: EntrySpot) -> bool {
 /// What a process did, climbing away to the left, and who was declared then.
 fn add_step(
     at: Point,
-    event: &Event,
-    declared: Option<ProcId>,
+    event: &DrawnEvent,
+    declared: Option<Declared>,
     text: &mut String,
 ) -> Result<(), AllocError> {
     add_slanted(text, "step", at.moved(-8, -14), StepText { event })?;
     match declared {
-        Some(process) => add_slanted(
+        Some(declared) => add_slanted(
             text,
             "step who",
             at.moved(-2, -27),
-            DeclaredText { process },
+            DeclaredText { declared },
         ),
         None => Ok(()),
     }
@@ -120,8 +122,8 @@ fn add_slanted<T: fmt::Display + Drop>(
 fn add_got(
     at: Point,
     is_from_below: bool,
-    frame: Frame,
-    declared: Option<ProcId>,
+    frame: DrawnFrame,
+    declared: Option<Declared>,
     text: &mut String,
 ) -> Result<(), AllocError> {
     let place = if is_from_below {
@@ -129,14 +131,15 @@ fn add_got(
     } else {
         at.moved(-13, 17)
     };
-    add_label(text, word_of(&frame), place, frame)?;
+    let words = FrameText { frame };
+    add_label(text, word_of(words.frame), place, words)?;
     let further = if is_from_below { -14 } else { 14 };
     match declared {
-        Some(process) => add_label(
+        Some(declared) => add_label(
             text,
             "who",
             place.moved(0, further),
-            DeclaredText { process },
+            DeclaredText { declared },
         ),
         None => Ok(()),
     }
@@ -161,7 +164,7 @@ fn add_open(layout: Layout, arrow: &Arrow, text: &mut String) -> Result<(), Allo
         frame: arrow.frame,
         to: arrow.to,
     };
-    add_label(text, word_of(&arrow.frame), end.moved(-8, 4), words)
+    add_label(text, word_of(arrow.frame), end.moved(-8, 4), words)
 }
 
 /// The way of a frame: steeply off its line, where the labels are, straight past the lines between, on the right of the

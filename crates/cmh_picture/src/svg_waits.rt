@@ -45,14 +45,23 @@ impl fmt::Display for HaltText {
     }
 }
 
+const OCTAGON: &str = "m-9 -21h18l12 12v18l-12 12h-18l-12 -12v-18z";
+
+const CIRCLE: &str = "m-20 0a20 20 0 1 0 40 0a20 20 0 1 0 -40 0";
+
 /// A declared process is an octagon, any other one a circle.
 pub fn add_process(process: Process, text: &mut String) -> Result<(), AllocError> {
+    let shape = if process.is_declared { OCTAGON } else { CIRCLE };
+    add_shape(process, shape, text)
+}
+
+/// One whose cycle was left is an octagon too.
+pub fn add_released(process: Process, text: &mut String) -> Result<(), AllocError> {
+    add_shape(process, OCTAGON, text)
+}
+
+fn add_shape(process: Process, shape: &str, text: &mut String) -> Result<(), AllocError> {
     let at = process_point(process.spot);
-    let shape = if process.is_declared {
-        "m-9 -21h18l12 12v18l-12 12h-18l-12 -12v-18z"
-    } else {
-        "m-20 0a20 20 0 1 0 40 0a20 20 0 1 0 -40 0"
-    };
     write!(text, "<path d='M{at}{shape}'/>")?;
     add_label(text, "middle", at.moved(0, 4), process.process)
 }
@@ -62,4 +71,16 @@ pub fn add_wait(scene: Scene<'_>, wait: Wait, text: &mut String) -> Result<(), A
     let curve = scene.curve(process_point(wait.from), process_point(wait.to));
     let curve = curve.cut(29);
     write!(text, "<path d='{curve}'/>")
+}
+
+/// A curve from the process that gave up, with a cross on its middle.
+pub fn add_leaving(scene: Scene<'_>, wait: Wait, text: &mut String) -> Result<(), AllocError> {
+    let curve = scene.curve(process_point(wait.from), process_point(wait.to));
+    let at = curve.middle();
+    let curve = curve.cut(29);
+    write!(text, "<path d='{curve}'/>")?;
+    write!(
+        text,
+        "<path class='cross' d='M{at}m-7 -7l14 14m0 -14l-14 14'/>"
+    )
 }

@@ -1,18 +1,20 @@
 -- A mark, and those of one site.
 use Rattle.std.specs.Prelude.{ℕ, ◌==◌, List, [], ◌∷◌}
 use Rattle.std.specs.List.{list_any}
+use Rattle.std.specs.Option.{option_map}
 use Rattle.cmh_frames.specs.Topology.{Topology, sites_of}
 use Rattle.cmh_frames.specs.Entries.{Entry}
 use Rattle.cmh_audit.specs.Reports.{Report}
 use Rattle.cmh_draw.specs.Arrows.{spot_of}
 use Rattle.cmh_draw.specs.Each.{each_from, number_from}
-use Rattle.cmh_draw.specs.Marks.{is_on_cycle, process_spot}
+use Rattle.cmh_draw.specs.Marks.{is_on_cycle, older_declared, process_spot}
+use Rattle.cmh_draw.specs.declared.mark.DrawnEvent.TheVariants.{Older}
 use Rattle.cmh_draw.specs.declared.mark.Mark as marks
 use Rattle.cmh_draw.specs.declared.mark.Mark.TheVariants.{Process, Wait, Entry as Entry_mark, Stop}
 
 abbrev pub entry_mark : List (List ℕ) → ℕ → ℕ → ℕ → Entry → marks.Mark
 entry_mark columns row site number e =
-    Entry_mark (record { at = spot_of columns row site number; event = e.event; declared = e.declared })
+    Entry_mark (record { at = spot_of columns row site number; event = Older e.event; declared = option_map older_declared e.declared })
 
 abbrev pub entry_marks : List (List ℕ) → ℕ → ℕ → List Entry → List marks.Mark
 entry_marks columns row site entries =

@@ -9,6 +9,7 @@ use Rattle.cmh_draw.specs.Each.{each_from}
 use Rattle.cmh_draw.specs.declared.arrows.Way.{Way}
 use Rattle.cmh_draw.specs.declared.arrows.Way.TheVariants.{To, Astray}
 use Rattle.cmh_draw.specs.declared.mark.Arrow.{Arrow}
+use Rattle.cmh_draw.specs.declared.mark.DrawnFrame.TheVariants.{Older}
 use Rattle.cmh_draw.specs.declared.mark.EntrySpot.{EntrySpot}
 
 -- whether what goes to this site is on the way
@@ -22,7 +23,7 @@ if_on b arrow = if b then arrow ∷ [] else []
 -- of the frames that an entry sent, those on a way
 abbrev pub sent_by : Topology → Way → EntrySpot → List (ℕ × Frame) → List Arrow
 sent_by t way at sent = each_from (λ place (x : ℕ × Frame).
-    if_on (is_on t way x.0) (record { from = at; place = place; to = x.0; frame = x.1; got = None })) 0 sent
+    if_on (is_on t way x.0) (record { from = at; place = place; to = x.0; frame = Older x.1; got = None })) 0 sent
 
 -- of the frames from a site to another
 abbrev pub to_site : List Journal → (ℕ → EntrySpot) → (ℕ → EntrySpot) → ℕ → ℕ → List Arrow

@@ -18,6 +18,7 @@ returns c =
       are_ascending = ascending_from (lengths_of t journals) columns c.in_ok-columns.ensures;
       are_within = subst (AreWithin width) c.deref.ensures.value c.width_of-width.ensures;
       kind_is = refl;
+      edition_is = refl;
       rows_are = ap (λ (l : List ℕ). length l) c.sites.ensures.value;
       marks_are = c.in_ok-marks.ensures ∙ ap
           (λ (cs : List (List ℕ)). site_marks t (λ site. width) ++ map Arrow (arrows_of t journals cs) ++ entry_marks t journals cs

@@ -14,6 +14,7 @@ returns c =
     let homes = site_marks t (λ site. length (members_of t site)) in
     record {
       kind_is = refl;
+      edition_is = refl;
       columns_are = ap (λ (l : List ℕ). length l) c.sites.ensures.value;
       has_room = c.height_of.ensures;
       marks_are = elim c.match-verdict.branch [

@@ -1,6 +1,6 @@
 use Rattle.std.proofs.Common.{◌≡◌, drop}
 use Rattle.cmh_draw.specs.Inner.Steps as inner
-use Rattle.cmh_draw.proofs.waiting.has_step.Given as goal
+use Rattle.cmh_draw.proofs.waiting.steps.Given as goal
 
 abbrev pub invariant-loop-i : goal.invariant-loop-i
 invariant-loop-i l =

@@ -1,0 +1,4 @@
+pub mod Arrows
+pub mod Marks
+pub mod Draws
+pub mod Inner
