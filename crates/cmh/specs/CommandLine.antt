@@ -63,6 +63,12 @@ NamesNoFolder matches = (words : ArgMatches)
     → option_map (λ p. p.1) (subcommand_rows_of matches) ≡ Some (rows_of (found_of words))
     → first_value (found_of words) (codes "journals") ≡ None
 
+-- one is named
+abbrev pub NamesFolder : ArgMatches → List ℕ → Type 0
+NamesFolder matches folder = (words : ArgMatches)
+    → option_map (λ p. p.1) (subcommand_rows_of matches) ≡ Some (rows_of (found_of words))
+    → first_value (found_of words) (codes "journals") ≡ Some folder
+
 -- no file for a page is named
 abbrev pub NamesNoPageFile : ArgMatches → Type 0
 NamesNoPageFile matches = (words : ArgMatches)

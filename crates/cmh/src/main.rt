@@ -9,8 +9,9 @@ ghost use Rattle.cmh_commands.specs.NewWorld.{WorldEnds};
 ghost use Rattle.cmh_commands.specs.Numbers.{TellsNumber};
 ghost use Rattle.cmh_commands.specs.Paging.{PagesFiles, PlaysToPage};
 ghost use Rattle.cmh_commands.specs.Playing.{PlaysAlone, PlaysScript};
-ghost use Rattle.cmh.specs.CommandLine.{IsEnd, NamesAudit, NamesCluster, NamesColumn, NamesDraw, NamesEdition, NamesNewWorld, NamesNoEdition, NamesNoFolder, NamesNoPage, NamesNoPageFile, NamesNoReasons, NamesNoRun, NamesNoStrictness, NamesNothing, NamesOption, NamesPage, NamesPlay, NamesReasons, NamesRun, NamesShow, NamesSite, NamesSiteNumber, NamesStrictness, ReadsNoInput};
+ghost use Rattle.cmh.specs.CommandLine.{IsEnd, NamesAudit, NamesCluster, NamesColumn, NamesDraw, NamesEdition, NamesFolder, NamesNewWorld, NamesNoEdition, NamesNoFolder, NamesNoPage, NamesNoPageFile, NamesNoReasons, NamesNoRun, NamesNoStrictness, NamesNothing, NamesOption, NamesPage, NamesPlay, NamesReasons, NamesRun, NamesShow, NamesSite, NamesSiteNumber, NamesStrictness, ReadsNoInput};
 ghost use Rattle.cmh.specs.Playing.{PlaysEdition3};
+ghost use Rattle.cmh_folder3.specs.Plays.{PlaysInto};
 ghost use Rattle.cmh.specs.Serving.{ServesCluster, ServesSite, ServesSome, ServesStrictly};
 ghost use Rattle.cmh_frames.specs.Number.{IsNumber};
 ghost use Rattle.cmh_draw.specs.Kinds.{kind_word};
@@ -30,6 +31,7 @@ use cmh_commands::{
     run_new_world, show,
 };
 use cmh_console::{Ahead, Fault, Input, Output};
+use cmh_folder3::run_play3_into;
 use cmh_frames::SiteId;
 use cmh_host::{BacklogLimit, SiteStart, System};
 use cmh_play::run_play;
@@ -229,7 +231,9 @@ where
         → NamesNoPageFile matches.now
         → PlaysAlone input.old input.new out.old out.new err.old err.new result }
     ensures plays_edition3 { NamesPlay matches.now → (edition : List ℕ) → NamesEdition matches.now edition
-        → PlaysEdition3 input.old input.new out.old out.new err.old err.new result }
+        → NamesNoFolder matches.now → PlaysEdition3 input.old input.new out.old out.new err.old err.new result }
+    ensures plays_edition3_into { NamesPlay matches.now → (edition folder : List ℕ) → NamesEdition matches.now edition
+        → NamesFolder matches.now folder → PlaysInto input.old input.new out.old out.new err.old err.new result }
 
     // Where an audit is named, files are audited; the reasons for stops, or a run, are told where they are asked for.
     ensures audits { NamesAudit matches.now → NamesNoReasons matches.now → NamesNoRun matches.now
@@ -292,6 +296,9 @@ where
     }
     if let Some(words) = matches.subcommand_matches(PLAY) {
         if words.get_str(EDITION).is_some() {
+            if let Some(path) = words.get_str(JOURNALS) {
+                return run_play3_into(rt, path, input, out, err);
+            }
             return run_play3(rt.alloc(), input, out, err);
         }
         if let Some(path) = words.get_str(JOURNALS) {

@@ -3,9 +3,12 @@ use Rattle.std.specs.Prelude.{◌≡◌, ℕ, ◌<◌, ◌^◌, ◌⊎◌, ◌&&
 use Rattle.cmh_draw.specs.declared.picture.Kind.{Kind}
 use Rattle.cmh_console.specs.Device.{Writing}
 use Rattle.cmh_console.specs.Faults.{NamesFault}
+use Rattle.cmh_console.specs.TopologyFile3.{SaysNoWorld}
+use Rattle.cmh_draw3.specs.Draws as edition3
 use Rattle.cmh_picture.specs.Draws.{DrawEnds}
 use Rattle.cmh_picture.specs.declared.format.Format.{Format}
 use Rattle.cmh_picture.specs.declared.part.Part.{Part}
+use Rattle.cmh_commands.specs.Editions.{SaysSomeWorld}
 use Rattle.cmh_commands.specs.FileFaults.{IsUnread, as_fault}
 use Rattle.cmh_commands.specs.Numbers.{TellsNumber}
 
@@ -19,10 +22,16 @@ abbrev pub part_between : Option ℕ → Option ℕ → Option Part
 part_between first last = if is_none first && is_none last then None
     else Some (record { first = unwrap_or first 1; last = unwrap_or last 4294967295 })
 
+-- the picture of these files: of edition 3 where the topology file says a world of it, else of editions 1 and 2
+abbrev pub DrawEndsByEdition : {W E : Type 0} → List ℕ → List (List ℕ) → Kind → Format → Option Part → Writing W → Writing W → Writing E → Writing E → ℕ → Type 0
+DrawEndsByEdition topology files kind format part old new err_old err_new status =
+    (SaysSomeWorld topology × edition3.DrawEnds topology files kind format part old new err_old err_new status)
+    ⊎ (SaysNoWorld topology × DrawEnds topology files kind format part old new err_old err_new status)
+
 -- some files were drawn, or nothing is written and the fault of one that could not be read is named
 abbrev pub DrawsFiles : {W E : Type 0} → Kind → Format → Option Part → Writing W → Writing W → Writing E → Writing E → ℕ → Type 0
 DrawsFiles kind format part old new err_old err_new status =
-    ((topology : List ℕ) × (files : List (List ℕ)) × DrawEnds topology files kind format part old new err_old err_new status)
+    ((topology : List ℕ) × (files : List (List ℕ)) × DrawEndsByEdition topology files kind format part old new err_old err_new status)
     ⊎ ((new ≡ old) × NamesFault as_fault IsUnread status err_old err_new)
 
 -- the same of a kind, a format and a part

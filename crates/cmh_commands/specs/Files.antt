@@ -2,20 +2,30 @@
 use Rattle.std.specs.Prelude.{◌≡◌, ℕ, ◌⊎◌, List, codes, Option, None, Some}
 use Rattle.cmh_console.specs.Device.{Writing}
 use Rattle.cmh_console.specs.Faults.{NamesFault}
+use Rattle.cmh_console.specs.TopologyFile3.{SaysNoWorld}
+use Rattle.cmh_commands.specs.Editions.{BeginWithSegment, SaysSomeWorld}
 use Rattle.cmh_commands.specs.FileFaults.{IsUnread, as_fault}
 use Rattle.cmh_files.specs.Audits.{AuditEnds}
 use Rattle.cmh_files.specs.Explains.{ExplainEnds}
 use Rattle.cmh_files.specs.RunAudits.{RunEnds}
 use Rattle.cmh_files.specs.Shows.{ShowEnds}
+use Rattle.cmh_files3.specs.Audits as edition3
+use Rattle.cmh_files3.specs.Shows as edition3_shows
 
 -- an option without a value that is not given
 abbrev pub IsUnset : Option (List ℕ) → Type 0
 IsUnset told = (told ≡ None) ⊎ (told ≡ Some (codes "false"))
 
+-- the audit of these files: of edition 3 where the topology file says a world of it, else of editions 1 and 2
+abbrev pub AuditEndsByEdition : {W E : Type 0} → List ℕ → List (List ℕ) → Writing W → Writing W → Writing E → Writing E → ℕ → Type 0
+AuditEndsByEdition topology files old new err_old err_new status =
+    (SaysSomeWorld topology × edition3.AuditEnds topology files old new err_old err_new status)
+    ⊎ (SaysNoWorld topology × AuditEnds topology files old new err_old err_new status)
+
 -- some files were audited, or nothing is written and the fault of one that could not be read is named
 abbrev pub AuditsFiles : {W E : Type 0} → Writing W → Writing W → Writing E → Writing E → ℕ → Type 0
 AuditsFiles old new err_old err_new status =
-    ((topology : List ℕ) × (files : List (List ℕ)) × AuditEnds topology files old new err_old err_new status)
+    ((topology : List ℕ) × (files : List (List ℕ)) × AuditEndsByEdition topology files old new err_old err_new status)
     ⊎ ((new ≡ old) × NamesFault as_fault IsUnread status err_old err_new)
 
 -- the same, with the reasons for stops
@@ -36,8 +46,14 @@ AuditsSomehow old new err_old err_new status =
     AuditsFiles old new err_old err_new status ⊎ ExplainsFiles old new err_old err_new status
     ⊎ ListsFiles old new err_old err_new status
 
+-- the lines of these files: of edition 3 where the first one begins as a segment of it, else of editions 1 and 2
+abbrev pub ShowEndsByEdition : {W E : Type 0} → List (List ℕ) → Writing W → Writing W → Writing E → Writing E → ℕ → Type 0
+ShowEndsByEdition files old new err_old err_new status =
+    (BeginWithSegment files × edition3_shows.ShowEnds files old new err_old err_new status)
+    ⊎ (¬ BeginWithSegment files × ShowEnds files old new err_old err_new status)
+
 -- the same of the lines of some journals
 abbrev pub ShowsFiles : {W E : Type 0} → Writing W → Writing W → Writing E → Writing E → ℕ → Type 0
 ShowsFiles old new err_old err_new status =
-    ((files : List (List ℕ)) × ShowEnds files old new err_old err_new status)
+    ((files : List (List ℕ)) × ShowEndsByEdition files old new err_old err_new status)
     ⊎ ((new ≡ old) × NamesFault as_fault IsUnread status err_old err_new)

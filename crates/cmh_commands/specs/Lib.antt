@@ -1,5 +1,6 @@
 pub mod Numbers
 pub mod FileFaults
+pub mod Editions
 pub mod Files
 pub mod Drawing
 pub mod Playing

@@ -1,19 +1,23 @@
 //! The commands `audit` and `show`.
 
-ghost use Rattle.std.specs.Prelude.{◌≡◌, Some, codes};
+ghost use Rattle.std.specs.Prelude.{◌≡◌, MatchBool, Some, codes, map};
 ghost use Rattle.clap.specs.Matches.{found_of, one_text};
 ghost use Rattle.cmh_console.specs.Status.{IsStatus};
-ghost use Rattle.cmh_commands.specs.Files.{AuditsFiles, AuditsSomehow, ExplainsFiles, IsUnset, ListsFiles, ShowsFiles};
+ghost use Rattle.cmh_commands.specs.Editions.{BeginWithSegment};
+ghost use Rattle.cmh_commands.specs.Files.{AuditsFiles, AuditsSomehow, ExplainsFiles, IsUnset, ListsFiles, ShowEndsByEdition, ShowsFiles};
 
-use crate::files::{files_of, journals_of};
+use crate::files::{begins_segment, files_of, journals_of};
 use crate::options::{RUN, WHY};
 use clap::ArgMatches;
 use cmh_console::{Fault, Output};
 use cmh_files::{run_audit, run_audit_run, run_audit_why, run_show};
+use cmh_files3::{run_audit3, run_show3};
+use std::alloc::Global;
 use std::io::Write;
 use std::rt::Files;
 
-/// Audits the files that the words name, and tells the reasons for stops, or a run, where they ask for them.
+/// Audits the files that the words name, and tells the reasons for stops, or a run, where they ask for them. Where they
+/// don't, and the topology is one of edition 3, the journals are segments of it.
 pub fn audit<R: AllocGlobal + Files, W: Write, E: Write>(
     rt: &R,
     words: &ArgMatches<'_>,
@@ -40,10 +44,13 @@ pub fn audit<R: AllocGlobal + Files, W: Write, E: Write>(
     if words.get_flag(RUN) {
         return run_audit_run(rt.alloc(), &files.topology, &files.journals, out, err);
     }
+    if files.is_edition3 {
+        return run_audit3(rt.alloc(), &files.topology, &files.journals, out, err);
+    }
     run_audit(rt.alloc(), &files.topology, &files.journals, out, err)
 }
 
-/// Writes what the journals that the words name hold.
+/// Writes what the journals that the words name hold. Where the first one is a segment of edition 3, all are to be.
 pub fn show<R: AllocGlobal + Files, W: Write, E: Write>(
     rt: &R,
     words: &ArgMatches<'_>,
@@ -54,7 +61,34 @@ pub fn show<R: AllocGlobal + Files, W: Write, E: Write>(
     ensures shows { ShowsFiles out.old out.new err.old err.new result }
 {
     match journals_of(rt, words) {
-        Ok(journals) => run_show(rt.alloc(), &journals, out, err),
+        Ok(journals) => show_files(rt.alloc(), &journals, out, err),
         Err(fault) => Fault::from(fault).name_on(err),
+    }
+}
+
+/// Writes what the files of journals hold.
+fn show_files<W: Write, E: Write>(
+    alloc: Global,
+    journals: &[Vec<u8>],
+    out: &mut Output<W>,
+    err: &mut Output<E>,
+) -> u8
+    ensures status { IsStatus result }
+    ensures ends { ShowEndsByEdition (map (λ file. file.items) journals.now) out.old out.new err.old err.new result }
+{
+    if begin_with_segment(journals) {
+        return run_show3(alloc, journals, out, err);
+    }
+    run_show(alloc, journals, out, err)
+}
+
+/// Whether the first of these files begins as a segment of edition 3.
+fn begin_with_segment(files: &[Vec<u8>]) -> bool
+    ensures { MatchBool result (BeginWithSegment (map (λ file. file.items) files.now))
+        (¬ BeginWithSegment (map (λ file. file.items) files.now)) }
+{
+    match files {
+        [first, ..] => begins_segment(first),
+        [] => false,
     }
 }

@@ -1,8 +1,10 @@
 //! The command `draw`.
 
-ghost use Rattle.std.specs.Prelude.{◌≡◌, ◌<◌, ◌^◌, ℕ, Option, None, Some, codes};
+ghost use Rattle.std.specs.Prelude.{◌≡◌, ◌<◌, ◌^◌, ℕ, MatchBool, Option, None, Some, codes, map};
 ghost use Rattle.clap.specs.Matches.{found_of, one_text};
-ghost use Rattle.cmh_commands.specs.Drawing.{DrawsFiles, DrawsSome, TellsColumn, part_between};
+ghost use Rattle.cmh_commands.specs.Drawing.{DrawEndsByEdition, DrawsFiles, DrawsSome, TellsColumn, part_between};
+ghost use Rattle.cmh_commands.specs.Editions.{SaysSomeWorld};
+ghost use Rattle.cmh_console.specs.TopologyFile3.{SaysNoWorld};
 ghost use Rattle.cmh_commands.specs.Numbers.{TellsNumber};
 ghost use Rattle.cmh_draw.specs.Kinds.{kind_word};
 ghost use Rattle.cmh_draw.specs.declared.picture.Kind as kinds;
@@ -14,7 +16,9 @@ use crate::files::files_of;
 use crate::options::{FORMAT, FROM, KIND, TO};
 use clap::ArgMatches;
 use cmh_console::{Fault, Output};
+use cmh_draw3::run_draw3;
 use cmh_picture::{Drawing, Format, Kind, Part, run_draw};
+use std::alloc::Global;
 use std::io::Write;
 use std::rt::Files;
 
@@ -46,10 +50,29 @@ pub fn draw<R: AllocGlobal + Files, W: Write, E: Write>(
                 format,
                 part,
             };
-            run_draw(rt.alloc(), &drawing, out, err)
+            draw_by_edition(rt.alloc(), files.is_edition3, &drawing, out, err)
         }
         Err(fault) => Fault::from(fault).name_on(err),
     }
+}
+
+/// Draws files whose topology says a world of edition 3, or none.
+fn draw_by_edition<W: Write, E: Write>(
+    alloc: Global,
+    is_edition3: bool,
+    drawing: &Drawing<'_>,
+    out: &mut Output<W>,
+    err: &mut Output<E>,
+) -> u8
+    requires { MatchBool is_edition3 (SaysSomeWorld drawing.now.topology.now) (SaysNoWorld drawing.now.topology.now) }
+    ensures status { IsStatus result }
+    ensures ends { DrawEndsByEdition drawing.now.topology.now (map (λ file. file.items) drawing.now.journals.now)
+        drawing.now.kind drawing.now.format drawing.now.part out.old out.new err.old err.new result }
+{
+    if is_edition3 {
+        return run_draw3(alloc, drawing, out, err);
+    }
+    run_draw(alloc, drawing, out, err)
 }
 
 /// The kind of picture that the words ask for. The command line has a default, and takes no word that is none.

@@ -3,12 +3,17 @@
 
 use crate::file_fault::FileFault;
 use crate::files::{LONGEST_TOPOLOGY, read_file};
-use crate::options::{JOURNAL, JOURNALS, OUT, PAGE, PORT, SCRIPT, SITE, TOPOLOGY};
-use crate::topology_trouble::{trouble_of_members, trouble_of_rows};
+use crate::options::{JOURNAL, JOURNALS, OUT, PAGE, PORT, RUN, SCRIPT, SITE, TOPOLOGY, WHY};
+use crate::topology_trouble::{
+    Limits, is_edition3, trouble_of_members, trouble_of_rows, trouble_of_world,
+};
 use clap::ArgMatches;
-use cmh_console::{TopologyFile, Words, read_topology_file, read_topology_file_with_ports};
-use cmh_frames::{Edition, SiteId, Topology};
+use cmh_console::{
+    TopologyFile, Words, read_topology_file, read_topology_file_with_ports, read_topology_file3,
+};
+use cmh_frames::{Edition, SiteId, SiteRow, Topology, TopologyFault};
 use cmh_journal::{JournalFault, read_stored};
+use cmh_topology3::Topology as Topology3;
 use serde_json::Value;
 use std::alloc::{AllocError, Global};
 use std::fs;
@@ -244,6 +249,27 @@ fn read_again<R: AllocGlobal + Files>(rt: &R, path: &str, fault: FileFault) -> O
     read_file(rt, path, fault).ok()
 }
 
+/// What a command does with a topology.
+#[derive(Clone, Copy)]
+enum Task {
+    /// It runs sites, which have ports.
+    Serve,
+    /// It tells of journals of editions 1 and 2 alone: a page, the reasons for stops or a run.
+    Tell,
+    /// It audits or draws journals of any edition.
+    Audit,
+}
+
+fn task_of(words: &ArgMatches<'_>) -> Task {
+    if words.get_str(JOURNAL).is_some() || words.get_str(SCRIPT).is_some() {
+        return Task::Serve;
+    }
+    if words.get_flag(PAGE) || words.get_flag(WHY) || words.get_flag(RUN) {
+        return Task::Tell;
+    }
+    Task::Audit
+}
+
 /// Of what a topology file holds.
 fn explain_topology<R: AllocGlobal + Files>(
     rt: &R,
@@ -253,7 +279,7 @@ fn explain_topology<R: AllocGlobal + Files>(
     let path = words.get_str(TOPOLOGY).unwrap_or("");
     write!(text, "{path}: ")?;
     match read_again(rt, path, FileFault::Topology) {
-        Some(bytes) => tell_topology(rt.alloc(), &bytes, has_ports(words), text),
+        Some(bytes) => tell_topology(rt.alloc(), &bytes, task_of(words), text),
         None => {
             write!(text, "it is not read again to say more")?;
             Ok(())
@@ -261,15 +287,10 @@ fn explain_topology<R: AllocGlobal + Files>(
     }
 }
 
-/// Whether the command looks at the ports of the topology: those do that run sites.
-fn has_ports(words: &ArgMatches<'_>) -> bool {
-    words.get_str(JOURNAL).is_some() || words.get_str(SCRIPT).is_some()
-}
-
 fn tell_topology(
     alloc: Global,
     bytes: &[u8],
-    has_ports: bool,
+    task: Task,
     text: &mut String,
 ) -> Result<(), AllocError> {
     let value = match Value::from_slice(alloc, bytes) {
@@ -279,7 +300,10 @@ fn tell_topology(
             return Ok(());
         }
     };
-    if let Some(trouble) = trouble_of_members(&value, has_ports) {
+    if is_edition3(&value) {
+        return tell_edition3(alloc, bytes, &value, task, text);
+    }
+    if let Some(trouble) = trouble_of_members(&value, matches!(task, Task::Serve)) {
         write!(text, "{trouble}")?;
         return Ok(());
     }
@@ -287,10 +311,59 @@ fn tell_topology(
         return Ok(());
     };
     if let Err(fault) = Topology::new(alloc, file.edition, &file.rows) {
-        match trouble_of_rows(file.edition, &file.rows, fault) {
-            Some(trouble) => write!(text, "{trouble}")?,
-            None => write!(text, "{fault}")?,
+        tell_rows(Limits::of(file.edition), &file.rows, fault, text)?;
+    }
+    Ok(())
+}
+
+/// Of a topology file of edition 3.
+fn tell_edition3(
+    alloc: Global,
+    bytes: &[u8],
+    value: &Value,
+    task: Task,
+    text: &mut String,
+) -> Result<(), AllocError> {
+    match task {
+        Task::Serve => {
+            write!(
+                text,
+                "running sites have no edition 3 yet; `cmh play --edition 3` plays a script of it"
+            )?;
+            return Ok(());
         }
+        Task::Tell => {
+            write!(
+                text,
+                "`draw` with --page, and `audit` with --why or --run, have no edition 3 yet"
+            )?;
+            return Ok(());
+        }
+        Task::Audit => {}
+    }
+    if let Some(trouble) = trouble_of_world(value) {
+        write!(text, "{trouble}")?;
+        return Ok(());
+    }
+    let Ok(file) = read_topology_file3(alloc, bytes) else {
+        return Ok(());
+    };
+    if let Err(fault) = Topology3::new(alloc, file.world, &file.rows) {
+        tell_rows(Limits::EDITION_3, &file.rows, fault, text)?;
+    }
+    Ok(())
+}
+
+/// Of rows that are no topology.
+fn tell_rows(
+    limits: Limits,
+    rows: &[SiteRow],
+    fault: TopologyFault,
+    text: &mut String,
+) -> Result<(), AllocError> {
+    match trouble_of_rows(limits, rows, fault) {
+        Some(trouble) => write!(text, "{trouble}")?,
+        None => write!(text, "{fault}")?,
     }
     Ok(())
 }
@@ -337,20 +410,36 @@ fn explain_set<R: AllocGlobal + Files>(
     fault: &mut Words<'_>,
     text: &mut String,
 ) -> Result<(), AllocError> {
+    let number = fault.number();
     let path = words.get_str(TOPOLOGY).unwrap_or("");
     let paths = words.get_strs(JOURNALS).unwrap_or(&[]);
+    let bytes = read_again(rt, path, FileFault::Topology).unwrap_or(Vec::new(rt.alloc()));
+    if read_topology_file3(rt.alloc(), &bytes).is_ok() {
+        let trouble = trouble_of_segments(number);
+        write!(text, "{trouble}")?;
+        return Ok(());
+    }
     let heads = heads_of(rt, paths)?;
-    let topology = match read_again(rt, path, FileFault::Topology) {
-        Some(bytes) => topology_of(rt.alloc(), &bytes),
-        None => None,
-    };
+    let topology = topology_of(rt.alloc(), &bytes);
     match (topology, heads) {
         (Some(topology), Some(heads)) => {
-            tell_set(fault.number(), &topology, paths, &heads, text)?;
+            tell_set(number, &topology, paths, &heads, text)?;
         }
         _ => write!(text, "the files are not read again to say more")?,
     }
     Ok(())
+}
+
+/// Why segments are not those of one world, by the number of the fault.
+const fn trouble_of_segments(number: Option<u16>) -> &'static str {
+    match number {
+        Some(1) => "a segment is of a site that the topology does not have",
+        Some(2) => "a journal is of edition 1 or 2",
+        Some(3) => "two segments are of one site",
+        Some(4) => "a site has no segment here",
+        Some(5) => "a segment is of another world than the topology",
+        _ => "a segment does not begin with its world: it is of a later epoch",
+    }
 }
 
 fn topology_of(alloc: Global, bytes: &[u8]) -> Option<Topology> {

@@ -23,8 +23,11 @@ const PLAY_STATUSES: &str = "\
 With --edition 3 processes may withdraw, so a deadlock ends and the run goes on. Lines have at most 4096 bytes, and besides:
   withdraw J K.. process J gives up its waits for these, or all of them where none is named
   ask J K..      also of a process that waits; a declaration names the stop at which its cycle stood
-With --journals DIR the journal of each site N is written to DIR/site-N.cmhj, at each report and at the end. With
---page FILE a page is written at the end that steps through the run in a browser, as by `cmh draw --page`.
+with four refusals more: 14 J is leaving one that its ask names, 15 J waits for one already, 16 J withdraws from one for
+which it doesn't wait, or waits for nobody, 17 the clock of the site can't rise.
+With --journals DIR the journal of each site N is written to DIR/site-N.cmhj, at each report and at the end; of edition 3
+to the folder DIR/site-N, at the end. With --page FILE a page is written at the end that steps through the run in a browser,
+as by `cmh draw --page`.
 
 Statuses: 0 at the script's end, 1 where memory ran out, 2 for a command line that isn't understood, 3 at another
 fault, which is named on standard error: `fault input`, `fault output`, `fault file out` (a journal or the page can't be
@@ -132,6 +135,7 @@ const NOTES: &str =
 const TOPOLOGY_FILE: &str = "\
 `fault json`: the topology file is no JSON, or lacks a member, as in {\"edition\":1,\"sites\":[{\"site\":1,\"processes\":[1]}]}.
 Of sites that run each also has a `port` of its own, 1 to 65535. With --explain a second line says where it is wrong.
+Running sites have editions 1 and 2: one of edition 3 is `fault json` for them.
 ";
 
 const SITE_STATUSES: &str = "\
@@ -178,10 +182,17 @@ const AUDIT_RUNNING: &str = "\
 The sites may run: their journals are then read twice, and cut where all sites might have stopped at one moment.
 ";
 
+const AUDIT_EDITION_3: &str = "\
+Where the topology file is of edition 3, as in {\"edition\":3,\"world\":\"32 HEXADECIMAL DIGITS\",\"sites\":[..]}, each journal
+is a segment, or a folder whose newest segment is meant. Then the report also says who is leaving whom, and of each
+declared process at which stop its cycle stood, and who left it since. --why and --run are of editions 1 and 2.
+";
+
 const AUDIT_STATUSES: &str = "\
 Statuses: 0 accepted, 1 refused or out of memory, 2 for a command line that isn't understood, 3 at a fault, which is
 named on standard error: `fault file P`, `fault json`, `fault topology N`, `fault journal P N`, `fault set N`,
-`fault output`. P is `topology`, or the place of a journal in the command, from 1.
+`fault output`. P is `topology`, or the place of a journal in the command, from 1. For a bad entry ` at O`
+follows, where O is its byte in the file, from 0.
 
 Example: cmh audit --topology world.json --why one.cmhj two.cmhj
 ";
@@ -199,6 +210,10 @@ frame that was sent, and who was declared:
 and after the entries, where the file goes on:
   cut N                 N bytes, less than an entry: a write was cut off
   bad entry at O        at byte O, counted from 0, are bytes that are no entry; what follows isn't read
+
+Where the first journal is a segment of edition 3, all are to be; of a folder the newest segment is meant. The first line
+is then `site S edition 3 world W epoch E`, `N withdraw J K..` is an event more, a probe is `probe I AT J K`, and a
+declaration is `.. declared I at AT`, with the stop at which the cycle stood.
 ";
 
 const SHOW_STATUSES: &str = "\
@@ -214,7 +229,8 @@ The picture of `waits` has a box for each site with its processes, and an arrow 
 to each that it waits for; who was declared is drawn as an octagon. That of `run` has a line for each site with its
 entries, and an arrow for each frame from the entry that sent it to the one that got it. The arrow of a frame that
 nobody got has an open end: it was lost, or waits on its link. Where the journals are refused, the entry at which a site
-stops is marked.
+stops is marked. In edition 3 a diamond is a withdrawal, an empty octagon a declaration that does not stand any more, and
+a dotted arrow with a cross a wait that was given up and has no answer yet.
 
 With --from and --to the picture of a run has the entries from one column to another, counted from 1, and the frames
 that they sent or got. A picture of a run has at most 20000 lines, entries and frames; of more the fault is
@@ -377,12 +393,21 @@ fn audit(alloc: Global) -> Result<String, AllocError> {
     for fault in SET_FAULTS {
         row(&mut text, fault.number(), fault)?;
     }
+    row(
+        &mut text,
+        5,
+        "a segment is of another world than the topology",
+    )?;
+    row(&mut text, 6, "a segment is of a later epoch")?;
     write!(
         text,
         "\n{AUDIT_RUN}\n{AUDIT_REASONS}\nRefusals, as in `refused 3`:\n"
     )?;
     refusals(&mut text, "")?;
-    write!(text, "\n{AUDIT_RUNNING}\n{AUDIT_STATUSES}")?;
+    write!(
+        text,
+        "\n{AUDIT_RUNNING}\n{AUDIT_EDITION_3}\n{AUDIT_STATUSES}"
+    )?;
     Ok(text)
 }
 

@@ -102,7 +102,7 @@ fn play_command<'a>(alloc: Global, help: &'a Help) -> Result<Command<'a>, Error>
         .about(
             "Plays a script from standard input on a world of sites in memory, and answers each line",
         )
-        .override_usage("cmh play < FILE [--edition 3 | --journals DIR | --page FILE] [--explain]")
+        .override_usage("cmh play < FILE [--edition 3] [--journals DIR | --page FILE] [--explain]")
         .after_help(help.play.as_str())
         .arg(edition)?
         .arg(folder_arg(alloc))?
@@ -116,7 +116,9 @@ fn show_command<'a>(alloc: Global, help: &'a Help) -> Result<Command<'a>, Error>
         .about("Prints the entries of journals, one a line, in the words of scripts")
         .after_help(help.show.as_str())
         .arg(explain_arg(alloc))?
-        .arg(journals_arg(alloc).help("The journal files, which are shown in this order"))?;
+        .arg(journals_arg(alloc).help(
+            "The journal files, or folders of edition 3, which are shown in this order",
+        ))?;
     Ok(show)
 }
 
@@ -131,7 +133,9 @@ fn audit_command<'a>(alloc: Global, help: &'a Help) -> Result<Command<'a>, Error
         .arg(why_arg(alloc))?
         .arg(run)?
         .arg(explain_arg(alloc))?
-        .arg(journals_arg(alloc).help("The journal files of all sites, in any order"))?;
+        .arg(journals_arg(alloc).help(
+            "The journal files of all sites, or their folders of edition 3, in any order",
+        ))?;
     Ok(audit)
 }
 
@@ -252,7 +256,9 @@ fn folder_arg<'a>(alloc: Global) -> Arg<'a> {
     Arg::new(alloc, JOURNALS)
         .long(JOURNALS)
         .value_name("DIR")
-        .help("A folder, which has to be there, for the journals site-N.cmhj")
+        .help(
+            "A folder, which has to be there, for the journals site-N.cmhj; of edition 3 for the folders site-N",
+        )
         .action(ArgAction::Set)
 }
 
@@ -305,7 +311,6 @@ fn page_file_arg<'a>(alloc: Global) -> Result<Arg<'a>, Error> {
 fn edition_arg<'a>(alloc: Global) -> Result<Arg<'a>, Error> {
     let edition = word_arg(alloc, EDITION, EDITIONS)
         .help("Plays a script of edition 3, in which processes may withdraw")
-        .conflicts_with(JOURNALS)?
         .conflicts_with(PAGE)?;
     Ok(edition)
 }

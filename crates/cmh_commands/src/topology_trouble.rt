@@ -1,6 +1,7 @@
 //! What is wrong with a topology file, for people.
 
 use cmh_frames::{Edition, SiteRow, TopologyFault};
+use cmh_topology3::World;
 use serde_json::Value;
 use thiserror::Error;
 
@@ -9,6 +10,8 @@ use thiserror::Error;
 pub enum Trouble {
     #[error("`edition` is missing, or not 1 or 2")]
     Edition,
+    #[error("`world` is missing, or not 32 hexadecimal digits")]
+    World,
     #[error("`sites` is missing, or no array")]
     Sites,
     #[error("in place {0} of `sites`, `site` is missing, or no whole number")]
@@ -31,11 +34,50 @@ pub enum Trouble {
     Number(usize),
 }
 
+/// How much a topology may have of an edition.
+#[derive(Clone, Copy)]
+pub struct Limits {
+    pub edition: u8,
+    pub sites: usize,
+    pub members: usize,
+    pub processes: usize,
+}
+
+impl Limits {
+    pub const EDITION_3: Limits = Limits {
+        edition: 3,
+        sites: 64,
+        members: 256,
+        processes: 4096,
+    };
+
+    pub fn of(edition: Edition) -> Limits {
+        Limits {
+            edition: edition.number(),
+            sites: edition.site_limit(),
+            members: edition.member_limit(),
+            processes: edition.process_limit(),
+        }
+    }
+}
+
 /// The first trouble of the members of a topology file, in the order in which they are read.
 pub fn trouble_of_members(value: &Value, has_ports: bool) -> Option<Trouble> {
     if !has_edition(value) {
         return Some(Trouble::Edition);
     }
+    trouble_of_sites(value, has_ports)
+}
+
+/// The same of a topology file of edition 3, which has no ports.
+pub fn trouble_of_world(value: &Value) -> Option<Trouble> {
+    if !has_world(value) {
+        return Some(Trouble::World);
+    }
+    trouble_of_sites(value, false)
+}
+
+fn trouble_of_sites(value: &Value, has_ports: bool) -> Option<Trouble> {
     let Some(sites) = array_in(value, "sites") else {
         return Some(Trouble::Sites);
     };
@@ -87,6 +129,25 @@ fn has_edition(value: &Value) -> bool {
     }
 }
 
+/// Whether a topology file is of edition 3, whatever else it says.
+pub fn is_edition3(value: &Value) -> bool {
+    match value.get("edition") {
+        Some(edition) => edition.as_u64() == Some(3),
+        None => false,
+    }
+}
+
+fn has_world(value: &Value) -> bool {
+    match world_in(value) {
+        Some(text) => text.parse::<World>().is_ok(),
+        None => false,
+    }
+}
+
+fn world_in(value: &Value) -> Option<&str> {
+    value.get("world")?.as_str()
+}
+
 fn array_in<'a>(value: &'a Value, name: &str) -> Option<&'a [Value]> {
     let items = value.get(name)?.as_array()?;
     Some(items.as_slice())
@@ -106,17 +167,13 @@ fn port_in(site: &Value) -> Option<u64> {
 }
 
 /// Where the rows have this fault of a topology.
-pub fn trouble_of_rows(
-    edition: Edition,
-    rows: &[SiteRow],
-    fault: TopologyFault,
-) -> Option<Trouble> {
+pub fn trouble_of_rows(limits: Limits, rows: &[SiteRow], fault: TopologyFault) -> Option<Trouble> {
     match fault {
         TopologyFault::Limit => Some(Trouble::Limit(
-            edition.number(),
-            edition.site_limit(),
-            edition.member_limit(),
-            edition.process_limit(),
+            limits.edition,
+            limits.sites,
+            limits.members,
+            limits.processes,
         )),
         TopologyFault::RepeatedSite => repeated_site(rows),
         TopologyFault::RepeatedProcess => repeated_process(rows),

@@ -18,8 +18,7 @@ use Rattle.cmh_console.proofs.LineLemmas.{HasLeft, at_some, endless_input, lengt
 use Rattle.cmh_console.proofs.LinesSeen.{if_some}
 use Rattle.cmh_script3.specs.Lines.{IsNextLine}
 use Rattle.cmh_play3.specs.PlayStates.{PlayState}
-use Rattle.cmh_play3.specs.Play.{Answered, Answers, Dialogue, IsTurnOfScript, as_fault, begin, line_in, new_state, turn}
-use Rattle.cmh_play3.specs.Inner.Ended.{status_after}
+use Rattle.cmh_play3.specs.Play.{Answered, Answers, Dialogue, IsTurnOfScript, PlayedTo, as_fault, begin, line_in, new_state, status_after, turn}
 
 long_some : (bytes : List ℕ) → 4096 < length (first_line bytes) → 0 < length bytes
 long_some [] long = absurd (omega (arith, long))
@@ -58,7 +57,7 @@ status_above_0 Output = (2, refl)
 status_above_0 Memory = (0, refl)
 
 pub answered_some : (bytes : List ℕ) (old new : Option (List ℕ)) (has_failed : Bool) (fault : DialogueFault)
-    → AnsweredSome bytes old new has_failed → Answered bytes old new has_failed (status_after (Err fault))
+    → AnsweredSome bytes old new has_failed → Answered bytes old new has_failed (status_of (as_fault fault))
 answered_some bytes old new has_failed fault some =
     subst (Answered bytes old new has_failed) (sym (status_above_0 fault).1) some
 
@@ -93,12 +92,11 @@ module _ (start old : Option (List ℕ)) where
         }
 
     -- no line is left
-    pub talked_all : (next : NextLine) (has_failed : Bool) → IfSome now (λ bytes. IsNextLine bytes next) → next ≡ End
-        → IfSome start (λ bytes. Answered bytes old out has_failed 0)
-    talked_all next has_failed is ends = if_some start _ (λ bytes e.
+    pub talked_all : (next : NextLine) → IfSome now (λ bytes. IsNextLine bytes next) → next ≡ End → IfSome start (λ bytes. PlayedTo bytes old out last)
+    talked_all next is ends = if_some start _ (λ bytes e.
         let s = so_far bytes e in
         let none : s.rest ≡ [] = subst (IsNextLine s.rest) ends (at_some now (λ bytes. IsNextLine bytes next) s.rest s.now_is is) in
-        (s.text, record { last = last; dialogue = subst (λ (r : List ℕ). Dialogue bytes r s.text last) none s.dialogue }, s.wrote))
+        (s.text, subst (λ (r : List ℕ). Dialogue bytes r s.text last) none s.dialogue, s.wrote))
 
     -- a fault comes after these lines
     pub talked_some : (has_failed : Bool) → IfSome start (λ bytes. Answered bytes old out has_failed 1)
@@ -135,10 +133,16 @@ some_flushed (Some bytes) old out new before after (Ok x) c kept ok failed =
     (c.0, c.1, c.2, tells_kept old out new before after c.0 c.3 kept ok)
 some_flushed (Some bytes) old out new before after (Err e) c kept ok failed = (c.0, c.1, c.2, inl failed)
 
-pub all_flushed : (start old out new : Option (List ℕ)) (before after : Bool)
-    → IfSome start (λ bytes. Answered bytes old out before 0) → Keeps out new → IfSome start (λ bytes. Answered bytes old new after 0)
-all_flushed None old out new before after c kept = tt
-all_flushed (Some bytes) old out new before after c kept = (c.0, c.1, Appends-kept old out new c.0 c.2 kept)
+pub all_flushed : (start old out new : Option (List ℕ)) (last : PlayState)
+    → IfSome start (λ bytes. PlayedTo bytes old out last) → Keeps out new → IfSome start (λ bytes. PlayedTo bytes old new last)
+all_flushed None old out new last all kept = tt
+all_flushed (Some bytes) old out new last all kept = (all.0, all.1, Appends-kept old out new all.0 all.2 kept)
+
+-- so all lines were answered
+pub all_answered : (start old new : Option (List ℕ)) (has_failed : Bool) (last : PlayState)
+    → IfSome start (λ bytes. PlayedTo bytes old new last) → IfSome start (λ bytes. Answered bytes old new has_failed 0)
+all_answered None old new has_failed last all = tt
+all_answered (Some bytes) old new has_failed last all = (all.0, record { last = last; dialogue = all.1 }, all.2)
 
 -- no line was answered
 pub none_answered : (start out : Option (List ℕ)) (has_failed : Bool) → IfSome start (λ bytes. Answered bytes out out has_failed 1)
@@ -146,7 +150,7 @@ none_answered None out has_failed = tt
 none_answered (Some bytes) out has_failed = ([], bytes, record { last = new_state; dialogue = begin }, inr (Appends-nil out))
 
 -- at a fault some lines were answered
-pub some_err : (start old new : Option (List ℕ)) (has_failed : Bool) (r : Result (Unit {0}) DialogueFault) → IsErr r
+pub some_err : {X : Type 0} (start old new : Option (List ℕ)) (has_failed : Bool) (r : Result X DialogueFault) → IsErr r
     → IfSome start (λ bytes. Answered bytes old new has_failed 1) → IfSome start (λ bytes. Answered bytes old new has_failed (status_after r))
 some_err start old new has_failed (Ok x) err some = absurd (true≢false (sym err))
 some_err None old new has_failed (Err fault) err some = tt

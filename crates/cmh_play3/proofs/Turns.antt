@@ -7,8 +7,8 @@ use Rattle.cmh_script3.specs.Script.{Says}
 use Rattle.cmh_script3.specs.declared.script.Command.TheVariants.{Act, WithdrawAll, Deliver, Cut, Report}
 use Rattle.cmh_script3.specs.declared.script.Line.{Line}
 use Rattle.cmh_script3.specs.declared.script.Line.TheVariants.{Silent, Bad, Edition, Site, Command}
-use Rattle.cmh_play3.specs.Held.{IsPlayed, world_of}
-use Rattle.cmh_play3.specs.Inner.Shown.{GetsNothing, IsNewHeld, IsShown, LeadsOn, shown}
+use Rattle.cmh_play3.specs.Held.{IsShown, shown}
+use Rattle.cmh_play3.specs.Inner.Shown.{GetsNothing, IsNewHeld, LeadsOn}
 use Rattle.cmh_play3.specs.Play.{IsOfRun, IsTurnOfScript, Replies, new_state}
 use Rattle.cmh_play3.specs.PlayStates.{PlayState}
 use Rattle.cmh_play3.specs.Replies.{reply_text}

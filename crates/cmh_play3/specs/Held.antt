@@ -1,11 +1,14 @@
 -- What is held of a world that is played, and the world that it is.
-use Rattle.std.specs.Prelude.{◌≡◌, ℕ}
+use Rattle.std.specs.Prelude.{◌≡◌, ℕ, ⊤}
 use Rattle.cmh_model3.specs.Runs as runs
 use Rattle.cmh_model3.specs.Runs.{IsRun}
 use Rattle.cmh_report3.specs.Reports.{StandAfter}
 use Rattle.cmh_topology3.specs.Topology.{Topology, site_of}
+use Rattle.cmh_play3.specs.declared.play.PlayState.{PlayState as HeldState}
+use Rattle.cmh_play3.specs.declared.play.PlayState.TheVariants.{Named as HeldNamed, Played as HeldPlayed}
 use Rattle.cmh_play3.specs.declared.playground.Playground.{Playground}
 use Rattle.cmh_play3.specs.Links.{is_cut, under_way}
+use Rattle.cmh_play3.specs.PlayStates.{PlayState, Named, Played}
 use Rattle.cmh_play3.specs.World.{World}
 
 abbrev pub world_of : Playground → World
@@ -21,3 +24,14 @@ pub record IsPlayed (held : Playground) : Type 0 where
 pub record LeadsTo (new : Playground) (Done : World → Type 0) : Type 0 where
   pub played : IsPlayed new
   pub done : Done (world_of new)
+
+-- ---- the state of a script
+
+abbrev pub shown : HeldState → PlayState
+shown (HeldNamed draft) = Named draft
+shown (HeldPlayed world) = Played (world_of world)
+
+-- what is held of a world is played
+abbrev pub IsShown : HeldState → Type 0
+IsShown (HeldNamed draft) = ⊤
+IsShown (HeldPlayed world) = IsPlayed world

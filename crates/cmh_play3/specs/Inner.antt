@@ -2,4 +2,3 @@
 pub mod Fresh
 pub mod Shown
 pub mod Stepped
-pub mod Ended

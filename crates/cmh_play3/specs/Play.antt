@@ -1,8 +1,9 @@
 -- A script that is played: what each line does to the state, and what is written for it.
-use Rattle.std.specs.Prelude.{◌≡◌, ◌≢◌, ℕ, ◌<◌, zero, suc, false, Bool, List, [], ◌∷◌, ◌++◌, length, nat_lt, if◌then◌else◌, None, Some, MatchOption, Option, replicate, ⊤}
+use Rattle.std.specs.Prelude.{◌≡◌, ◌≢◌, ℕ, ◌<◌, zero, suc, false, Bool, List, [], ◌∷◌, ◌++◌, length, nat_lt, if◌then◌else◌, None, Some, MatchOption, Option, Result, Ok as Ended, Err, replicate, ⊤}
 use Rattle.std.specs.Io.BufRead.{first_line, drop_through}
 use Rattle.std.specs.Io.KnownBytes.{Appends}
 use Rattle.cmh_console.specs.Device.{Tells}
+use Rattle.cmh_console.specs.Faults.{status_of}
 use Rattle.cmh_console.specs.declared.dialogue.DialogueFault.{DialogueFault}
 use Rattle.cmh_console.specs.declared.dialogue.DialogueFault.TheVariants as dialogue
 use Rattle.cmh_console.specs.declared.faults.Fault.{Fault}
@@ -81,6 +82,15 @@ pub record Answers (bytes rest text : List ℕ) : Type 0 where
   pub last : PlayState
   pub dialogue : Dialogue bytes rest text last
 
+-- all lines of a script were answered, which led to this state
+abbrev pub PlayedTo : List ℕ → Option (List ℕ) → Option (List ℕ) → PlayState → Type 0
+PlayedTo bytes old new last = (text : List ℕ) × Dialogue bytes [] text last × Appends old new text
+
+-- the world of a state: the one that is played, or one in which nothing has happened yet
+abbrev pub IsWorldOf : PlayState → World → Type 0
+IsWorldOf (Named rows) world = IsNewWorld rows world
+IsWorldOf (Played played) world = world ≡ played
+
 -- lines of a script were answered, where the reader tells its bytes: at status 0 all of them, and each answer was written
 abbrev pub Answered : List ℕ → Option (List ℕ) → Option (List ℕ) → Bool → ℕ → Type 0
 Answered bytes old new has_failed zero = (text : List ℕ) × Answers bytes [] text × Appends old new text
@@ -94,3 +104,8 @@ abbrev pub as_fault : DialogueFault → Fault
 as_fault dialogue.Input = faults.Input
 as_fault dialogue.Output = faults.Output
 as_fault dialogue.Memory = faults.Memory
+
+-- the status of a script's end, or of a fault
+abbrev pub status_after : {X : Type 0} → Result X DialogueFault → ℕ
+status_after (Ended played) = 0
+status_after (Err fault) = status_of (as_fault fault)

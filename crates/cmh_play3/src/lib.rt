@@ -10,6 +10,6 @@ mod reply;
 
 pub use crate::draft::Draft;
 pub use crate::links::Links;
-pub use crate::play::run_play3;
+pub use crate::play::{PlayState, fault_of, play_script, run_play3};
 pub use crate::playground::Playground;
 pub use crate::reply::{Done, Reply};

@@ -5,10 +5,9 @@ ghost use Rattle.std.specs.Io.KnownBytes.{Keeps};
 ghost use Rattle.cmh_console.specs.Dialogue.{IsDialogueFault, line_of};
 ghost use Rattle.cmh_console.specs.Faults.{NamesFault};
 ghost use Rattle.cmh_console.specs.Status.{IsStatus};
-ghost use Rattle.cmh_play3.specs.Held.{LeadsTo, IsPlayed, world_of};
-ghost use Rattle.cmh_play3.specs.Inner.Shown.{GetsNothing, IsNewHeld, IsShown, LeadsOn, shown};
-ghost use Rattle.cmh_play3.specs.Inner.Ended.{status_after};
-ghost use Rattle.cmh_play3.specs.Play.{Answered, Replies, as_fault};
+ghost use Rattle.cmh_play3.specs.Held.{LeadsTo, IsPlayed, IsShown, shown, world_of};
+ghost use Rattle.cmh_play3.specs.Inner.Shown.{GetsNothing, IsNewHeld, LeadsOn};
+ghost use Rattle.cmh_play3.specs.Play.{Answered, IsWorldOf, PlayedTo, Replies, as_fault, status_after};
 ghost use Rattle.cmh_play3.specs.World.{CarriesOut};
 ghost use Rattle.cmh_script3.specs.Script.{Says};
 
@@ -44,14 +43,14 @@ pub fn run_play3<R: BufRead + Ahead, W: Write, E: Write>(
     ensures fault { result ≢ 0 → NamesFault as_fault (IsDialogueFault input.old.left input.new.has_failed
         out.new.has_failed) result err.old err.new }
 {
-    match play(alloc, input, out) {
-        Ok(()) => 0,
+    match play_script(alloc, input, out) {
+        Ok(_) => 0,
         Err(fault) => fault_of(fault).name_on(err),
     }
 }
 
 /// The fault that ends the command.
-fn fault_of(fault: DialogueFault) -> Fault
+pub fn fault_of(fault: DialogueFault) -> Fault
     ensures { result ≡ as_fault fault }
 {
     match fault {
@@ -61,13 +60,17 @@ fn fault_of(fault: DialogueFault) -> Fault
     }
 }
 
-fn play<R: BufRead + Ahead, W: Write>(
+/// Plays a script to its end, and answers the state to which it leads. What was written is flushed, also before a fault.
+pub fn play_script<R: BufRead + Ahead, W: Write>(
     alloc: Global,
     input: &mut Input<R>,
     out: &mut Output<W>,
-) -> Result<(), DialogueFault>
+) -> Result<PlayState, DialogueFault>
     ensures answers { IfSome input.old.left (λ bytes. Answered bytes out.old.written
         out.new.written out.new.has_failed (status_after result)) }
+    ensures played { IfOk result (λ state. IfSome input.old.left (λ bytes. PlayedTo bytes out.old.written
+        out.new.written (shown state))) }
+    ensures held { IfOk result IsShown }
     ensures fault { IfErr result (IsDialogueFault input.old.left input.new.has_failed out.new.has_failed) }
     ensures flushed { OnOk result (out.new.is_flushed ≡ true) }
     ensures unfailed { OnOk result (out.new.has_failed ≡ out.old.has_failed) }
@@ -79,7 +82,7 @@ fn play<R: BufRead + Ahead, W: Write>(
     let flushed = out.flush();
     played?;
     flushed?;
-    Ok(())
+    Ok(state)
 }
 
 /// Reads and answers line after line.
@@ -92,8 +95,9 @@ fn answer_all<R: BufRead + Ahead, W: Write>(
     requires { IsNewHeld state.old }
     ensures answers { IfSome input.old.left (λ bytes. Answered bytes out.old.written
         out.new.written out.new.has_failed 1) }
-    ensures all { OnOk result (IfSome input.old.left (λ bytes. Answered bytes out.old.written
-        out.new.written out.new.has_failed 0)) }
+    ensures all { OnOk result (IfSome input.old.left (λ bytes. PlayedTo bytes out.old.written
+        out.new.written (shown state.new))) }
+    ensures held { OnOk result (IsShown state.new) }
     ensures unfailed { OnOk result (out.new.has_failed ≡ out.old.has_failed) }
     ensures fault { IfErr result (IsDialogueFault input.old.left input.new.has_failed out.new.has_failed) }
 {
@@ -134,12 +138,25 @@ fn said_by(alloc: Global, next: NextLine<'_>) -> Result<Line, AllocError>
 
 /// A world that a script names and then plays: the first command closes the draft.
 #[derive(Drop)]
-enum PlayState {
+pub enum PlayState {
     Named(Draft),
     Played(Playground),
 }
 
 impl PlayState {
+    /// The world that is played; where there was no command, one in which nothing has happened yet. The only error is out
+    /// of memory.
+    pub fn into_world(self, alloc: Global) -> Result<Playground, AllocError>
+        requires { IsShown self }
+        ensures played { IfOk result IsPlayed }
+        ensures world { IfOk result (λ held. IsWorldOf (shown self) (world_of held)) }
+    {
+        match self {
+            PlayState::Played(world) => Ok(world),
+            PlayState::Named(draft) => Playground::new(alloc, draft.topology()),
+        }
+    }
+
     /// What a line does, and its reply.
     fn answer(&mut self, alloc: Global, line: Line) -> Result<Reply, AllocError>
         requires shown { IsShown self.old }

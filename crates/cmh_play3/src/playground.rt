@@ -54,6 +54,19 @@ impl Playground {
         })
     }
 
+    pub fn topology(&self) -> &Topology
+        ensures { result.now ≡ self.now.topology }
+    {
+        &self.topology
+    }
+
+    /// All that happened, in one order.
+    pub fn events(&self) -> &[WorldEvent<Event, Message>]
+        ensures { result.now ≡ self.now.events.items }
+    {
+        &self.events
+    }
+
     /// Gives an event to the controller of its process's home. Where memory runs out after the step, an error is
     /// answered, and nothing is said of the world from then on.
     pub fn act(&mut self, process: ProcId, event: Event) -> Result<Reply, AllocError>

@@ -1,4 +1,7 @@
-use Rattle.std.proofs.Common.{inl, inr}
+use Rattle.std.proofs.Common.{inl, inr, sym, subst}
+use Rattle.std.proofs.lemmas.Bool.{MatchBool-at_false, MatchBool-at_true}
+use Rattle.cmh_console.specs.TopologyFile3.{SaysNoWorld}
+use Rattle.cmh_commands.specs.Editions.{SaysSomeWorld}
 use Rattle.cmh_commands.proofs.auditing.audit.Goals as goal
 
 pub returns-then-get_flag-clause-explains : goal.returns-then-get_flag-clause-explains
@@ -13,8 +16,22 @@ returns-then-get_flag-2-clause-lists g c = λ unset told. inl (_, _, c.run_audit
 pub returns-then-get_flag-2-clause-audits_some : goal.returns-then-get_flag-2-clause-audits_some
 returns-then-get_flag-2-clause-audits_some g c = inr (inr (inl (_, _, c.run_audit_run.ensures.ends)))
 
+pub returns-then-files-clause-audits : goal.returns-then-files-clause-audits
+returns-then-files-clause-audits g c = λ unset unasked.
+    let says = MatchBool-at_true _ _ c.if-files.true c.in-Ok.ensures.edition in
+    inl (_, _, inl (subst SaysSomeWorld (sym c.deref-then-files.ensures.value) says, c.run_audit3.ensures.ends))
+
+pub returns-then-files-clause-audits_some : goal.returns-then-files-clause-audits_some
+returns-then-files-clause-audits_some g c =
+    let says = MatchBool-at_true _ _ c.if-files.true c.in-Ok.ensures.edition in
+    inl (inl (_, _, inl (subst SaysSomeWorld (sym c.deref-then-files.ensures.value) says, c.run_audit3.ensures.ends)))
+
 pub returns-clause-audits : goal.returns-clause-audits
-returns-clause-audits g c = λ unset unasked. inl (_, _, c.run_audit.ensures.ends)
+returns-clause-audits g c = λ unset unasked.
+    let says = MatchBool-at_false _ _ c.if-files.false c.in-Ok.ensures.edition in
+    inl (_, _, inr (subst SaysNoWorld (sym c.deref-2.ensures.value) says, c.run_audit.ensures.ends))
 
 pub returns-clause-audits_some : goal.returns-clause-audits_some
-returns-clause-audits_some g c = inl (inl (_, _, c.run_audit.ensures.ends))
+returns-clause-audits_some g c =
+    let says = MatchBool-at_false _ _ c.if-files.false c.in-Ok.ensures.edition in
+    inl (inl (_, _, inr (subst SaysNoWorld (sym c.deref-2.ensures.value) says, c.run_audit.ensures.ends)))

@@ -29,7 +29,10 @@ returns-then-is_end-clause-answers g c = talked_some _ _ _ _ _ c.loop-turn.turn 
 
 pub returns-then-is_end-clause-all : goal.returns-then-is_end-clause-all
 returns-then-is_end-clause-all g c =
-    talked_all _ _ _ _ _ c.loop-turn.turn c.loop-turn.invariant.talked c.in_ok-next.next c.loop-turn.out.has_failed c.in_ok-next.ensures.line (c.is_end.ensures.yes c.if-is_end.true)
+    talked_all _ _ _ _ _ c.loop-turn.turn c.loop-turn.invariant.talked c.in_ok-next.next c.in_ok-next.ensures.line (c.is_end.ensures.yes c.if-is_end.true)
+
+pub returns-then-is_end-clause-held : goal.returns-then-is_end-clause-held
+returns-then-is_end-clause-held g c = c.loop-turn.invariant.held
 
 pub returns-in_err-next-clause-answers : goal.returns-in_err-next-clause-answers
 returns-in_err-next-clause-answers g c = talked_some _ _ _ _ _ c.loop-turn.turn c.loop-turn.invariant.talked _

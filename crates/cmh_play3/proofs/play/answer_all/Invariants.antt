@@ -1,5 +1,5 @@
 use Rattle.std.proofs.Common.{◌≡◌}
-use Rattle.cmh_play3.specs.Inner.Shown.{IsShown, shown}
+use Rattle.cmh_play3.specs.Held.{IsShown, shown}
 use Rattle.cmh_play3.proofs.Lines.{HasTalked}
 use Rattle.cmh_play3.proofs.play.answer_all.Given as goal
 

@@ -1,5 +1,5 @@
-use Rattle.cmh_play3.proofs.Lines.{all_flushed, none_answered, some_err, some_flushed}
-use Rattle.cmh_play3.proofs.play.play.Goals as goal
+use Rattle.cmh_play3.proofs.Lines.{all_answered, all_flushed, none_answered, some_err, some_flushed}
+use Rattle.cmh_play3.proofs.play.play_script.Goals as goal
 
 pub returns-in_err-draft-clause-answers : goal.returns-in_err-draft-clause-answers
 returns-in_err-draft-clause-answers g c = some_err _ _ _ _ c.from_residual.result c.from_residual.ensures.0 (none_answered _ _ _)
@@ -16,6 +16,8 @@ returns-in_err-flushed-clause-answers g c =
     (some_flushed _ _ _ _ _ _ c.flush-flushed.result c.answer_all-played.ensures.answers c.flush-flushed.ensures.bytes
     c.flush-flushed.ensures.ok c.flush-flushed.ensures.err)
 
+pub returns-clause-played : goal.returns-clause-played
+returns-clause-played g c = all_flushed _ _ _ _ _ c.in_ok-played.ensures.all c.flush-flushed.ensures.bytes
+
 pub returns-clause-answers : goal.returns-clause-answers
-returns-clause-answers g c =
-    all_flushed _ _ _ _ c.args.out.now.has_failed c.args.out.now.has_failed c.in_ok-played.ensures.all c.flush-flushed.ensures.bytes
+returns-clause-answers g c = all_answered _ _ _ c.args.out.now.has_failed _ (returns-clause-played g c)

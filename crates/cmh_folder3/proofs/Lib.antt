@@ -1,0 +1,4 @@
+mod EntryLemmas
+mod SegmentLemmas
+mod KeepLemmas
+mod PlayLemmas
