@@ -1,2 +1,4 @@
+pub mod Conversations
+pub mod Desks
 pub mod Feeds
 pub mod Talks

@@ -10,12 +10,12 @@ use Rattle.cmh_client.proofs.Feeds.{begins_more, begins_one_more, begins_past_on
 
 -- ---- turns
 
-lines_answered : (turns : List Turn) (line : List ℕ) (text : List ℕ) → lines_of (turns ++ answer line text ∷ []) ≡ lines_of turns ++ line ∷ []
+pub lines_answered : (turns : List Turn) (line : List ℕ) (text : List ℕ) → lines_of (turns ++ answer line text ∷ []) ≡ lines_of turns ++ line ∷ []
 lines_answered [] line text = refl
 lines_answered (answer l t ∷ turns) line text = ap (λ (ls : List (List ℕ)). l ∷ ls) (lines_answered turns line text)
 lines_answered (news t ∷ turns) line text = lines_answered turns line text
 
-news_answered : (turns : List Turn) (line : List ℕ) (text : List ℕ) → news_of (turns ++ answer line text ∷ []) ≡ news_of turns
+pub news_answered : (turns : List Turn) (line : List ℕ) (text : List ℕ) → news_of (turns ++ answer line text ∷ []) ≡ news_of turns
 news_answered [] line text = refl
 news_answered (answer l t ∷ turns) line text = news_answered turns line text
 news_answered (news t ∷ turns) line text = ap (λ (ts : List (List ℕ)). t ∷ ts) (news_answered turns line text)
@@ -47,7 +47,7 @@ module _ {T : Type 0} (line : T → List ℕ) where
   text_all (item ∷ items) = ap (λ (t : List ℕ). line item ++ t) (text_all items)
 
 -- a text is said after what was said before
-said_more : (said to_say text : List ℕ) (turns more : List Turn) → said ++ to_say ≡ flat_map turn_text turns → flat_map turn_text more ≡ text
+pub said_more : (said to_say text : List ℕ) (turns more : List Turn) → said ++ to_say ≡ flat_map turn_text turns → flat_map turn_text more ≡ text
     → said ++ (to_say ++ text) ≡ flat_map turn_text (turns ++ more)
 said_more said to_say text turns more before now =
     sym (append_assoc said to_say text)

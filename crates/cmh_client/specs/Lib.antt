@@ -1,4 +1,6 @@
 pub mod Clients
+pub mod Conversations
+pub mod Desks
 pub mod Http
 pub mod Lines
 pub mod Nexts

@@ -1,6 +1,6 @@
 //! A client of a service, whatever carries its bytes.
 
-ghost use Rattle.std.specs.Prelude.{◌≡◌, ◌↔◌, ◌-◌, ◌^◌, ◌<◌, ◌≤◌, true, false, length, is_some, IfSome, IsErr, IsTrue, OnOk, OnErr};
+ghost use Rattle.std.specs.Prelude.{◌≡◌, ◌↔◌, ◌+◌, ◌-◌, ◌^◌, ◌<◌, ◌≤◌, true, false, length, is_some, IfSome, IsErr, IsTrue, OnOk, OnErr};
 ghost use Rattle.cmh_client.specs.Clients.{answers, carries, closes, fresh, hears, leaves, skips, takes, tells, watches};
 ghost use Rattle.cmh_client.specs.Lines.{HasFeed};
 ghost use Rattle.cmh_client.specs.Nexts.{IsNext};
@@ -175,6 +175,7 @@ impl Client {
     pub fn answer<T: fmt::Display + Drop>(&mut self, text: T) -> Result<(), AllocError>
         requires { 0 < self.old.waiting }
         ensures answered { OnOk result (IfSome (T.output text) (λ text. self.new ≡ answers self.old text)) }
+        ensures waiting { OnOk result (self.new.waiting + 1 ≡ self.old.waiting) }
         ensures closed { OnErr result (self.new ≡ closes self.old) }
         ensures shut { self.old.is_closed ≡ true → IsErr result }
     {
@@ -183,6 +184,22 @@ impl Client {
             return Err(AllocError);
         }
         self.waiting -= 1;
+        Ok(())
+    }
+
+    /// Takes its next line, and answers it at once.
+    pub fn reply<T: fmt::Display + Drop>(&mut self, text: T) -> Result<(), AllocError>
+        requires { HasFeed self.old.unread }
+        ensures replied { OnOk result (IfSome (T.output text) (λ text. self.new ≡ answers (takes self.old) text)) }
+        ensures waiting { OnOk result (self.new.waiting ≡ self.old.waiting) }
+        ensures closed { OnErr result (self.new ≡ closes self.old) }
+        ensures shut { self.old.is_closed ≡ true → IsErr result }
+    {
+        if self.is_closed || say(&mut self.draft, &mut self.queue, text).is_err() {
+            self.is_closed = true;
+            return Err(AllocError);
+        }
+        self.taken += first_len(&self.heard[self.taken..]);
         Ok(())
     }
 

@@ -1,6 +1,6 @@
 //! What the lines of clients mean.
 
-ghost use Rattle.std.specs.Prelude.{IfOk};
+ghost use Rattle.std.specs.Prelude.{◌≡◌, true, IfOk};
 
 use std::alloc::AllocError;
 
@@ -24,6 +24,16 @@ pub trait Language<E, Q> {
 
     /// What a line means, its line feed with it.
     ghost Means: { List ℕ → TheMeaning E Q → Type 0 };
+
+    /// A text that answers an event.
+    ghost Answers: { E → List ℕ → Type 0 };
+
+    /// A text that answers a question.
+    ghost Replies: { Q → List ℕ → Type 0 };
+
+    /// Whether an event is the same as another one.
+    fn same_event(&self, event: &E, other: &E) -> bool
+        ensures { result ≡ true → event.now ≡ other.now };
 
     /// The only error is out of memory.
     fn read(&mut self, line: &[u8]) -> Result<Meaning<E, Q>, AllocError>

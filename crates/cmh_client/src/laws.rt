@@ -3,8 +3,12 @@
 ghost use Rattle.std.specs.Prelude.{◌≡◌, ℕ, ◌<◌, List, [], ◌∷◌, ◌++◌, map, take, Some};
 ghost use Rattle.std.specs.Io.BufRead.{take_through};
 ghost use Rattle.cmh_client.specs.Clients.{State, answers, carries, closes, fresh, hears, leaves, skips, takes, tells, untold, watches};
+ghost use Rattle.cmh_client.specs.Conversations.{IsServed, Serves};
 ghost use Rattle.cmh_client.specs.Lines.{HasFeed};
 ghost use Rattle.cmh_client.specs.Talks.{HasHad, Talk, answer, news, news_of, silence};
+
+use crate::language::Language;
+use crate::telling::Telling;
 
 /// Whatever is called, and whatever memory is refused: each line of the bytes that a client sent is answered once, in its order,
 /// but for those that are passed over. What was sent to it and what is to be sent are these answers and news, each whole, and nothing else.
@@ -41,4 +45,9 @@ pub fn news_law<T>()
         → client.told ≡ Some told → news_of talk.turns ≡ map line before
         → news_of (talk.turns ++ map (λ item. news (line item)) (untold client.told (before ++ more)))
         ≡ map line (before ++ more) }
+{}
+
+/// The same of lines that mean something: an answer is one to what its line means. One who watches is told the list.
+pub fn conversation_law<E, Q, T, L: Language<E, Q> + Telling<T>>()
+    ensures { Serves L.Means L.Answers L.Replies L.line (IsServed L.Means L.Answers L.Replies L.line) }
 {}

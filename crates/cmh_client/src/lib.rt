@@ -3,6 +3,8 @@
 #![tactic(auto)]
 
 mod client;
+mod conversation;
+mod desk;
 mod http;
 mod language;
 pub mod laws;
@@ -12,6 +14,8 @@ mod telling;
 mod wish;
 
 pub use crate::client::{Client, MOST_QUEUED};
+pub use crate::conversation::Conversation;
+pub use crate::desk::{Desk, MOST_TOGETHER, Waiting};
 pub use crate::http::speaks_http;
 pub use crate::language::{Language, Meaning};
 pub use crate::next::Next;
