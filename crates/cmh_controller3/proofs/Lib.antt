@@ -1,4 +1,5 @@
 pub mod Tables
+pub mod Marks
 pub mod After
 pub mod Kept
 pub mod Saying

@@ -11,3 +11,4 @@ pub mod Away
 pub mod Edges
 pub mod Findings
 pub mod Summaries
+pub mod NoYounger

@@ -9,6 +9,7 @@ mod site_waits;
 mod summary;
 mod wait;
 mod wait_list;
+mod youngest;
 
 pub use crate::search::{Finding, finding_of_ask, finding_of_probe};
 pub use crate::site_waits::SiteWaits;

@@ -5,7 +5,7 @@ ghost use Rattle.cmh_model3.specs.State.{State, passes};
 ghost use Rattle.cmh_model3.specs.Paths.{DependsOnItself, ReachesLocally};
 ghost use Rattle.cmh_waits3.specs.Held.{AreWaitsOf, is_member};
 ghost use Rattle.cmh_waits3.specs.Findings.{Finds};
-ghost use Rattle.cmh_waits3.specs.Inner.Steps.{AreAwaited, AreEdgesAt, AreMarkedEdges, AreReached, has_place, leads};
+ghost use Rattle.cmh_waits3.specs.Inner.Steps.{AreAwaited, AreEdgesAt, AreMarkedEdges, AreReached, DoAllCount, has_place, leads};
 
 use crate::SiteWaits;
 use crate::place_set::PlaceSet;
@@ -82,23 +82,38 @@ struct Reach {
 }
 
 /// What the process at the place reaches by waits that count, within the site. A site of 64 processes does with one word of
-/// each set.
+/// each set, and where all waits of a site count, as for an ask that has just begun, none is looked at.
 fn reach_from(waits: &SiteWaits, stamp: Stamp, origin: ProcId, start: usize) -> Reach
     requires { start < length waits.now.members }
     ensures reached { AreReached waits.now stamp origin (slice_index waits.now.members start) result.reached.words }
     ensures awaited { AreAwaited waits.now stamp origin result.reached.words result.awaited.words }
 {
+    let all = waits.all_count(stamp, origin);
     if waits.members().len() <= 64 {
-        reach_within(waits, stamp, origin, start, true)
+        if all {
+            reach_within(waits, stamp, origin, start, true, true)
+        } else {
+            reach_within(waits, stamp, origin, start, true, false)
+        }
+    } else if all {
+        reach_within(waits, stamp, origin, start, false, true)
     } else {
-        reach_within(waits, stamp, origin, start, false)
+        reach_within(waits, stamp, origin, start, false, false)
     }
 }
 
 #[inline(always)]
-fn reach_within(waits: &SiteWaits, stamp: Stamp, origin: ProcId, start: usize, small: bool) -> Reach
+fn reach_within(
+    waits: &SiteWaits,
+    stamp: Stamp,
+    origin: ProcId,
+    start: usize,
+    small: bool,
+    all: bool,
+) -> Reach
     requires start { start < length waits.now.members }
     requires small { small ≡ true → length waits.now.members ≤ 64 }
+    requires all { all ≡ true → DoAllCount waits.now stamp origin }
     ensures reached { AreReached waits.now stamp origin (slice_index waits.now.members start) result.reached.words }
     ensures awaited { AreAwaited waits.now stamp origin result.reached.words result.awaited.words }
 {
@@ -107,7 +122,7 @@ fn reach_within(waits: &SiteWaits, stamp: Stamp, origin: ProcId, start: usize, s
     let mut awaited = PlaceSet::empty();
     let mut work = reached;
     while let Some(place) = work.first() {
-        let led = in_words(led_to(waits, stamp, origin, place), small);
+        let led = in_words(led_to(waits, stamp, origin, place, all), small);
         let fresh = led.beyond(reached);
         awaited = awaited.either(led);
         work = work.without(place).either(fresh);
@@ -126,12 +141,16 @@ fn in_words(places: PlaceSet, small: bool) -> PlaceSet
 }
 
 /// The places to which waits that count lead from the process at the place. Where all of its waits count, or none, that is
-/// known.
+/// known; so it is where all of the site count.
 #[inline(always)]
-fn led_to(waits: &SiteWaits, stamp: Stamp, origin: ProcId, place: usize) -> PlaceSet
-    requires { place < length waits.now.members }
+fn led_to(waits: &SiteWaits, stamp: Stamp, origin: ProcId, place: usize, all: bool) -> PlaceSet
+    requires place { place < length waits.now.members }
+    requires all { all ≡ true → DoAllCount waits.now stamp origin }
     ensures { (k : ℕ) → has_place result.words k ≡ leads waits.now stamp origin place k }
 {
+    if all {
+        return waits.summary(place).here;
+    }
     let asker = waits.members()[place];
     let summary = waits.summary(place);
     if summary.all_count(stamp, origin, asker) {

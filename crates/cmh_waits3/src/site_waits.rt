@@ -7,7 +7,7 @@ ghost use Rattle.cmh_model3.specs.State.{counts, passes};
 ghost use Rattle.cmh_waits3.specs.Held.{ended, is_member, nothing_held, row_in, since_of, state_of, waits_of};
 ghost use Rattle.cmh_waits3.specs.Rows.{since_in, targets_of};
 ghost use Rattle.cmh_waits3.specs.Inner.Away.{IsAway};
-ghost use Rattle.cmh_waits3.specs.Inner.Steps.{has_place};
+ghost use Rattle.cmh_waits3.specs.Inner.Steps.{DoAllCount, has_place};
 ghost use Rattle.cmh_waits3.specs.Inner.Summaries.{IsSummary};
 
 use crate::Wait;
@@ -15,6 +15,7 @@ use crate::member_table::MemberTable;
 use crate::place_set::PlaceSet;
 use crate::summary::Summary;
 use crate::wait_list::WaitList;
+use crate::youngest::Youngest;
 use cmh_model3::{ProcId, Stamp};
 use std::alloc::{AllocError, Global};
 use std::marker::Model;
@@ -34,6 +35,8 @@ pub struct SiteWaits {
     summaries: Vec<Summary>,
     /// The places of the processes that may wait for some of other sites. The others do not.
     leaving: PlaceSet,
+    /// No wait is younger.
+    youngest: Youngest,
 }
 
 impl Model for SiteWaits {
@@ -41,7 +44,7 @@ impl Model for SiteWaits {
     ghost use Rattle.std.specs.List.Sorted.{IsStrictlyIncreasing};
     ghost use Rattle.cmh_waits3.specs.Held.{Held};
     ghost use Rattle.cmh_waits3.specs.Inner.Away.{AreAway};
-    ghost use Rattle.cmh_waits3.specs.Inner.Summaries.{AreSummaries};
+    ghost use Rattle.cmh_waits3.specs.Inner.Summaries.{AreNoYounger, AreSummaries};
 
     ghost Value = { Held };
 
@@ -49,7 +52,8 @@ impl Model for SiteWaits {
 
     ghost invariant = { λ w. IsStrictlyIncreasing w.members × (length w.rows.items ≡ length w.members)
         × AreSummaries w.members w.rows.items w.summaries.items w.leaving.words
-        × AreAway w.members w.rows.items w.away.items };
+        × AreAway w.members w.rows.items w.away.items
+        × AreNoYounger w.members w.rows.items w.youngest.stamp w.youngest.asker };
 }
 
 impl SiteWaits {
@@ -65,6 +69,7 @@ impl SiteWaits {
             away: WaitList::empty_lists(alloc, members.len())?,
             summaries: vec![in alloc; Summary::of_none(); members.len()]?,
             leaving: PlaceSet::empty(),
+            youngest: Youngest::of_none(),
         })
     }
 
@@ -166,6 +171,7 @@ impl SiteWaits {
         }
         let leaves = self.summaries[place].begin(&self.members, targets, since);
         self.leaving = self.leaving.with_if(place, leaves);
+        self.youngest = self.youngest.with(since, asker);
         Ok(())
     }
 
@@ -215,6 +221,7 @@ impl SiteWaits {
             away: WaitList::copy_all(alloc, &self.away)?,
             summaries: self.summaries.to_vec(alloc)?,
             leaving: self.leaving,
+            youngest: self.youngest,
         })
     }
 
@@ -263,5 +270,13 @@ impl SiteWaits {
             → in_list (waits_of self.now (slice_index self.now.members place)) k ≡ true → is_member self.now k ≡ true }
     {
         self.leaving
+    }
+
+    /// Whether all waits of the site count for the ask of the origin with this stamp. Where it is not known, it says no.
+    #[inline(always)]
+    pub(crate) fn all_count(&self, stamp: Stamp, origin: ProcId) -> bool
+        ensures { result ≡ true → DoAllCount self.now stamp origin }
+    {
+        self.youngest.counts(stamp, origin)
     }
 }

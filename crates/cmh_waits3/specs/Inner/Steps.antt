@@ -2,10 +2,10 @@
 use Rattle.std.specs.Prelude.{◌≡◌, ℕ, ◌/◌, ◌%◌, ◌<◌, ◌↔◌, Bool, true, false, ◌&&◌, ◌==◌, List, Contains, length, nat_lt, slice_index, slice_index_or}
 use Rattle.std.specs.Int.{bit_at}
 use Rattle.std.specs.List.Sorted.{IsStrictlySortedBy}
-use Rattle.cmh_model3.specs.Lists.{pair_cmp}
+use Rattle.cmh_model3.specs.Lists.{in_list, pair_cmp}
 use Rattle.cmh_model3.specs.State.{counts}
 use Rattle.cmh_model3.specs.Paths.{IsPath}
-use Rattle.cmh_waits3.specs.Held.{Held, is_member, state_of}
+use Rattle.cmh_waits3.specs.Held.{Held, is_member, state_of, waits_of}
 
 -- whether the number has a 1 at the place
 abbrev pub is_set : ℕ → ℕ → Bool
@@ -22,6 +22,12 @@ IsStep v n i p q = (counts (state_of v) n i p q ≡ true) × (is_member v q ≡ 
 -- whether such a wait leads from the member at the place a to that at b
 abbrev pub leads : Held → ℕ → ℕ → ℕ → ℕ → Bool
 leads v n i a b = nat_lt b (length v.members) && counts (state_of v) n i (slice_index v.members a) (slice_index v.members b)
+
+-- all waits of the site's processes count
+abbrev pub DoAllCount : Held → ℕ → ℕ → Type 0
+DoAllCount v n i =
+    (place k : ℕ) → place < length v.members → in_list (waits_of v (slice_index v.members place)) k ≡ true
+    → counts (state_of v) n i (slice_index v.members place) k ≡ true
 
 -- the places of the members to which paths of such waits lead from the process
 abbrev pub AreReached : Held → ℕ → ℕ → ℕ → List ℕ → Type 0

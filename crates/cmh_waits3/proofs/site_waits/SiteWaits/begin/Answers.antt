@@ -2,15 +2,17 @@ use Rattle.std.proofs.Common.{◌≡◌, ◌∙◌, ◌&&◌, ◌||◌, List, []
 use Rattle.std.proofs.Math.ListN.{set}
 use Rattle.std.proofs.lemmas.Bool.{ne_eqb}
 use Rattle.std.proofs.lemmas.List.{get_or_default, get_or-set_same, length-set}
+use Rattle.cmh_model3.specs.Lists.{is_before}
 use Rattle.cmh_model3.proofs.Counts.{and_no}
 use Rattle.cmh_waits3.specs.declared.wait.Wait.{Wait}
 use Rattle.cmh_waits3.specs.Inner.Away.{AreAway, AreInsertedAway, IsAway}
 use Rattle.cmh_waits3.specs.Inner.Inserting.{AreInserted}
 use Rattle.cmh_waits3.specs.Inner.Steps.{has_place}
-use Rattle.cmh_waits3.specs.Inner.Summaries.{AreSummaries}
+use Rattle.cmh_waits3.specs.Inner.Summaries.{AreNoYounger, AreSummaries}
 use Rattle.cmh_waits3.specs.Rows.{others_than}
 use Rattle.cmh_waits3.proofs.Away.{apart_away, away_begun, away_set}
 use Rattle.cmh_waits3.proofs.Members.{begun, begun_back, held, not_found, set_same}
+use Rattle.cmh_waits3.proofs.NoYounger.{begun_no_younger, youngest_set}
 use Rattle.cmh_waits3.proofs.Summaries.{begun_stay, summaries_set}
 use Rattle.cmh_waits3.proofs.site_waits.SiteWaits.begin.Goals as goal
 
@@ -76,6 +78,7 @@ invariant_of-self-in-Err c =
       ap (λ (rs : List (List Wait)). length rs) back ∙ long,
       subst (λ (rs : List (List Wait)). AreSummaries ms rs c.self.inside.summaries.items c.self.inside.leaving.words) (sym back) c.self.invariant.2,
       subst (λ (rs : List (List Wait)). AreAway ms rs (set aways place c.insert_away.new.self)) (sym back) (subst (λ (ws : List (List Wait)). AreAway ms rows ws) (sym same) are),
+      subst (λ (rs : List (List Wait)). AreNoYounger ms rs c.self.inside.youngest.stamp c.self.inside.youngest.asker) (sym back) c.self.invariant.4,
     )
 
 pub returns-clause-waits : goal.returns-clause-waits
@@ -136,4 +139,8 @@ invariant_of-self-2 c =
           (begun_stay ms ks c.args.since (get_or rows place []) new leaving c.with_if-self-inside.result.words place c.begin-leaves.result inserted
           c.with_if-self-inside.ensures c.begin-leaves.ensures.stay (λ none k h. are.stay place k inside none h)),
       away_set ms rows aways apart long place inside new more (away_begun ms ks c.args.since (get_or rows place []) new (get_or aways place []) more (apart.each place inside) inserted some),
+      youngest_set ms rows c.self.inside.youngest.stamp c.self.inside.youngest.asker c.with-self-inside.result.stamp c.with-self-inside.result.asker c.self.invariant.4 long
+          c.with-self-inside.ensures.before place inside new
+          (begun_no_younger ks c.args.since c.with-self-inside.result.stamp c.with-self-inside.result.asker c.self.inside.youngest.stamp c.self.inside.youngest.asker (get_or ms place 0) (get_or rows place []) new inserted
+          c.with-self-inside.ensures.before (ap (is_before c.with-self-inside.result.stamp c.with-self-inside.result.asker c.args.since) c.in-Some.ensures.1 ∙ c.with-self-inside.ensures.new) (λ k h. c.self.invariant.4.each place k inside h)),
     )

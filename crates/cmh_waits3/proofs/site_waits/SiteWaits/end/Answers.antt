@@ -12,6 +12,7 @@ use Rattle.cmh_waits3.specs.Inner.Summaries.{IsSummary}
 use Rattle.cmh_waits3.specs.Rows.{others_than}
 use Rattle.cmh_waits3.proofs.Away.{away_ended, away_set}
 use Rattle.cmh_waits3.proofs.Members.{ended_is, ended_one_since, ended_one_waits, held, rows_none}
+use Rattle.cmh_waits3.proofs.NoYounger.{ended_no_younger, not_before_itself, youngest_set}
 use Rattle.cmh_waits3.proofs.Summaries.{ended_stay, summaries_set}
 use Rattle.cmh_waits3.proofs.site_waits.SiteWaits.end.Goals as goal
 
@@ -71,4 +72,7 @@ invariant_of-self c =
           (ended_stay ms ks (get_or rows place []) left c.self.inside.leaving.words c.without_if-self-inside.result.words place c.is_empty.result is
           (c.is_empty.ensures ∙ ap (λ (r : List Wait). length r == 0) now) c.without_if-self-inside.ensures (λ none k h. are.stay place k inside none h)),
       away_set ms rows aways apart long place inside left rest (subst (λ (r : List Wait). IsAway ms r rest) (sym is) (subst (λ (r : List Wait). IsAway ms (others_than ks (get_or rows place [])) r) (sym gone) (away_ended ms ks (get_or rows place []) (get_or aways place []) (apart.each place inside)))),
+      youngest_set ms rows c.self.inside.youngest.stamp c.self.inside.youngest.asker c.self.inside.youngest.stamp c.self.inside.youngest.asker c.self.invariant.4 long
+          (not_before_itself c.self.inside.youngest.stamp c.self.inside.youngest.asker) place inside left
+          (ended_no_younger ks c.self.inside.youngest.stamp c.self.inside.youngest.asker (get_or ms place 0) (get_or rows place []) left is (λ k h. c.self.invariant.4.each place k inside h)),
     )

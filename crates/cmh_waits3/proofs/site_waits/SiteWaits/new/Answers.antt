@@ -5,6 +5,7 @@ use Rattle.cmh_waits3.specs.declared.summary.Summary.{Summary}
 use Rattle.cmh_waits3.specs.declared.wait.Wait.{Wait}
 use Rattle.cmh_waits3.specs.Inner.Summaries.{IsSummary}
 use Rattle.cmh_waits3.proofs.Away.{no_rows, none_away}
+use Rattle.cmh_waits3.proofs.NoYounger.{none_younger}
 use Rattle.cmh_waits3.proofs.Summaries.{all_summed}
 use Rattle.cmh_waits3.proofs.site_waits.SiteWaits.new.Goals as goal
 
@@ -25,4 +26,5 @@ invariant_of-result c =
       long,
       all_summed ms rows c.in_ok-vec.field-0.items c.empty.result.words (search rules) (no_rows rows n rows_are) (λ place s inside is. subst (IsSummary ms []) (sym (ap (λ (xs : List Summary). get_or xs place s) each ∙ get_or-replicate n place c.of_none.result s (omega (arith, inside, same))) ∙ is) (c.of_none.ensures ms)),
       none_away ms rows aways many (no_rows rows n rows_are) (no_rows aways n aways_are),
+      none_younger ms rows c.of_none-2.result.stamp c.of_none-2.result.asker (no_rows rows n rows_are),
     )
