@@ -3,6 +3,7 @@
 
 mod accepting;
 mod backlog;
+mod berth;
 mod dialler;
 mod draining;
 mod lent;

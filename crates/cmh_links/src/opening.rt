@@ -5,6 +5,7 @@ ghost use Rattle.cmh_links.specs.Threads.{closed_with, is_failed, is_idle, leads
 ghost use Rattle.cmh_links.specs.Writing.{Wrote};
 ghost use Rattle.cmh_carriers.specs.declared.table.LinkFault.{LinkFault};
 
+use crate::berth::Berth;
 use crate::dialler::Dialler;
 use crate::draining::drain;
 use crate::run_writer;
@@ -14,7 +15,6 @@ use cmh_carriers::{Dial, IoFault, Line, LinkFault, Note, Outgoing};
 use cmh_frames::SiteId;
 use cmh_journal::Sink;
 use cmh_station::{LinkTap, Listing, ParkingTap};
-use std::sync::atomic::Ordering;
 use std::sync::{Arc, Wait};
 use std::thread;
 use std::thread::{Promise, PromisedHandle, Threads};
@@ -129,33 +129,33 @@ where
     let to = tap.to();
     let fault = LinkFault::Connect;
     close(&rt, shared, to, fault);
-    let Ok(theirs) = Arc::try_clone(shared) else {
+    let (Ok(theirs), Ok((ours, berth))) = (Arc::try_clone(shared), Berth::pair(shared.alloc, to))
+    else {
         return Place::Closed {
             tap: tap.into_tap(),
             fault,
         };
     };
-    let run = move || drain_unless_abandoned(rt, theirs, tap);
+    ours.put(&rt, tap);
+    let run = move || drain_from(rt, theirs, berth);
     match thread::spawn_with(&rt, GivesBack { to }, run) {
         Ok(drain) => Place::Draining { drain, fault },
-        Err(refused) => Place::Closed {
-            tap: abandon(shared, to, refused.value),
+        Err(_) => Place::Closed {
+            tap: ours.take(&rt).into_tap(),
             fault,
         },
     }
 }
 
 /// What the thread of a link runs that could not be connected. The tap comes back.
-fn drain_unless_abandoned<R, S, B>(rt: R, shared: Arc<Shared<S, B>>, tap: ParkingTap) -> LinkTap
+fn drain_from<R, S, B>(rt: R, shared: Arc<Shared<S, B>>, berth: Berth) -> LinkTap
 where
     R: Wait + Drop,
     S: Sink,
     B: Listing,
-    ensures { result.to ≡ tap.to }
+    ensures { result.to ≡ berth.to }
 {
-    if shared.abandoned.load(Ordering::SeqCst) == tap.to().get() {
-        return tap.into_tap();
-    }
+    let tap = berth.take(&rt);
     drain(&rt, &shared, tap)
 }
 
@@ -179,41 +179,30 @@ where
     ensures unconnected { closed_with 1 (result ∷ []) ≡ [] }
 {
     let to = tap.to();
-    let Ok(theirs) = Arc::try_clone(shared) else {
+    let (Ok(theirs), Ok((ours, berth)), Ok(seat)) = (
+        Arc::try_clone(shared),
+        Berth::pair(shared.alloc, to),
+        Arc::try_clone(&connection.seat),
+    ) else {
         connection.seat.leave(&rt);
         return closed(&rt, shared, tap.into_tap(), LinkFault::Memory);
     };
-    let run = move || write_unless_abandoned(rt, theirs, tap, connection);
+    ours.put(&rt, tap);
+    let run = move || write_from(rt, theirs, berth, connection);
     match thread::spawn_with(&rt, GivesBack { to }, run) {
         Ok(writer) => Place::Writing(writer),
-        Err(refused) => {
-            let tap = abandon(shared, to, refused.value);
-            closed(&rt, shared, tap, LinkFault::Memory)
+        Err(_) => {
+            seat.leave(&rt);
+            closed(&rt, shared, ours.take(&rt).into_tap(), LinkFault::Memory)
         }
     }
 }
 
-/// Has the tap of a link given back by what its thread would have run, where no thread can be had. To be called it must
-/// be told that nobody wants it to write.
-fn abandon<S: Sink, B: Listing, F: FnOnce() -> LinkTap>(
-    shared: &Shared<S, B>,
-    to: SiteId,
-    run: F,
-) -> LinkTap
-    requires runs { F.pre run }
-    ensures ran { F.post run result }
-{
-    shared.abandoned.store(to.get(), Ordering::SeqCst);
-    let tap = run();
-    shared.abandoned.store(0, Ordering::SeqCst);
-    tap
-}
-
 /// What the writing thread of a link runs. Once its connection has failed it drops the frames. The tap comes back.
-fn write_unless_abandoned<R, S, B, O, L>(
+fn write_from<R, S, B, O, L>(
     rt: R,
     shared: Arc<Shared<S, B>>,
-    tap: ParkingTap,
+    berth: Berth,
     connection: Connection<O, L>,
 ) -> LinkTap
 where
@@ -223,14 +212,10 @@ where
     O: Outgoing + Drop,
     L: Line + Drop,
     requires fresh { O.failures connection.out ≡ 0 }
-    ensures { result.to ≡ tap.to }
+    ensures { result.to ≡ berth.to }
 {
     let Connection { mut out, seat } = connection;
-    if shared.abandoned.load(Ordering::SeqCst) == tap.to().get() {
-        drop(out);
-        seat.leave(&rt);
-        return tap.into_tap();
-    }
+    let tap = berth.take(&rt);
     let tap = write_link(rt, &shared, tap, &mut out);
     // Its seat has another handle of the connection.
     drop(out);

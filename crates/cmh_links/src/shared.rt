@@ -13,13 +13,15 @@ use cmh_frames::{Edition, Frame, SiteId, Topology};
 use cmh_journal::Sink;
 use cmh_station::{BATCH_LIMIT, Listing, ParkingTap, SharedStation, StationRefusal};
 use std::alloc::{AllocError, Global};
-use std::sync::atomic::{AtomicBool, AtomicU16, AtomicU64, Ordering};
+use std::sync::atomic::{AtomicBool, AtomicU64, Ordering};
 use std::sync::{Arc, Wait};
 use std::thread::Parker;
 
 /// What the threads of a site share.
 #[derive(Drop)]
 pub(crate) struct Shared<S: Sink, B: Listing> {
+    /// Where it takes its memory.
+    pub alloc: Global,
     pub station: Arc<SharedStation<S, B>>,
     pub links: SharedLinks,
     pub edition: Edition,
@@ -36,8 +38,6 @@ pub(crate) struct Shared<S: Sink, B: Listing> {
     pub watcher: Parker,
     /// How often its writing threads were to look at their connections.
     pub looks: AtomicU64,
-    /// The site to which no writing thread could be started, or 0.
-    pub abandoned: AtomicU16,
     /// A link for which more frames wait is closed.
     pub backlog: BacklogLimit,
     /// What makes its notes, where they are wanted.
@@ -64,6 +64,7 @@ impl<S: Sink, B: Listing> Shared<S, B> {
         let shared = Arc::new(
             alloc,
             Shared {
+                alloc,
                 station,
                 links: SharedLinks::new(table),
                 edition: topology.edition(),
@@ -74,7 +75,6 @@ impl<S: Sink, B: Listing> Shared<S, B> {
                 is_done: AtomicBool::new(false),
                 watcher: Parker::new(),
                 looks: AtomicU64::new(0),
-                abandoned: AtomicU16::new(0),
                 backlog,
                 speaker,
             },
