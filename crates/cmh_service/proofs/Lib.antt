@@ -1,4 +1,3 @@
-pub mod Clients
-pub mod Desks
+pub mod Endings
 pub mod Questions
 pub mod Replies

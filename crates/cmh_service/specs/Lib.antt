@@ -1,4 +1,5 @@
-pub mod Clients
+pub mod Means
 pub mod Replies
 pub mod Said
-pub mod Telling
+pub mod ServiceFaults
+pub mod Texts

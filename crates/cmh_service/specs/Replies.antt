@@ -1,27 +1,122 @@
--- What clients are answered to events that a station was given together.
-use Rattle.std.specs.Prelude.{◌≡◌, List, [], ◌∷◌, ◌⊎◌, ⊤}
+-- What clients are answered.
+use Rattle.std.specs.Prelude.{◌≡◌, ◌↔◌, ◌⊎◌, ℕ, ◌-◌, true, List, Contains, length, Option, None, Some, Result, Ok, Err, ⊤}
+use Rattle.std.specs.List.Sorted.{IsStrictlyIncreasing}
+use Rattle.cmh_frames.specs.Declarations.{declarations}
+use Rattle.cmh_frames.specs.Entries.{Outcome}
+use Rattle.cmh_frames.specs.Relation.{has}
+use Rattle.cmh_frames.specs.Topology.{At}
 use Rattle.cmh_frames.specs.declared.event.Event.{Event}
-use Rattle.cmh_service.specs.declared.host.Together.{Together}
-use Rattle.cmh_service.specs.declared.host.Together.TheVariants.{Each, Disk as DiskFailed, Alone}
-use Rattle.cmh_host.specs.Steps.{WasStepped}
+use Rattle.cmh_controller.specs.declared.refusal.Refusal.TheVariants.{Memory}
+use Rattle.cmh_journal.specs.Journal.{entry_limit}
+use Rattle.cmh_host.specs.Steps.{IsDeclared, IsLinks, WasStepped}
 use Rattle.cmh_host.specs.Together.{AreTaken}
 use Rattle.cmh_host.specs.declared.site_reply.SiteReply.{SiteReply}
-use Rattle.cmh_host.specs.declared.site_reply.SiteReply.TheVariants.{Refused}
-use Rattle.cmh_station.specs.declared.refusal.StationRefusal.TheVariants.{Disk}
+use Rattle.cmh_host.specs.declared.site_reply.SiteReply.TheVariants as site
+use Rattle.cmh_station.specs.Journaled.{Journaled, state_of}
+use Rattle.cmh_station.specs.Questions.{RefusesQuestion}
+use Rattle.cmh_station.specs.declared.refusal.StationRefusal.{StationRefusal}
+use Rattle.cmh_station.specs.declared.refusal.StationRefusal.TheVariants.{Disk, Rule}
+use Rattle.cmh_service.specs.Texts.{as_site, event_text, reply_text}
+use Rattle.cmh_service.specs.declared.host.Together.{Together}
+use Rattle.cmh_service.specs.declared.host.Together.TheVariants.{Each, Disk as DiskFailed, Alone}
+use Rattle.cmh_service.specs.declared.reply.EventReply.{EventReply}
+use Rattle.cmh_service.specs.declared.reply.EventReply.TheVariants.{Refused, Taken, Declared as DeclaredToo}
+use Rattle.cmh_service.specs.declared.reply.Reply.{Reply}
+use Rattle.cmh_service.specs.declared.reply.Reply.TheVariants.{Site, Waits, Owed, Watching, Status as StatusReply}
+use Rattle.cmh_service.specs.declared.reply.Status.{Status}
+use Rattle.cmh_service.specs.declared.said.Said.{Said}
+use Rattle.cmh_service.specs.declared.said.Said.TheVariants as said
+
+-- ---- events
 
 -- a station stepped the event or refused it; or the disk failed under a sync that it was to share
-abbrev pub IsReply : Event → SiteReply → Type 0
-IsReply event reply = WasStepped event reply ⊎ (reply ≡ Refused Disk)
+abbrev pub IsReply : Event → EventReply → Type 0
+IsReply event reply = WasStepped event (as_site reply) ⊎ (reply ≡ Refused Disk)
 
--- a reply for each event, in their order
-abbrev pub AreReplies : List Event → List SiteReply → Type 0
-AreReplies [] [] = Unit {0}
-AreReplies [] (reply ∷ replies) = ⊥
-AreReplies (event ∷ events) [] = ⊥
-AreReplies (event ∷ events) (reply ∷ replies) = IsReply event reply × AreReplies events replies
+-- so many frames were sent, and this process was declared, if one was
+abbrev pub taken : ℕ → Option ℕ → EventReply
+taken sent None = Taken sent
+taken sent (Some process) = DeclaredToo sent process
+
+-- the reply to what a station answered
+abbrev pub event_reply_of : Result Outcome StationRefusal → EventReply
+event_reply_of (Ok outcome) = taken (length outcome.sent) outcome.declared
+event_reply_of (Err refusal) = Refused refusal
+
+-- the text of such a reply
+abbrev pub AnswersEvent : Event → List ℕ → Type 0
+AnswersEvent event text = ∥ ((reply : EventReply) × IsReply event reply × (text ≡ event_text reply)) ∥₁
 
 -- where answers came, they are those of steps
 abbrev pub WereTaken : List Event → Together → Type 0
 WereTaken events (Each answers) = AreTaken events answers.items
 WereTaken events DiskFailed = ⊤
 WereTaken events Alone = ⊤
+
+-- ---- questions
+
+-- in a state of a station a process of its site waits for just these
+pub record WaitsFor (process : ℕ) (others : List ℕ) : Type 0 where
+  pub station : Journaled
+  pub here : At station.topology process station.site
+  pub ascending : IsStrictlyIncreasing others
+  pub all : (k : ℕ) → Contains others k ↔ (has (state_of station).waits process k ≡ true)
+
+-- in a state of a station a process of its site has not answered just these
+pub record Owes (process : ℕ) (others : List ℕ) : Type 0 where
+  pub station : Journaled
+  pub here : At station.topology process station.site
+  pub ascending : IsStrictlyIncreasing others
+  pub all : (j : ℕ) → Contains others j ↔ (has (state_of station).owed process j ≡ true)
+
+-- a station refuses a question about the process
+abbrev pub WasNoQuestion : ℕ → SiteReply → Type 0
+WasNoQuestion process (site.Refused refusal) = (station : Journaled) × RefusesQuestion station.topology station.site process refusal
+WasNoQuestion process reply = ⊥
+
+-- the figures of a station's state
+pub record IsStatusOf (status : Status) : Type 0 where
+  pub station : Journaled
+  pub entries : status.entries ≡ length station.entries
+  pub room : status.room ≡ entry_limit - length station.entries
+  pub declared : status.declared ≡ length (declarations station.entries)
+  pub sealed : status.is_sealed ≡ station.sealed
+
+-- memory for the answer was refused
+abbrev pub WasShort : SiteReply → Type 0
+WasShort reply = reply ≡ site.Refused (Rule Memory)
+
+abbrev pub AnswersWaits : ℕ → Reply → Type 0
+AnswersWaits process (Waits named others) = (named ≡ process) × WaitsFor process others.items
+AnswersWaits process (Site reply) = WasNoQuestion process reply
+AnswersWaits process reply = ⊥
+
+abbrev pub AnswersOwed : ℕ → Reply → Type 0
+AnswersOwed process (Owed named others) = (named ≡ process) × Owes process others.items
+AnswersOwed process (Site reply) = WasNoQuestion process reply
+AnswersOwed process reply = ⊥
+
+abbrev pub AnswersStatus : Reply → Type 0
+AnswersStatus (StatusReply status) = IsStatusOf status
+AnswersStatus (Site reply) = WasShort reply
+AnswersStatus reply = ⊥
+
+-- as a site does, or memory was refused
+abbrev pub AnswersAs : (SiteReply → Type 0) → Reply → Type 0
+AnswersAs Is (Site reply) = Is reply ⊎ WasShort reply
+AnswersAs Is reply = ⊥
+
+-- what a line is answered that is no event
+abbrev pub AnswersSaid : Said → Reply → Type 0
+AnswersSaid said.Declared reply = AnswersAs (λ r. (number : ℕ) × IsDeclared number r) reply
+AnswersSaid said.Links reply = AnswersAs IsLinks reply
+AnswersSaid (said.Waits process) reply = AnswersWaits process reply
+AnswersSaid (said.Owed process) reply = AnswersOwed process reply
+AnswersSaid said.Watch reply = reply ≡ Watching
+AnswersSaid said.Status reply = AnswersStatus reply
+AnswersSaid (said.Event line) reply = reply ≡ Site site.BadLine
+AnswersSaid said.Quit reply = reply ≡ Site site.BadLine
+
+-- the text of such an answer
+abbrev pub AnswersQuestion : Said → List ℕ → Type 0
+AnswersQuestion line text = (reply : Reply) × AnswersSaid line reply × (text ≡ reply_text reply)

@@ -1,6 +1,10 @@
 //! A connection of a client.
 
-use crate::client::{Client, MOST_QUEUED};
+use crate::language::Lines;
+use crate::mailbox::Delivery;
+use crate::said::Said;
+use cmh_client::{Conversation, MOST_QUEUED, Next};
+use cmh_frames::{Event as SiteEvent, ProcId};
 use mio::event::Event;
 use mio::net::TcpStream;
 use std::io::{ErrorKind, Read, Write};
@@ -8,13 +12,14 @@ use std::io::{ErrorKind, Read, Write};
 /// How often a client is read in a turn, at most: the others of its thread wait meanwhile.
 const MOST_READS: usize = 4;
 
+/// What a client and the service say to each other.
+pub(crate) type Talk = Conversation<SiteEvent, Said, ProcId, Lines>;
+
 /// A client and the socket that carries its bytes.
 #[derive(Drop)]
 pub(crate) struct Connection {
     stream: TcpStream,
-    pub client: Client,
-    /// How many of its events wait for their answers.
-    waiting: usize,
+    pub talk: Talk,
     /// Its next line is an event, and no room was left for that.
     pub is_held: bool,
     /// Whether a read may give bytes without waiting, as far as is known.
@@ -29,11 +34,10 @@ pub(crate) struct Connection {
 }
 
 impl Connection {
-    pub fn new(stream: TcpStream, client: Client) -> Connection {
+    pub fn new(stream: TcpStream, talk: Talk) -> Connection {
         Connection {
             stream,
-            client,
-            waiting: 0,
+            talk,
             is_held: false,
             can_read: true,
             can_write: true,
@@ -55,24 +59,28 @@ impl Connection {
         self.is_broken = true;
     }
 
-    /// One more of its events waits.
-    pub fn wait(&mut self) {
-        self.waiting = self.waiting.saturating_add(1);
-    }
-
-    /// One of its events was answered.
-    pub fn answered(&mut self) {
-        self.waiting = self.waiting.saturating_sub(1);
-    }
-
+    /// How many of its events wait for their answers.
     pub fn waiting(&self) -> usize {
-        self.waiting
+        self.talk.waiting()
+    }
+
+    /// Says the reply to an event, if its client waits for that.
+    #[tactic(auto, using(crate::proofs::Replies::answers_event))]
+    pub fn answer(&mut self, delivery: &Delivery) {
+        if self.talk.answer(&delivery.event, delivery.reply).is_err() {
+            self.is_broken = true;
+        }
+    }
+
+    /// Whether it said more than was taken.
+    pub fn has_more(&self) -> bool {
+        self.talk.next() != Next::Nothing
     }
 
     /// Reads what is there, as far as there is room, in a few reads at most.
     pub fn read(&mut self, scratch: &mut [u8]) {
         for turn in 0..MOST_READS {
-            if !self.can_read || self.has_ended || self.is_broken || !self.client.has_room() {
+            if !self.can_read || self.has_ended || self.is_broken || !self.talk.has_room() {
                 return;
             }
             match self.stream.read(scratch) {
@@ -80,8 +88,7 @@ impl Connection {
                 Ok(count) => {
                     // Where there was room for more nothing is left, and what comes later is told by an event.
                     self.can_read = count == scratch.len() || self.may_end;
-                    self.is_broken |= self.client.hear(&scratch[..count]).is_err();
-                    self.has_ended |= self.client.is_endless();
+                    self.is_broken |= self.talk.hear(&scratch[..count]).is_err();
                 }
                 Err(error) => match error.kind() {
                     ErrorKind::WouldBlock => self.can_read = false,
@@ -95,12 +102,12 @@ impl Connection {
     /// Writes what is to be sent, as far as the socket takes it.
     pub fn write(&mut self) {
         for turn in 0..u64::MAX {
-            if !self.can_write || self.is_broken || self.client.queue().is_empty() {
+            if !self.can_write || self.is_broken || self.talk.to_say().is_empty() {
                 break;
             }
-            match self.stream.write(self.client.queue()) {
+            match self.stream.write(self.talk.to_say()) {
                 Ok(0) => self.is_broken = true,
-                Ok(count) => self.client.sent(count),
+                Ok(count) => self.talk.said(count),
                 Err(error) => match error.kind() {
                     ErrorKind::WouldBlock => self.can_write = false,
                     ErrorKind::Interrupted => {}
@@ -108,22 +115,22 @@ impl Connection {
                 },
             }
         }
-        if self.client.queue().len() > MOST_QUEUED {
+        if self.talk.to_say().len() > MOST_QUEUED {
             self.is_broken = true;
         }
     }
 
     /// Whether there is more to do for it at once. While events of it wait, or it is held, it has nothing to say.
     pub fn is_busy(&self) -> bool {
-        let reads = self.can_read && !self.has_ended && self.client.has_room();
-        let says = self.waiting == 0 && !self.is_held && self.client.has_line();
+        let reads = self.can_read && !self.has_ended && self.talk.has_room();
+        let says = self.waiting() == 0 && !self.is_held && self.has_more();
         !self.is_broken && (reads || says)
     }
 
     /// Whether it is to be closed.
     pub fn is_over(&self) -> bool {
-        let has_said_all = (self.has_ended && !self.client.has_line()) || self.client.is_leaving();
-        let has_all = has_said_all && self.client.queue().is_empty();
-        self.waiting == 0 && (self.is_broken || has_all)
+        let has_said_all = (self.has_ended && !self.has_more()) || self.talk.is_leaving();
+        let has_all = has_said_all && self.talk.to_say().is_empty();
+        self.waiting() == 0 && (self.is_broken || has_all)
     }
 }

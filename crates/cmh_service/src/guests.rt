@@ -1,12 +1,16 @@
 //! The clients of a thread, and their turns.
 
-use crate::client::Client;
-use crate::connection::Connection;
+ghost use Rattle.std.specs.Prelude.{◌≡◌};
+ghost use Rattle.cmh_client.specs.Wishes.{NextMeans};
+ghost use Rattle.cmh_client.specs.declared.language.Meaning.TheVariants as meanings;
+ghost use Rattle.cmh_service.specs.Means.{MeansHere};
+
+use crate::connection::{Connection, Talk};
 use crate::mailbox::{Delivery, Mailbox};
 use crate::rounds::Rounds;
 use crate::said::Said;
-use cmh_console::{Command, Line};
-use cmh_frames::ProcId;
+use cmh_client::Wish;
+use cmh_frames::{Event, ProcId};
 use cmh_station::BATCH_LIMIT;
 use std::alloc::{AllocError, Global};
 use std::sync::Wait;
@@ -17,9 +21,6 @@ pub const MOST_CLIENTS: usize = 256;
 /// How many events of a thread's clients are under way, at most: those of the round and those that wait for the next one.
 /// There is room for the answers to so many.
 pub(crate) const MOST_WAITING: usize = 2 * BATCH_LIMIT;
-
-/// Room for the answer to one event.
-const MOST_ANSWER: usize = 64;
 
 /// How many bytes are read at once, at most.
 const MOST_READ: usize = 1 << 14;
@@ -37,7 +38,7 @@ pub(crate) struct Guests {
     /// Room for the answers that came.
     replies: Vec<Delivery>,
     scratch: Vec<u8>,
-    line: Vec<u8>,
+    alloc: Global,
 }
 
 impl Guests {
@@ -50,7 +51,7 @@ impl Guests {
             first: 0,
             replies: Vec::with_capacity(alloc, MOST_WAITING)?,
             scratch: Vec::from_elem(alloc, 0, MOST_READ)?,
-            line: Vec::new(alloc),
+            alloc,
         })
     }
 
@@ -116,13 +117,10 @@ impl Guests {
     pub fn take_replies<R: Wait>(&mut self, rt: &R, mailbox: &Mailbox) -> bool {
         mailbox.take_replies(rt, &mut self.replies);
         let has_some = !self.replies.is_empty();
-        for (place, reply) in self.replies.drain(..) {
+        for delivery in self.replies.drain(..) {
             self.waiting = self.waiting.saturating_sub(1);
-            if let Some(Some(connection)) = self.places.get_mut(place) {
-                connection.answered();
-                if connection.client.say(reply).is_err() {
-                    connection.give_up();
-                }
+            if let Some(Some(connection)) = self.places.get_mut(delivery.place) {
+                connection.answer(&delivery);
             }
         }
         has_some
@@ -141,7 +139,7 @@ impl Guests {
     pub fn tell(&mut self, declared: &[ProcId]) {
         for guest in self.places.iter_mut() {
             if let Some(connection) = guest {
-                if connection.client.tell(declared).is_err() {
+                if connection.talk.tell(declared).is_err() {
                     connection.give_up();
                 }
             }
@@ -150,7 +148,7 @@ impl Guests {
 
     pub fn has_watchers(&self) -> bool {
         self.places.iter().any(|guest| match guest {
-            Some(connection) => connection.client.watches(),
+            Some(connection) => connection.talk.watches(),
             None => false,
         })
     }
@@ -176,7 +174,7 @@ impl Guests {
                     .saturating_add(place),
                 most: share.min(MOST_WAITING.saturating_sub(self.waiting)),
             };
-            if turn.take(rt, connection, rounds, &mut self.line).is_err() {
+            if turn.take(rt, self.alloc, connection, rounds).is_err() {
                 connection.give_up();
             }
             if next.is_none() && connection.is_held {
@@ -190,7 +188,7 @@ impl Guests {
     /// How many clients have said something that is not answered yet.
     pub fn served(&self) -> usize {
         let served = self.places.iter().filter(|guest| match guest {
-            Some(connection) => connection.waiting() > 0 || connection.client.has_line(),
+            Some(connection) => connection.waiting() > 0 || connection.has_more(),
             None => false,
         });
         served.count()
@@ -210,62 +208,64 @@ impl Turn {
     fn take<R: Wait + Drop>(
         self,
         rt: &R,
+        alloc: Global,
         connection: &mut Connection,
         rounds: &Rounds<R>,
-        line: &mut Vec<u8>,
     ) -> Result<(), AllocError> {
         for turn in 0..BATCH_LIMIT {
-            let Some((said, length)) = connection.client.next_line(line)? else {
-                return Ok(());
-            };
-            match said {
-                Said::Event(Line::Silent) => {}
-                Said::Event(Line::Command(Command::Act { process: _, event })) => {
-                    let waiting = connection.waiting();
-                    let answers = waiting.saturating_add(1);
-                    connection
-                        .client
-                        .reserve(answers.saturating_mul(MOST_ANSWER))?;
-                    if waiting >= self.most || rounds.take(rt, self.place, event).is_err() {
-                        connection.is_held = waiting == 0;
+            match connection.talk.wish()? {
+                Wish::Silence => {}
+                Wish::Nothing => return Ok(()),
+                Wish::Question(question) => answer(rt, &mut connection.talk, rounds, &question)?,
+                Wish::Event(event) => {
+                    if !self.take_event(rt, alloc, connection, rounds, event)? {
                         return Ok(());
                     }
-                    connection.wait();
-                }
-                said => {
-                    if connection.waiting() > 0 {
-                        return Ok(());
-                    }
-                    answer(rt, &mut connection.client, rounds, &said)?;
                 }
             }
-            connection.client.pass(length);
         }
         Ok(())
+    }
+
+    /// Has the next line of a client, which is this event, wait for a round. Answers whether there was room for it.
+    fn take_event<R: Wait + Drop>(
+        self,
+        rt: &R,
+        alloc: Global,
+        connection: &mut Connection,
+        rounds: &Rounds<R>,
+        event: Event,
+    ) -> Result<bool, AllocError>
+        requires { NextMeans MeansHere connection.old.talk.client (meanings.Event event) }
+    {
+        connection.talk.make_room()?;
+        let copy = event.copy(alloc)?;
+        let waiting = connection.waiting();
+        if waiting >= self.most || rounds.take(rt, self.place, copy).is_err() {
+            connection.is_held = waiting == 0;
+            return Ok(false);
+        }
+        connection.talk.take(event)?;
+        Ok(true)
     }
 }
 
 /// Answers a line that is no event.
+#[tactic(auto, using(crate::proofs::Replies::answers_question))]
 fn answer<R: Wait + Drop>(
     rt: &R,
-    client: &mut Client,
+    talk: &mut Talk,
     rounds: &Rounds<R>,
-    said: &Said,
-) -> Result<(), AllocError> {
-    let ends = match said {
-        Said::Quit => true,
-        Said::Event(_) => client.speaks_http(),
-        _ => false,
-    };
-    if ends {
-        client.leave();
-        return Ok(());
-    }
-    client.say(rounds.answer(rt, said))?;
-    if let Said::Watch = said {
-        client.watch();
+    question: &Said,
+) -> Result<(), AllocError>
+    requires means { NextMeans MeansHere talk.old.client (meanings.Question question.now) }
+    requires alone { talk.old.client.waiting ≡ 0 }
+{
+    talk.reply(question, rounds.answer(rt, question))?;
+    if let Said::Watch = question {
+        talk.watch();
         let declared = rounds.declarations(rt).ok_or(AllocError)?;
-        client.tell(declared.as_slice())?;
+        talk.tell(declared.as_slice())?;
     }
     Ok(())
 }

@@ -1,15 +1,16 @@
 //! The site of a service, as lines of clients ask it.
 
-ghost use Rattle.std.specs.Prelude.{◌≡◌, ◌≤◌, [], length, map, vec_capacity, IfOk};
+ghost use Rattle.std.specs.Prelude.{◌≡◌, ◌≤◌, [], length, map, vec_capacity, IfOk, IsErr};
+ghost use Rattle.cmh_client.specs.Desks.{AreReplies};
+ghost use Rattle.cmh_host.specs.Steps.{IsLinks};
+ghost use Rattle.cmh_service.specs.Replies.{AnswersOwed, AnswersSaid, AnswersStatus, AnswersWaits, IsReply, WereTaken, event_reply_of, taken};
 ghost use Rattle.cmh_station.specs.Journaled.{batch_limit};
-ghost use Rattle.cmh_service.specs.Replies.{AreReplies, WereTaken};
-ghost use Rattle.cmh_host.specs.Together.{reply_of};
 
-use crate::reply::{Reply, Status};
+use crate::reply::{EventReply, Reply, Status};
 use crate::said::Said;
 use cmh_controller::Refusal;
 use cmh_frames::{Event, ProcId, Topology};
-use cmh_host::{Answer, JournalSink, SiteHandle, SiteReply, link_ends, note_seal, reply_to};
+use cmh_host::{Answer, JournalSink, SiteHandle, SiteReply, link_ends, note_seal};
 use cmh_journal::ENTRY_LIMIT;
 use cmh_links::{LinkState, LinkView};
 use cmh_station::{Declared, KeptBoard, StationRefusal};
@@ -38,31 +39,42 @@ pub enum Together {
 }
 
 impl<R: Wait + Drop> Host<R> {
-    /// The replies to events, in their order. They share a sync as far as they can. Where memory for the replies is refused
-    /// nothing is done.
-    #[tactic(auto, using(crate::proofs::Replies::taken_replies, crate::proofs::Replies::taken_count, crate::proofs::Replies::reply_count))]
-    pub fn step_all(&self, events: &[Event]) -> Result<Vec<SiteReply>, AllocError>
+    /// Puts the replies to events into a list, in their order. The events share a sync as far as they can.
+    #[tactic(auto, using(crate::proofs::Replies::taken_replies, crate::proofs::Replies::taken_count))]
+    pub fn step_all(&self, events: &[Event], replies: &mut Vec<EventReply>)
         requires few { length events.now ≤ batch_limit }
-        ensures replies { IfOk result (λ replies. AreReplies events.now replies.items) }
-        ensures count { IfOk result (λ replies. length replies.items ≡ length events.now) }
+        requires none { replies.old.items ≡ [] }
+        requires room { batch_limit ≤ vec_capacity replies.old }
+        ensures replies { AreReplies IsReply events.now replies.new.items }
+        ensures room { vec_capacity replies.new ≡ vec_capacity replies.old }
     {
-        let mut replies = Vec::with_capacity(self.alloc, events.len())?;
         match self.take_together(events) {
-            Together::Each(answers) => push_answers(&mut replies, &answers),
-            Together::Disk => push_refusals(&mut replies, events),
-            Together::Alone => self.push_steps(&mut replies, events),
+            Together::Each(answers) => push_answers(replies, &answers),
+            Together::Disk => push_refusals(replies, events),
+            Together::Alone => self.push_steps(replies, events),
         }
-        Ok(replies)
     }
 
     /// Gives events to the station one by one.
-    fn push_steps(&self, replies: &mut Vec<SiteReply>, events: &[Event])
+    fn push_steps(&self, replies: &mut Vec<EventReply>, events: &[Event])
         requires none { replies.old.items ≡ [] }
         requires room { length events.now ≤ vec_capacity replies.old }
-        ensures { AreReplies events.now replies.new.items }
+        ensures replies { AreReplies IsReply events.now replies.new.items }
+        ensures room { vec_capacity replies.new ≡ vec_capacity replies.old }
     {
         for event in events {
-            replies.push_reserved(self.handle.step(&self.rt, event));
+            replies.push_reserved(self.step(event));
+        }
+    }
+
+    #[tactic(auto, using(crate::proofs::Replies::stepped_reply))]
+    fn step(&self, event: &Event) -> EventReply
+        ensures { IsReply event.now result }
+    {
+        match self.handle.step(&self.rt, event) {
+            SiteReply::Taken(done) => taken(done.sent, done.declared),
+            SiteReply::Refused(refusal) => EventReply::Refused(refusal),
+            _ => unreachable!(),
         }
     }
 
@@ -87,19 +99,17 @@ impl<R: Wait + Drop> Host<R> {
     }
 
     /// The answer to a line that is no event.
-    pub fn answer(&mut self, said: &Said, clients: usize) -> Reply {
-        let answer = match said {
-            Said::Declared => self.handle.declared(&self.rt).map(Reply::Site),
-            Said::Links => self.links().map(Reply::Site),
-            Said::Waits(process) => Ok(self.waits_of(*process)),
-            Said::Owed(process) => Ok(self.owed_by(*process)),
-            Said::Watch => Ok(Reply::Watching),
-            Said::Status => self.status(clients).map(Reply::Status),
-            Said::Event(_) | Said::Quit => Ok(Reply::Site(SiteReply::BadLine)),
-        };
-        match answer {
-            Ok(reply) => reply,
-            Err(AllocError) => refused(StationRefusal::Rule(Refusal::Memory)),
+    pub fn answer(&mut self, said: &Said, clients: usize) -> Reply
+        ensures { AnswersSaid said.now result }
+    {
+        match said {
+            Said::Declared => site_reply(self.handle.declared(&self.rt)),
+            Said::Links => site_reply(self.links()),
+            Said::Waits(process) => self.waits_of(*process),
+            Said::Owed(process) => self.owed_by(*process),
+            Said::Watch => Reply::Watching,
+            Said::Status => self.status(clients),
+            Said::Event(_) | Said::Quit => Reply::Site(SiteReply::BadLine),
         }
     }
 
@@ -112,44 +122,48 @@ impl<R: Wait + Drop> Host<R> {
         self.handle.reader.read()
     }
 
-    fn links(&self) -> Result<SiteReply, AllocError> {
+    fn links(&self) -> Result<SiteReply, AllocError>
+        ensures { IfOk result IsLinks }
+    {
         link_ends(&self.rt, self.alloc, &self.topology, self.links.links())
     }
 
-    fn waits_of(&self, process: ProcId) -> Reply {
+    fn waits_of(&self, process: ProcId) -> Reply
+        ensures { AnswersWaits process result }
+    {
         match self.handle.station.lock(&self.rt).waits_of(process) {
             Ok(others) => Reply::Waits(process, others),
-            Err(refusal) => refused(refusal),
+            Err(refusal) => Reply::Site(SiteReply::Refused(refusal)),
         }
     }
 
-    fn owed_by(&self, process: ProcId) -> Reply {
+    fn owed_by(&self, process: ProcId) -> Reply
+        ensures { AnswersOwed process result }
+    {
         match self.handle.station.lock(&self.rt).owed_by(process) {
             Ok(others) => Reply::Owed(process, others),
-            Err(refusal) => refused(refusal),
+            Err(refusal) => Reply::Site(SiteReply::Refused(refusal)),
         }
     }
 
     /// The figures of one moment but for the clients and the links.
-    fn status(&mut self, clients: usize) -> Result<Status, AllocError> {
-        let handle = &mut self.handle;
-        let mut station = handle.station.lock(&self.rt);
-        if station.tell(&self.rt).is_err() {
-            return Err(AllocError);
-        }
-        let declared = handle.reader.read().ok_or(AllocError)?.len();
-        let entries = station.journal().len();
-        let is_sealed = station.is_sealed();
-        drop(station);
+    fn status(&self, clients: usize) -> Reply
+        ensures { AnswersStatus result }
+    {
         let (open_out, open_in) = self.open_links();
-        Ok(Status {
+        let mut station = self.handle.station.lock(&self.rt);
+        let Ok(told) = station.tell(&self.rt) else {
+            return no_memory();
+        };
+        let entries = station.journal().len();
+        Reply::Status(Status {
             entries,
             room: ENTRY_LIMIT.saturating_sub(entries),
-            declared,
+            declared: told.len(),
             clients,
             open_out,
             open_in,
-            is_sealed,
+            is_sealed: station.is_sealed(),
         })
     }
 
@@ -170,27 +184,62 @@ impl<R: Wait + Drop> Host<R> {
 }
 
 /// The replies to answers of a station.
-fn push_answers(replies: &mut Vec<SiteReply>, answers: &[Answer])
+fn push_answers(replies: &mut Vec<EventReply>, answers: &[Answer])
     requires none { replies.old.items ≡ [] }
     requires room { length answers.now ≤ vec_capacity replies.old }
-    ensures { replies.new.items ≡ map reply_of answers.now }
+    ensures replies { replies.new.items ≡ map event_reply_of answers.now }
+    ensures room { vec_capacity replies.new ≡ vec_capacity replies.old }
 {
     for answer in answers {
-        replies.push_reserved(reply_to(answer));
+        replies.push_reserved(event_reply_to(answer));
+    }
+}
+
+/// What is answered for what a station answered.
+fn event_reply_to(answer: &Answer) -> EventReply
+    ensures { result ≡ event_reply_of answer.now }
+{
+    match answer {
+        Ok(outcome) => taken(outcome.sent.as_slice().len(), outcome.declared),
+        Err(refusal) => EventReply::Refused(*refusal),
+    }
+}
+
+/// A step sent so many frames, and declared this process, if it declared one.
+fn taken(sent: usize, declared: Option<ProcId>) -> EventReply
+    ensures { result ≡ taken sent declared }
+{
+    match declared {
+        Some(process) => EventReply::Declared { sent, process },
+        None => EventReply::Taken { sent },
     }
 }
 
 /// The replies to events that none was taken of, since the disk failed.
-fn push_refusals(replies: &mut Vec<SiteReply>, events: &[Event])
+fn push_refusals(replies: &mut Vec<EventReply>, events: &[Event])
     requires none { replies.old.items ≡ [] }
     requires room { length events.now ≤ vec_capacity replies.old }
-    ensures { AreReplies events.now replies.new.items }
+    ensures replies { AreReplies IsReply events.now replies.new.items }
+    ensures room { vec_capacity replies.new ≡ vec_capacity replies.old }
 {
     for event in events {
-        replies.push_reserved(SiteReply::Refused(StationRefusal::Disk));
+        replies.push_reserved(EventReply::Refused(StationRefusal::Disk));
     }
 }
 
-fn refused(refusal: StationRefusal) -> Reply {
-    Reply::Site(SiteReply::Refused(refusal))
+/// What a site answers, unless memory was refused.
+fn site_reply(reply: Result<SiteReply, AllocError>) -> Reply
+    ensures ok { IfOk reply (λ reply. result ≡ Reply.Site reply) }
+    ensures err { IsErr reply → result ≡ Reply.Site (SiteReply.Refused (StationRefusal.Rule Refusal.Memory)) }
+{
+    match reply {
+        Ok(reply) => Reply::Site(reply),
+        Err(AllocError) => no_memory(),
+    }
+}
+
+fn no_memory() -> Reply
+    ensures { result ≡ Reply.Site (SiteReply.Refused (StationRefusal.Rule Refusal.Memory)) }
+{
+    Reply::Site(SiteReply::Refused(StationRefusal::Rule(Refusal::Memory)))
 }

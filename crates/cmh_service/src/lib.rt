@@ -1,20 +1,21 @@
 //! The command `serve`: a site that clients talk to over connections of their own.
 #![tactic(auto)]
 
-mod client;
 mod connection;
-mod desk;
 mod guests;
 mod host;
+mod language;
+pub mod laws;
 mod mailbox;
 mod reply;
 mod rounds;
 mod said;
 mod server;
+mod service_fault;
 mod serving;
 
-pub use crate::client::{Client, MOST_QUEUED};
-pub use crate::desk::{Desk, Waiting};
-pub use crate::reply::{Reply, Status};
+pub use crate::language::Lines;
+pub use crate::reply::{EventReply, Reply, Status};
 pub use crate::said::{Said, parse_for_service};
+pub use crate::service_fault::ServiceFault;
 pub use crate::serving::{ServiceStart, run_service};

@@ -1,10 +1,12 @@
 //! What other threads leave for a thread that serves clients.
 
 ghost use Rattle.std.specs.Prelude.{None};
+ghost use Rattle.cmh_service.specs.Replies.{IsReply};
 
-use crate::desk::Waiting;
 use crate::guests::{MOST_CLIENTS, MOST_WAITING};
-use cmh_host::SiteReply;
+use crate::reply::EventReply;
+use cmh_client::Waiting;
+use cmh_frames::Event;
 use mio::Waker;
 use mio::net::TcpStream;
 use std::alloc::{AllocError, Global};
@@ -12,8 +14,14 @@ use std::mem::swap;
 use std::sync::atomic::{AtomicBool, AtomicUsize, Ordering};
 use std::sync::{Arc, Mutex, Wait};
 
-/// The answer to an event, with the place of the client that waits for it.
-pub(crate) type Delivery = (usize, SiteReply);
+/// The reply to an event, with the place of the client that waits for it.
+#[derive(Drop)]
+pub(crate) struct Delivery {
+    pub place: usize,
+    pub event: Event,
+    pub reply: EventReply,
+    ghost is: { ∥ IsReply event reply ∥₁ },
+}
 
 /// The mailbox of a thread, and what wakes it.
 #[derive(Drop)]
@@ -154,25 +162,22 @@ impl<R: Wait + Drop> Post<R> {
     }
 }
 
-impl<R: Wait + Drop> Waiting<SiteReply> for Post<R> {
+impl<R: Wait + Drop> Waiting<Event, EventReply> for Post<R> {
     ghost given = { λ _. None };
 
-    fn give(&mut self, place: usize, reply: &SiteReply) {
+    ghost Replies = { IsReply };
+
+    fn give(&mut self, place: usize, event: Event, reply: EventReply) {
         let number = place / MOST_CLIENTS;
         if let Some(mailbox) = self.mailboxes.get(number) {
             // There is room: a thread has no more events under way than places for their answers.
-            let delivery = (place % MOST_CLIENTS, copy_of(reply));
+            let delivery = Delivery {
+                place: place % MOST_CLIENTS,
+                event,
+                reply,
+            };
             let _ = mailbox.replies.lock(&self.rt).push(delivery);
             self.given |= 1 << (number % 64);
         }
-    }
-}
-
-/// A copy of the answer to an event.
-fn copy_of(reply: &SiteReply) -> SiteReply {
-    match reply {
-        SiteReply::Taken(done) => SiteReply::Taken(*done),
-        SiteReply::Refused(refusal) => SiteReply::Refused(*refusal),
-        _ => SiteReply::BadLine,
     }
 }

@@ -1,10 +1,51 @@
 //! What a service answers, as it is sent.
 
-use cmh_frames::ProcId;
+ghost use Rattle.std.specs.Prelude.{◌≡◌, Some};
+ghost use Rattle.cmh_service.specs.Texts.{event_text, links_text, reply_text, sealed_word, status_text};
+
+use cmh_frames::{Done, ProcId, ProcessesText};
 use cmh_host::SiteReply;
+use cmh_station::StationRefusal;
 use std::fmt;
 
-/// What is sent for a line of a client.
+/// What is sent for an event: its outcome, or why it was refused.
+#[derive(Clone, Copy, Debug, PartialEq, Eq)]
+pub enum EventReply {
+    /// The step sent so many frames.
+    Taken { sent: usize },
+    /// It sent so many, and declared this process.
+    Declared { sent: usize, process: ProcId },
+    Refused(StationRefusal),
+}
+
+impl fmt::Display for EventReply {
+    ghost output = { λ reply. Some (event_text reply) };
+
+    fn fmt<W: fmt::Write>(&self, f: &mut fmt::Formatter<W>) -> fmt::Result {
+        match self {
+            EventReply::Taken { sent } => {
+                let done = Done {
+                    sent: *sent,
+                    declared: None,
+                };
+                write!(f, "ok {done}\n")
+            }
+            EventReply::Declared { sent, process } => {
+                let done = Done {
+                    sent: *sent,
+                    declared: Some(*process),
+                };
+                write!(f, "ok {done}\n")
+            }
+            EventReply::Refused(refusal) => {
+                let number = refusal.number();
+                write!(f, "refused {number}\n")
+            }
+        }
+    }
+}
+
+/// What is sent for another line of a client.
 #[derive(Debug, Drop)]
 pub enum Reply {
     /// What a site answers to the same line.
@@ -38,50 +79,64 @@ pub struct Status {
 }
 
 impl fmt::Display for Status {
+    ghost output = { λ status. Some (status_text status) };
+
     fn fmt<W: fmt::Write>(&self, f: &mut fmt::Formatter<W>) -> fmt::Result {
         let Status {
             entries,
             room,
             declared,
             clients,
-            open_out,
-            open_in,
-            is_sealed,
+            ..
         } = *self;
-        let sealed = if is_sealed { "yes" } else { "no" };
+        let state = LinksAndSeal { status: self };
         write!(
             f,
-            "entries {entries} room {room} declared {declared} clients {clients}"
-        )?;
-        write!(f, " out {open_out} in {open_in} sealed {sealed}\n")
+            "entries {entries} room {room} declared {declared} clients {clients}{state}"
+        )
     }
 }
 
-/// Processes, each after a space.
+/// How many links are open, and whether the journal is sealed.
 #[derive(Drop)]
-struct Members<'a> {
-    processes: &'a [ProcId],
+struct LinksAndSeal<'a> {
+    status: &'a Status,
 }
 
-impl<'a> fmt::Display for Members<'a> {
+impl<'a> fmt::Display for LinksAndSeal<'a> {
+    ghost output = { λ shown. Some (links_text shown.status.now) };
+
+    #[tactic(auto, unfolding(crate::specs::Texts::links_text))]
     fn fmt<W: fmt::Write>(&self, f: &mut fmt::Formatter<W>) -> fmt::Result {
-        for process in self.processes {
-            write!(f, " {process}")?;
-        }
-        Ok(())
+        let out = self.status.open_out;
+        let into = self.status.open_in;
+        let sealed = sealed_word(self.status.is_sealed);
+        write!(f, " out {out} in {into} sealed {sealed}\n")
     }
+}
+
+fn sealed_word(is_sealed: bool) -> &'static str
+    ensures { result.now ≡ sealed_word is_sealed }
+{
+    if is_sealed { "yes" } else { "no" }
 }
 
 impl fmt::Display for Reply {
+    ghost output = { λ reply. Some (reply_text reply) };
+
     fn fmt<W: fmt::Write>(&self, f: &mut fmt::Formatter<W>) -> fmt::Result {
         match self {
             Reply::Site(reply) => write!(f, "{reply}"),
             Reply::Waits(process, others) => {
-                let members = Members { processes: others };
+                let members = ProcessesText {
+                    processes: others.as_slice(),
+                };
                 write!(f, "waits {process}{members}\n")
             }
             Reply::Owed(process, others) => {
-                let members = Members { processes: others };
+                let members = ProcessesText {
+                    processes: others.as_slice(),
+                };
                 write!(f, "owed {process}{members}\n")
             }
             Reply::Watching => write!(f, "ok\n"),

@@ -1,27 +1,53 @@
 //! The rounds in which events go to the station: those of all clients that wait at that moment go together.
 
-use crate::desk::Desk;
+ghost use Rattle.std.specs.Prelude.{◌≤◌, vec_capacity};
+ghost use Rattle.cmh_service.specs.Replies.{AnswersSaid};
+ghost use Rattle.cmh_station.specs.Journaled.{batch_limit};
+
 use crate::guests::MOST_CLIENTS;
 use crate::host::Host;
 use crate::mailbox::{Mailbox, Post};
-use crate::reply::Reply;
+use crate::reply::{EventReply, Reply};
 use crate::said::Said;
-use cmh_controller::Refusal;
+use cmh_client::Desk;
 use cmh_frames::Event;
-use cmh_host::SiteReply;
-use cmh_station::{BATCH_LIMIT, Declared, StationRefusal};
+use cmh_station::{BATCH_LIMIT, Declared};
 use mio::Waker;
-use std::alloc::AllocError;
+use std::alloc::{AllocError, Global};
 use std::mem::swap;
 use std::sync::atomic::{AtomicBool, Ordering};
 use std::sync::{Arc, Mutex, Wait};
+
+/// The events of a round, and room for the replies to them.
+#[derive(Drop)]
+pub(crate) struct Round {
+    desk: Desk<Event>,
+    replies: Vec<EventReply>,
+    ghost room: { batch_limit ≤ vec_capacity replies },
+}
+
+impl Round {
+    pub fn new(alloc: Global) -> Result<Round, AllocError> {
+        Ok(Round {
+            desk: Desk::new(alloc)?,
+            replies: Vec::with_capacity(alloc, BATCH_LIMIT)?,
+        })
+    }
+
+    /// Gives the events to a site, and the replies to who waits for them.
+    fn step<R: Wait + Drop>(&mut self, host: &Host<R>, post: &mut Post<R>) {
+        self.replies.clear();
+        host.step_all(self.desk.events(), &mut self.replies);
+        self.desk.hand_back(&self.replies, post);
+    }
+}
 
 /// What the threads of a service share.
 #[derive(Drop)]
 pub(crate) struct Rounds<R: Wait + Drop> {
     host: Mutex<Host<R>>,
     /// The events that wait for the next round.
-    desk: Mutex<Desk>,
+    desk: Mutex<Desk<Event>>,
     /// Whether a round is under way.
     is_stepping: AtomicBool,
     pub mailboxes: Arc<Vec<Mailbox>>,
@@ -32,7 +58,12 @@ pub(crate) struct Rounds<R: Wait + Drop> {
 }
 
 impl<R: Wait + Drop> Rounds<R> {
-    pub fn new(host: Host<R>, desk: Desk, mailboxes: Arc<Vec<Mailbox>>, doors: Waker) -> Rounds<R> {
+    pub fn new(
+        host: Host<R>,
+        desk: Desk<Event>,
+        mailboxes: Arc<Vec<Mailbox>>,
+        doors: Waker,
+    ) -> Rounds<R> {
         Rounds {
             host: Mutex::new(host),
             desk: Mutex::new(desk),
@@ -78,7 +109,7 @@ impl<R: Wait + Drop> Rounds<R> {
 
     /// Gives the events that wait to the station. Where a round is under way, the thread is woken at its end instead.
     /// Answers whether it gave some.
-    pub fn step(&self, rt: &R, spare: &mut Desk, post: &mut Post<R>) -> bool {
+    pub fn step(&self, rt: &R, round: &mut Round, post: &mut Post<R>) -> bool {
         if !self.has_events(rt) {
             return false;
         }
@@ -89,30 +120,21 @@ impl<R: Wait + Drop> Rounds<R> {
         post.await_round(false);
         {
             let mut desk = self.desk.lock(rt);
-            swap(&mut *desk, spare);
+            swap(&mut *desk, &mut round.desk);
         }
         post.wake_for_room();
-        if !spare.events().is_empty() {
-            self.step_all(rt, spare, post);
+        if !round.desk.events().is_empty() {
+            round.step(&self.host.lock(rt), post);
         }
         self.is_stepping.store(false, Ordering::SeqCst);
         post.wake_all();
         true
     }
 
-    fn step_all(&self, rt: &R, desk: &mut Desk, post: &mut Post<R>) {
-        let host = self.host.lock(rt);
-        match host.step_all(desk.events()) {
-            Ok(replies) => desk.hand_back(&replies, post),
-            Err(AllocError) => {
-                let refused = SiteReply::Refused(StationRefusal::Rule(Refusal::Memory));
-                desk.refuse_all(&refused, post);
-            }
-        }
-    }
-
     /// The answer to a line that is no event.
-    pub fn answer(&self, rt: &R, said: &Said) -> Reply {
+    pub fn answer(&self, rt: &R, said: &Said) -> Reply
+        ensures { AnswersSaid said.now result }
+    {
         let clients = self.clients();
         self.host.lock(rt).answer(said, clients)
     }

@@ -1,11 +1,10 @@
 //! A thread that serves clients.
 
-use crate::client::Client;
-use crate::connection::Connection;
-use crate::desk::Desk;
+use crate::connection::{Connection, Talk};
 use crate::guests::{Guests, MOST_CLIENTS};
+use crate::language::Lines;
 use crate::mailbox::{Mailbox, Post};
-use crate::rounds::Rounds;
+use crate::rounds::{Round, Rounds};
 use mio::net::TcpStream;
 use mio::{Events, Interest, Poll, Token};
 use std::alloc::{AllocError, Global};
@@ -31,8 +30,8 @@ pub(crate) struct Server<R: Wait + Drop> {
     events: Events,
     guests: Guests,
     rounds: Arc<Rounds<R>>,
-    /// Room for the events of a round.
-    spare: Desk,
+    /// Room for a round.
+    round: Round,
     post: Post<R>,
     /// Whether something was declared that watching clients were not told.
     has_news: bool,
@@ -55,7 +54,7 @@ impl<R: Wait + Copy + Drop> Server<R> {
             events: Events::with_capacity(alloc, MOST_CLIENTS + 1)?,
             guests: Guests::new(alloc, number)?,
             rounds,
-            spare: Desk::new(alloc)?,
+            round: Round::new(alloc)?,
             post,
             has_news: true,
         })
@@ -110,7 +109,7 @@ impl<R: Wait + Copy + Drop> Server<R> {
         }
         mailbox.set_served(self.guests.served());
         self.guests.take_lines(&rt, rounds);
-        let has_stepped = rounds.step(&rt, &mut self.spare, &mut self.post);
+        let has_stepped = rounds.step(&rt, &mut self.round, &mut self.post);
         let has_replies = self.guests.take_replies(&rt, mailbox);
         if (has_stepped || has_replies) && !mailbox.awaits_room() {
             self.guests.let_on();
@@ -159,7 +158,8 @@ fn let_in(
                 .register(&mut stream, Token(place), both)
                 .is_ok()
         {
-            guests.put(place, Connection::new(stream, Client::new(alloc)));
+            let talk = Talk::new(alloc, Lines::new(alloc));
+            guests.put(place, Connection::new(stream, talk));
             return;
         }
     }

@@ -1,19 +1,20 @@
 //! A site as a service: it waits for its clients and for what the site declares.
 
+ghost use Rattle.std.specs.Prelude.{◌≡◌, ◌≢◌, IfErr, IsErr, OnErr, true};
+ghost use Rattle.cmh_console.specs.Faults.{NamesFault};
 ghost use Rattle.cmh_console.specs.Status.{IsStatus};
+ghost use Rattle.cmh_service.specs.ServiceFaults.{IsServiceFault, as_fault};
 
-use crate::desk::Desk;
 use crate::guests::MOST_CLIENTS;
 use crate::host::Host;
 use crate::mailbox::Mailbox;
 use crate::rounds::Rounds;
 use crate::server::{MAIL, PAUSE_MILLISECONDS, Server};
+use crate::service_fault::{ServiceFault, Shortage};
 use cmh_carriers::{Noting, Voice};
+use cmh_client::Desk;
 use cmh_console::{Fault, Output, WriteFault};
-use cmh_host::{
-    Running, RunningSite, Setting, SiteFault, SiteSetup, SiteStart, System, read_setting,
-    start_site,
-};
+use cmh_host::{Running, RunningSite, SiteSetup, SiteStart, System, read_setting, start_site};
 use cmh_station::BATCH_LIMIT;
 use crossbeam_utils::sync::Parker;
 use mio::net::TcpListener as Listener;
@@ -51,7 +52,8 @@ pub struct ServiceStart<'a> {
 /// Runs one site of a topology for clients that connect, until the program is ended, and answers the status of the program
 /// where it can't go on: 1 where memory ran out, 3 at another fault, which is named on `err`.
 ///
-/// It says `listening` on `out` once both its ports stand, and connects to the other sites by itself.
+/// It says `listening` on `out` once both its ports stand, and connects to the other sites by itself. What it and each client
+/// say to each other [`service_law`](crate::laws::service_law) says.
 pub fn run_service<R, W: Write, E: Write, V>(
     rt: R,
     start: &ServiceStart<'_>,
@@ -63,18 +65,36 @@ where
     R: System + AllocGlobal + Files<File = File> + Send + 'static,
     V: Voice + Send + Drop + 'static,
     ensures status { IsStatus result }
+
+    // It ends at a fault alone, which has a cause.
+    ensures ends { result ≢ 0 }
+    ensures fault { NamesFault as_fault
+        (IsServiceFault start.now.site.topology.now start.now.site.site out.new.has_failed) result err.old err.new }
 {
-    let alloc = rt.alloc();
-    let noting = match Noting::start(rt, alloc, voice) {
-        Ok(noting) => noting,
-        Err(AllocError) => return Fault::Memory.name_on(err),
+    let Err(fault) = serve_noting(rt, start, out, voice) else {
+        unreachable!();
     };
-    let served = serve_into(rt, alloc, start, out, &noting);
+    Fault::from(fault).name_on(err)
+}
+
+/// The same, where what the site notices is told by a voice, if there is one, in a thread that nobody waits for.
+fn serve_noting<R, W: Write, V>(
+    rt: R,
+    start: &ServiceStart<'_>,
+    out: &mut Output<W>,
+    voice: Option<V>,
+) -> Result<(), ServiceFault>
+where
+    R: System + AllocGlobal + Files<File = File> + Send + 'static,
+    V: Voice + Send + Drop + 'static,
+    ensures ends { IsErr result }
+    ensures fault { IfErr result
+        (IsServiceFault start.now.site.topology.now start.now.site.site out.new.has_failed) }
+{
+    let noting = Noting::start(rt, rt.alloc(), voice)?;
+    let served = serve_into(rt, rt.alloc(), start, out, &noting);
     noting.end(&rt);
-    match served {
-        Ok(()) => 0,
-        Err(fault) => Fault::from(fault).name_on(err),
-    }
+    served
 }
 
 fn serve_into<R, W: Write>(
@@ -83,66 +103,72 @@ fn serve_into<R, W: Write>(
     start: &ServiceStart<'_>,
     out: &mut Output<W>,
     noting: &Noting,
-) -> Result<(), SiteFault>
+) -> Result<(), ServiceFault>
 where
     R: System + Files<File = File> + Send + 'static,
+    ensures ends { IsErr result }
+    ensures fault { IfErr result
+        (IsServiceFault start.now.site.topology.now start.now.site.site out.new.has_failed) }
 {
     let own = &start.site;
-    let Setting { world, ports } = read_setting(alloc, own.topology)?;
-    if !world.has_site(own.site) {
-        return Err(SiteFault::Site);
+    let setting = read_setting(alloc, own.topology)?;
+    if !setting.world.has_site(own.site) {
+        return Err(ServiceFault::Site);
     }
     let doors = Doors::open(&rt, start.port)?;
     let setup = SiteSetup {
-        topology: &world,
-        ports: &ports,
+        topology: &setting.world,
+        ports: &setting.ports,
         site: own.site,
         journal: own.journal,
         patience: own.patience,
         backlog: own.backlog,
     };
-    let RunningSite { handle, threads } = start_site(rt, alloc, &setup, noting)?;
-    let links = match threads.view() {
-        Ok(links) => links,
-        Err(AllocError) => return ended(threads, SiteFault::Memory),
+    let running = start_site(rt, alloc, &setup, noting)?;
+    let RunningSite { handle, threads } = running;
+    let Ok(links) = threads.view() else {
+        end(threads);
+        return Err(ServiceFault::Memory);
     };
     let host = Host {
         rt,
         alloc,
-        topology: world,
+        topology: setting.world,
         handle,
         links,
     };
-    if let Err(fault) = say_listening(out) {
-        return ended(threads, SiteFault::from(fault));
+    if say_listening(out).is_err() {
+        end(threads);
+        return Err(ServiceFault::Output);
     }
-    serve_beside(rt, alloc, host, doors, threads)
+    Err(ServiceFault::from(serve_beside(rt, alloc, host, doors, threads)))
 }
 
-fn say_listening<W: Write>(out: &mut Output<W>) -> Result<(), WriteFault> {
+fn say_listening<W: Write>(out: &mut Output<W>) -> Result<(), WriteFault>
+    ensures { OnErr result (out.new.has_failed ≡ true) }
+{
     out.write_line("listening")?;
     out.flush()?;
     Ok(())
 }
 
 /// Ends the threads of a site that can't go on.
-fn ended<R>(threads: Running<R>, fault: SiteFault) -> Result<(), SiteFault>
+fn end<R>(threads: Running<R>)
 where
     R: System + Send + 'static,
 {
     threads.cut_off();
     let _ = threads.stop();
-    Err(fault)
 }
 
-/// Connects the site to the others while threads serve clients.
+/// Connects the site to the others while threads serve clients, and answers why that ends.
 fn serve_beside<R>(
     rt: R,
     alloc: Global,
     host: Host<R>,
     doors: Doors,
     mut threads: Running<R>,
-) -> Result<(), SiteFault>
+) -> Shortage
 where
     R: Wait
         + Threads
@@ -155,14 +181,19 @@ where
 {
     let rounds = match start_servers(rt, alloc, host, &doors) {
         Ok(rounds) => rounds,
-        Err(fault) => return ended(threads, fault),
+        Err(shortage) => {
+            end(threads);
+            return shortage;
+        }
     };
     let Ok(accepting) = thread::spawn(&rt, move || doors.accept_all(&rt, alloc, &rounds)) else {
-        return ended(threads, SiteFault::Memory);
+        end(threads);
+        return Shortage::Memory;
     };
     let _ = threads.connect();
-    let fault = accepting.join(&rt);
-    ended(threads, fault)
+    let shortage = accepting.join(&rt);
+    end(threads);
+    shortage
 }
 
 /// Starts the threads that serve clients, and one that wakes them at each declaration. Each thing that can fail stands in a
@@ -172,7 +203,7 @@ fn start_servers<R>(
     alloc: Global,
     host: Host<R>,
     doors: &Doors,
-) -> Result<Arc<Rounds<R>>, SiteFault>
+) -> Result<Arc<Rounds<R>>, Shortage>
 where
     R: Wait + Threads + Net + Copy + Send + Drop + 'static,
 {
@@ -193,12 +224,12 @@ struct Polled {
     polls: Vec<Poll>,
 }
 
-fn make_polls<R: Net>(rt: &R, alloc: Global) -> Result<Polled, SiteFault> {
+fn make_polls<R: Net>(rt: &R, alloc: Global) -> Result<Polled, Shortage> {
     let mut mailboxes = Vec::with_capacity(alloc, SERVERS)?;
     let mut polls = Vec::with_capacity(alloc, SERVERS)?;
     for _ in 0..SERVERS {
         let Ok(poll) = Poll::new(rt) else {
-            return Err(SiteFault::Listen);
+            return Err(Shortage::Listen);
         };
         mailboxes.push(mailbox_of(alloc, &poll)?)?;
         polls.push(poll)?;
@@ -207,15 +238,15 @@ fn make_polls<R: Net>(rt: &R, alloc: Global) -> Result<Polled, SiteFault> {
 }
 
 /// The mailbox of the thread that waits on this.
-fn mailbox_of(alloc: Global, poll: &Poll) -> Result<Mailbox, SiteFault> {
+fn mailbox_of(alloc: Global, poll: &Poll) -> Result<Mailbox, Shortage> {
     let Ok(waker) = Waker::new(poll.registry(), MAIL) else {
-        return Err(SiteFault::Listen);
+        return Err(Shortage::Listen);
     };
     Ok(Mailbox::new(alloc, waker)?)
 }
 
 /// What is woken at each declaration of the site.
-fn watch<R: Wait + Drop>(alloc: Global, host: &Host<R>) -> Result<Parker, SiteFault> {
+fn watch<R: Wait + Drop>(alloc: Global, host: &Host<R>) -> Result<Parker, Shortage> {
     let parker = Parker::new(alloc)?;
     host.handle.station.watch(parker.unparker().clone()?);
     Ok(parker)
@@ -226,9 +257,9 @@ fn make_rounds<R: Wait + Drop>(
     host: Host<R>,
     mailboxes: Vec<Mailbox>,
     doors: &Doors,
-) -> Result<Arc<Rounds<R>>, SiteFault> {
+) -> Result<Arc<Rounds<R>>, Shortage> {
     let Ok(waker) = Waker::new(doors.poll.registry(), ENDED) else {
-        return Err(SiteFault::Listen);
+        return Err(Shortage::Listen);
     };
     let mailboxes = Arc::new(alloc, mailboxes)?;
     let rounds = Rounds::new(host, Desk::new(alloc)?, mailboxes, waker);
@@ -236,14 +267,14 @@ fn make_rounds<R: Wait + Drop>(
 }
 
 /// Starts the thread that tells the others each declaration.
-fn start_passing<R>(rt: R, parker: Parker, rounds: &Arc<Rounds<R>>) -> Result<(), SiteFault>
+fn start_passing<R>(rt: R, parker: Parker, rounds: &Arc<Rounds<R>>) -> Result<(), Shortage>
 where
     R: Wait + Threads + Net + Copy + Send + Drop + 'static,
 {
     let theirs = Arc::try_clone(rounds)?;
     match thread::spawn(&rt, move || pass_on(rt, &parker, &theirs)) {
         Ok(_) => Ok(()),
-        Err(_) => Err(SiteFault::Memory),
+        Err(_) => Err(Shortage::Memory),
     }
 }
 
@@ -254,14 +285,14 @@ fn start_server<R>(
     number: usize,
     poll: Poll,
     rounds: &Arc<Rounds<R>>,
-) -> Result<(), SiteFault>
+) -> Result<(), Shortage>
 where
     R: Wait + Threads + Net + Copy + Send + Drop + 'static,
 {
     let mut server = Server::new(rt, alloc, number, poll, Arc::try_clone(rounds)?)?;
     match thread::spawn(&rt, move || server.serve_all()) {
         Ok(_) => Ok(()),
-        Err(_) => Err(SiteFault::Memory),
+        Err(_) => Err(Shortage::Memory),
     }
 }
 
@@ -283,25 +314,25 @@ struct Doors {
 }
 
 impl Doors {
-    fn open<R: Net>(rt: &R, port: u16) -> Result<Doors, SiteFault> {
+    fn open<R: Net>(rt: &R, port: u16) -> Result<Doors, Shortage> {
         let address = SocketAddr::from((Ipv4Addr::LOCALHOST, port));
         let (Ok(poll), Ok(mut listener)) = (Poll::new(rt), Listener::bind(rt, address)) else {
-            return Err(SiteFault::Listen);
+            return Err(Shortage::Listen);
         };
         let registered = poll
             .registry()
             .register(&mut listener, LISTENER, Interest::READABLE);
         match registered {
             Ok(()) => Ok(Doors { poll, listener }),
-            Err(_) => Err(SiteFault::Listen),
+            Err(_) => Err(Shortage::Listen),
         }
     }
 
     /// Lets clients in until that can't go on.
-    fn accept_all<R: Wait + Drop>(self, rt: &R, alloc: Global, rounds: &Rounds<R>) -> SiteFault {
+    fn accept_all<R: Wait + Drop>(self, rt: &R, alloc: Global, rounds: &Rounds<R>) -> Shortage {
         let mut doors = self;
         let Ok(mut events) = Events::with_capacity(alloc, 1) else {
-            return SiteFault::Memory;
+            return Shortage::Memory;
         };
         let mut may_accept = true;
         for _ in rt.forever() {
@@ -311,7 +342,7 @@ impl Doors {
                 None
             };
             if doors.poll.poll(&mut events, patience).is_err() || rounds.has_ended() {
-                return SiteFault::Listen;
+                return Shortage::Listen;
             }
             may_accept = doors.accept(rt, rounds);
         }

@@ -1,10 +1,11 @@
 use Rattle.std.proofs.Common.{◌≡◌, ◌≤◌, length, take, vec_len, vec_capacity}
-use Rattle.cmh_service.specs.Replies.{AreReplies}
+use Rattle.cmh_service.specs.Replies.{IsReply}
+use Rattle.cmh_client.specs.Desks.{AreReplies}
 use Rattle.cmh_service.proofs.host.Host.push_steps.Given as goal
 
 abbrev pub invariant-loop-event : goal.invariant-loop-event
 invariant-loop-event g l = record {
-  made : AreReplies (take l.event-index l.fn.events) l.replies.items;
+  made : AreReplies IsReply (take l.event-index l.fn.events) l.replies.items;
   count : vec_len l.replies ≡ l.event-index;
   room : length l.fn.events ≤ vec_capacity l.replies;
 }
