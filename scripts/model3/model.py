@@ -428,8 +428,12 @@ class World:
         lines += [spelled("wait", *wait) for wait in sorted(waits_after(self.entries))]
         lines += [spelled("leaving", *pair) for pair in sorted(set().union(*(site.leaving for site in self.sites.values())))]
         for i, n in sorted(pair for site in self.sites.values() for pair in site.declared.items()):
-            lines.append(spelled("declared", i, "at", n, Stop.of(self.entries, n).cycle_of(i)))
+            lines.append(self.told(i, n))
         return "\n".join(lines)
+
+    def told(self, i, n):
+        """What is said of the declaration of a process at a stop."""
+        return spelled("declared", i, "at", n, Stop.of(self.entries, n).cycle_of(i))
 
 
 def came_of(entry):

@@ -3,7 +3,7 @@
 
 use crate::file_fault::FileFault;
 use crate::files::{LONGEST_TOPOLOGY, read_file};
-use crate::options::{JOURNAL, JOURNALS, OUT, PAGE, PORT, RUN, SCRIPT, SITE, TOPOLOGY, WHY};
+use crate::options::{DECLARATIONS, JOURNAL, JOURNALS, OUT, PAGE, PORT, SCRIPT, SITE, TOPOLOGY};
 use crate::topology_trouble::{
     Limits, is_edition3, trouble_of_members, trouble_of_rows, trouble_of_world,
 };
@@ -254,8 +254,10 @@ fn read_again<R: AllocGlobal + Files>(rt: &R, path: &str, fault: FileFault) -> O
 enum Task {
     /// It runs sites, which have ports.
     Serve,
-    /// It tells of journals of editions 1 and 2 alone: a page, the reasons for stops or a run.
-    Tell,
+    /// It makes a page of journals of editions 1 and 2 alone.
+    Page,
+    /// It tells the declarations of journals of edition 3 alone.
+    Declarations,
     /// It audits or draws journals of any edition.
     Audit,
 }
@@ -264,8 +266,11 @@ fn task_of(words: &ArgMatches<'_>) -> Task {
     if words.get_str(JOURNAL).is_some() || words.get_str(SCRIPT).is_some() {
         return Task::Serve;
     }
-    if words.get_flag(PAGE) || words.get_flag(WHY) || words.get_flag(RUN) {
-        return Task::Tell;
+    if words.get_flag(PAGE) {
+        return Task::Page;
+    }
+    if words.get_flag(DECLARATIONS) {
+        return Task::Declarations;
     }
     Task::Audit
 }
@@ -303,6 +308,13 @@ fn tell_topology(
     if is_edition3(&value) {
         return tell_edition3(alloc, bytes, &value, task, text);
     }
+    if matches!(task, Task::Declarations) {
+        write!(
+            text,
+            "this is no topology of edition 3, and `audit` with --declarations has no other"
+        )?;
+        return Ok(());
+    }
     if let Some(trouble) = trouble_of_members(&value, matches!(task, Task::Serve)) {
         write!(text, "{trouble}")?;
         return Ok(());
@@ -332,14 +344,11 @@ fn tell_edition3(
             )?;
             return Ok(());
         }
-        Task::Tell => {
-            write!(
-                text,
-                "`draw` with --page, and `audit` with --why or --run, have no edition 3 yet"
-            )?;
+        Task::Page => {
+            write!(text, "`draw` with --page has no edition 3 yet")?;
             return Ok(());
         }
-        Task::Audit => {}
+        Task::Declarations | Task::Audit => {}
     }
     if let Some(trouble) = trouble_of_world(value) {
         write!(text, "{trouble}")?;

@@ -178,6 +178,13 @@ With --run a line for each entry follows an accepted report, in the order of one
   S N ENTRY                     entry N of site S, in the words of `cmh show`
 ";
 
+const AUDIT_DECLARATIONS: &str = "\
+With --declarations a line for each declaration follows an accepted report of edition 3, in the order of --run:
+  declared I at N cycle I .. I stands     process I lay on a cycle at stop N, and the waits of this one stand since
+  declared I at N cycle I .. I left by J  no cycle of that stop stands any more: J gave up its wait for the next one
+A topology of edition 1 or 2 is `fault json` then. There a declaration stands for ever, and the report has each.
+";
+
 const AUDIT_RUNNING: &str = "\
 The sites may run: their journals are then read twice, and cut where all sites might have stopped at one moment.
 ";
@@ -185,7 +192,8 @@ The sites may run: their journals are then read twice, and cut where all sites m
 const AUDIT_EDITION_3: &str = "\
 Where the topology file is of edition 3, as in {\"edition\":3,\"world\":\"32 HEXADECIMAL DIGITS\",\"sites\":[..]}, each journal
 is a segment, or a folder whose newest segment is meant. Then the report also says who is leaving whom, and of each
-declared process at which stop its cycle stood, and who left it since. --why and --run are of editions 1 and 2.
+declared process at which stop its cycle stood, and who left it since. In the lines of --why
+` clock C`, the clock of the message, follows F, and ` at N`, the stop at which the cycle stood, follows I.
 ";
 
 const AUDIT_STATUSES: &str = "\
@@ -401,7 +409,7 @@ fn audit(alloc: Global) -> Result<String, AllocError> {
     row(&mut text, 6, "a segment is of a later epoch")?;
     write!(
         text,
-        "\n{AUDIT_RUN}\n{AUDIT_REASONS}\nRefusals, as in `refused 3`:\n"
+        "\n{AUDIT_RUN}\n{AUDIT_DECLARATIONS}\n{AUDIT_REASONS}\nRefusals, as in `refused 3`:\n"
     )?;
     refusals(&mut text, "")?;
     write!(

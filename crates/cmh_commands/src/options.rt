@@ -34,6 +34,8 @@ pub const WHY: &str = "why";
 
 pub const RUN: &str = "run";
 
+pub const DECLARATIONS: &str = "declarations";
+
 pub const NOTES: &str = "notes";
 
 pub const STRICT: &str = "strict";
@@ -124,6 +126,7 @@ fn show_command<'a>(alloc: Global, help: &'a Help) -> Result<Command<'a>, Error>
 
 fn audit_command<'a>(alloc: Global, help: &'a Help) -> Result<Command<'a>, Error> {
     let run = run_arg(alloc)?;
+    let declarations = declarations_arg(alloc)?;
     let audit = Command::new(alloc, AUDIT)
         .about(
             "Tells whether the journals of all sites come from one run, and who waits and is deadlocked at its end",
@@ -132,6 +135,7 @@ fn audit_command<'a>(alloc: Global, help: &'a Help) -> Result<Command<'a>, Error
         .arg(topology_arg(alloc))?
         .arg(why_arg(alloc))?
         .arg(run)?
+        .arg(declarations)?
         .arg(explain_arg(alloc))?
         .arg(journals_arg(alloc).help(
             "The journal files of all sites, or their folders of edition 3, in any order",
@@ -249,6 +253,18 @@ fn run_arg<'a>(alloc: Global) -> Result<Arg<'a>, Error> {
         .action(ArgAction::SetTrue)
         .conflicts_with(WHY)?;
     Ok(run)
+}
+
+fn declarations_arg<'a>(alloc: Global) -> Result<Arg<'a>, Error> {
+    let declarations = Arg::new(alloc, DECLARATIONS)
+        .long(DECLARATIONS)
+        .help(
+            "Tells, where the journals of edition 3 are accepted, what became of each declaration's cycle",
+        )
+        .action(ArgAction::SetTrue)
+        .conflicts_with(WHY)?
+        .conflicts_with(RUN)?;
+    Ok(declarations)
 }
 
 /// The folder of a script that is played.

@@ -1,6 +1,6 @@
--- From the verdict on segments to what is found.
+-- From the verdict on segments to what is found, and to more lines of it.
 use Rattle.std.proofs.Common.{◌≡◌, ℕ, Bool, true, false, true≢false, List, [], ◌∷◌, refl, sym, subst, ◌∙◌, inl, inr}
-use Rattle.std.specs.Prelude.{◌↔◌, Result, Ok, Err, IfErr, IfOk}
+use Rattle.std.specs.Prelude.{◌↔◌, IfErr, IfOk}
 use Rattle.std.specs.List.{AllByRecursion}
 use Rattle.std.proofs.lemmas.Bool.{cases_eq}
 use Rattle.cmh_runs.proofs.Journals.{entries_elsewhere, entries_here}
@@ -18,9 +18,11 @@ use Rattle.cmh_audit3.specs.declared.verdict.Verdict.{Verdict}
 use Rattle.cmh_audit3.specs.declared.verdict.Verdict.TheVariants.{Accepted, Refused}
 use Rattle.cmh_audit3.proofs.Sets.{set_parts}
 use Rattle.cmh_audit3.proofs.Surveys.{none_there}
-use Rattle.cmh_report3.specs.Reports.{Reports}
-use Rattle.cmh_report3.specs.declared.report.Report.{Report}
-use Rattle.cmh_files3.specs.Audits.{IsReportOn}
+use Rattle.cmh_files3.specs.Inner.Runs.{IsMoreOfEvents, IsMoreOfOrder}
+use Rattle.cmh_files3.specs.More.{IsMoreOfRun}
+use Rattle.cmh_files3.specs.RunLines.{AreRunLines}
+use Rattle.cmh_files3.specs.declared.more.More.{More}
+use Rattle.cmh_files3.specs.declared.more.More.TheVariants.{Nothing, Reasons, Run, Declarations}
 
 -- ---- the sites of events
 
@@ -66,8 +68,13 @@ refused_on t gs v stops is accepted are =
     let verdict = subst (λ (w : Verdict). IsAccepted w ↔ ComeFromRun t (journal_of gs)) is accepted in
     ((λ come. true≢false (sym (verdict.1 come))), subst (λ (w : Verdict). IfErr (as_result w) (AreStops t gs)) is are)
 
--- the report of one that accepts
-pub report_on : {E : Type 0} (t : Topology) (gs : List Segment) (events : List WorldEvent) → IsRun (site_of t) events → AreJournalsOf events (journal_of gs)
-    → (r : Result Report E) → IfOk r (Reports (site_of t) events) → IfOk r (IsReportOn t gs)
-report_on t gs events run journals (Ok report) told = record { events = events; run = run; journals = journals; reports = told }
-report_on t gs events run journals (Err fault) told = tt
+-- ---- more lines
+
+-- those of a run are what was listed of its order, or its declarations
+pub more_of_run : (more : More) (t : Topology) (gs : List Segment) (events : List WorldEvent) → IsRun (site_of t) events → AreJournalsOf events (journal_of gs)
+    → (listed text : List ℕ) → IsMoreOfOrder more t gs listed → IsMoreOfEvents more events listed text → IsMoreOfRun more t gs text
+more_of_run Nothing t gs events run journals listed text first last = last ∙ first
+more_of_run Reasons t gs events run journals listed text first last = last ∙ first
+more_of_run Run t gs events run journals listed text first last = subst (AreRunLines t gs) (sym last) first
+more_of_run Declarations t gs events run journals listed text first last =
+    record { events = events; run = run; journals = journals; lines = last }

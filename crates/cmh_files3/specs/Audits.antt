@@ -52,6 +52,13 @@ pub record AreRead (files : List (List ℕ)) (segments : List Segment) (cuts : L
   pub cuts_are : IsPermutation (flat_map cut_of reads) cuts
   pub ascending : IsSorted pair_cmp cuts
 
+-- the topology file says this world, and the files are those of the segments of it
+pub record IsWorldOf (topology : List ℕ) (files : List (List ℕ)) (world : Topology) (segments : List Segment)
+    (cuts : List (ℕ × ℕ)) : Type 0 where
+  pub says : SaysTopology topology world
+  pub read : AreRead files segments cuts
+  pub set : IsSet world segments
+
 -- ---- the audit
 
 -- the report is one on a run from which the segments come

@@ -2,3 +2,5 @@
 pub mod Standing
 pub mod Cuts
 pub mod Parts
+pub mod Taken
+pub mod Runs

@@ -1,6 +1,11 @@
 pub mod AuditFaults
 pub mod Audits
 pub mod EntryTexts
+pub mod RunLines
+pub mod DeclarationLines
+pub mod Reasons
+pub mod ReasonLines
+pub mod More
 pub mod Shown
 pub mod Shows
 pub mod Inner

@@ -1,20 +1,27 @@
 //! The command `audit` of edition 3: whether the journals of all sites come from one run.
 
 ghost use Rattle.std.specs.Prelude.{◌≡◌, ◌++◌, true, OnOk, IfOk, IfErr, Some, flat_map, map, string_bytes};
+ghost use Rattle.std.specs.List.{AllByRecursion};
+ghost use Rattle.cmh_model3.specs.Entries as entries;
+ghost use Rattle.cmh_model3.specs.Runs.{IsRun};
+ghost use Rattle.cmh_topology3.specs.Topology.{is_site, site_of};
+ghost use Rattle.cmh_report3.specs.Reports.{Reports};
 ghost use Rattle.cmh_audit3.specs.Set.{IsSet};
 ghost use Rattle.cmh_audit3.specs.Verdicts.{IsOrderOf};
 ghost use Rattle.cmh_files.specs.AuditTexts.{cuts_text};
 ghost use Rattle.cmh_files3.specs.Audits as spec;
 ghost use Rattle.cmh_files3.specs.Inner.Cuts.{cut_at};
-ghost use Rattle.cmh_files3.specs.Audits.{AreRead, AuditEnds, Audits, IsAuditFault, IsCause, IsFaultOfFiles, IsFindingOn, IsReportOn, WroteAudit};
+ghost use Rattle.cmh_files3.specs.Audits.{AreRead, AuditEnds, Audits, IsAuditFault, IsCause, IsFaultOfFiles, IsFindingOn, IsWorldOf, WroteAudit};
+ghost use Rattle.cmh_files3.specs.More.{AreMore};
 ghost use Rattle.cmh_console.specs.Status.{IsStatus};
 
 use crate::audit_fault::AuditFault;
+use crate::more::{More, more_of_events, more_of_order, more_of_stops};
 use crate::standing::controllers_after;
 use cmh_audit3::{Order, Segment, Stop, Stops, Verdict, audit, check_set, read_file, run_of};
 use cmh_console::{Fault, Output, read_topology_file3};
 use cmh_files::Cuts;
-use cmh_model3::SiteId;
+use cmh_model3::{Event, Message, SiteId, WorldEvent};
 use cmh_report3::Report;
 use cmh_topology3::Topology;
 use std::alloc::{AllocError, Global};
@@ -29,6 +36,15 @@ struct Segments {
     cuts: Vec<(SiteId, usize)>,
 }
 
+/// The journals of all sites of a world.
+#[derive(Debug, Drop)]
+pub struct World {
+    pub topology: Topology,
+    pub segments: Vec<Segment>,
+    /// The sites whose journal was cut off, ascending, and how many bytes stand after its last entry.
+    pub cuts: Vec<(SiteId, usize)>,
+}
+
 /// What an audit finds.
 #[derive(Debug, Drop)]
 pub enum Finding {
@@ -36,6 +52,13 @@ pub enum Finding {
     Accepted(Report),
     /// They come from none.
     Refused(Stops),
+}
+
+/// What an audit finds, and more lines of it.
+#[derive(Debug, Drop)]
+pub struct Told {
+    pub finding: Finding,
+    pub lines: String,
 }
 
 /// What an audit comes to.
@@ -158,15 +181,33 @@ pub fn audit_files(alloc: Global, topology: &[u8], files: &[Vec<u8>]) -> Result<
         audited.world audited.cuts.items audited.finding) }
     ensures fault { IfErr result (IsAuditFault topology.now (map (λ file. file.items) files.now)) }
 {
+    let World {
+        topology: world,
+        segments,
+        cuts,
+    } = read_world(alloc, topology, files)?;
+    let told = finding_on(alloc, &world, segments, More::Nothing)?;
+    Ok(Audited {
+        world,
+        cuts,
+        finding: told.finding,
+    })
+}
+
+/// The world of a topology file, and the journals of its sites. The first fault is answered, as by an audit.
+pub fn read_world(alloc: Global, topology: &[u8], files: &[Vec<u8>]) -> Result<World, AuditFault>
+    ensures read { IfOk result (λ world. IsWorldOf topology.now (map (λ file. file.items) files.now)
+        world.topology world.segments.items world.cuts.items) }
+    ensures fault { IfErr result (IsAuditFault topology.now (map (λ file. file.items) files.now)) }
+{
     let file = read_topology_file3(alloc, topology)?;
     let world = Topology::new(alloc, file.world, &file.rows)?;
     let Segments { segments, cuts } = read_segments(alloc, files)?;
     check_set(&world, &segments)?;
-    let finding = finding_on(alloc, &world, segments)?;
-    Ok(Audited {
-        world,
+    Ok(World {
+        topology: world,
+        segments,
         cuts,
-        finding,
     })
 }
 
@@ -206,39 +247,67 @@ fn note_cut(cuts: &mut Vec<(SiteId, usize)>, site: SiteId, after: usize) -> Resu
     Ok(())
 }
 
-/// What the audit of the journals of a world finds. The only error is out of memory.
-fn finding_on(
+/// What the audit of the journals of a world finds, with more lines of it. The only error is out of memory.
+pub fn finding_on(
     alloc: Global,
     world: &Topology,
     segments: Vec<Segment>,
-) -> Result<Finding, AllocError>
+    more: More,
+) -> Result<Told, AllocError>
     requires { IsSet world.now segments.items }
-    ensures { IfOk result (IsFindingOn world.now segments.items) }
+    ensures finding { IfOk result (λ told. IsFindingOn world.now segments.items told.finding) }
+    ensures more { IfOk result (λ told. AreMore more world.now segments.items told.finding
+        (string_bytes told.lines)) }
 {
     let Ok(verdict) = audit(alloc, world, &segments) else {
         return Err(AllocError);
     };
     match verdict {
-        Verdict::Accepted(order) => {
-            let report = report_of(alloc, world, &order, segments)?;
-            Ok(Finding::Accepted(report))
+        Verdict::Accepted(order) => told_of_run(alloc, world, &order, segments, more),
+        Verdict::Refused(stops) => {
+            let lines = more_of_stops(alloc, more, world, &segments, stops.as_slice())?;
+            Ok(Told {
+                finding: Finding::Refused(stops),
+                lines,
+            })
         }
-        Verdict::Refused(stops) => Ok(Finding::Refused(stops)),
     }
 }
 
-/// The report on the run in which the sites take their entries in this order.
-fn report_of(
+/// The report on the run in which the sites take their entries in this order, with more lines of it.
+fn told_of_run(
     alloc: Global,
     world: &Topology,
     order: &Order,
     segments: Vec<Segment>,
-) -> Result<Report, AllocError>
+    more: More,
+) -> Result<Told, AllocError>
     requires set { IsSet world.now segments.items }
     requires order { IsOrderOf world.now segments.items order.now }
-    ensures { IfOk result (IsReportOn world.now segments.items) }
+    ensures finding { IfOk result (λ told. IsFindingOn world.now segments.items told.finding) }
+    ensures more { IfOk result (λ told. AreMore more world.now segments.items told.finding
+        (string_bytes told.lines)) }
 {
+    let listed = more_of_order(alloc, more, order.as_slice(), &segments)?;
     let events = run_of(alloc, order, segments)?;
-    let controllers = controllers_after(alloc, world, &events)?;
-    Report::new(alloc, world, &controllers, &events)
+    let lines = more_of_events(alloc, more, listed, &events)?;
+    let report = report_on(alloc, world, &events)?;
+    Ok(Told {
+        finding: Finding::Accepted(report),
+        lines,
+    })
+}
+
+/// The report on a run.
+fn report_on(
+    alloc: Global,
+    world: &Topology,
+    events: &[WorldEvent<Event, Message>],
+) -> Result<Report, AllocError>
+    requires run { IsRun (site_of world.now) events.now }
+    requires of_world { AllByRecursion (λ (e : entries.WorldEvent). is_site world.now e.site ≡ true) events.now }
+    ensures { IfOk result (Reports (site_of world.now) events.now) }
+{
+    let controllers = controllers_after(alloc, world, events)?;
+    Report::new(alloc, world, &controllers, events)
 }

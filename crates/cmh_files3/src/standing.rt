@@ -49,7 +49,7 @@ fn controller_after(
 }
 
 /// Takes an event that the controller accepts.
-fn step(controller: &mut Controller, event: &Event) -> Result<(), AllocError>
+pub fn step(controller: &mut Controller, event: &Event) -> Result<(), AllocError>
     ensures { OnOk result ((outcome : outcomes.Outcome) × Steps controller.old event.now outcome controller.new) }
 {
     match controller.step(event) {

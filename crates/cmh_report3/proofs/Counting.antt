@@ -1,5 +1,5 @@
 -- Messages counted entry by entry.
-use Rattle.std.proofs.Common.{◌≡◌, ℕ, ◌+◌, ◌<◌, List, [], ◌∷◌, ◌++◌, length, get_or, take, refl, sym, ap, ◌∙◌, arith}
+use Rattle.std.proofs.Common.{◌≡◌, ℕ, ◌+◌, ◌<◌, List, [], ◌∷◌, ◌++◌, length, get_or, take, sym, ap, ◌∙◌, arith}
 use Rattle.cmh_model3.specs.Entries.{WorldEvent}
 use Rattle.cmh_report3.specs.Transit.{got_by, got_in, kept, sent_in}
 use Rattle.cmh_report3.proofs.Steps.{took}

@@ -8,7 +8,6 @@ use Rattle.cmh_cycles.specs.FoundCycles.{IsCycleIn, WaitsIn}
 use Rattle.cmh_frames.specs.Paths.{IsCycleOf}
 use Rattle.cmh_frames.proofs.Members.{no_member}
 use Rattle.cmh_frames.proofs.PathLemmas.{path_map}
-use Rattle.cmh_model3.specs.Waits.{IsNext}
 use Rattle.cmh_report3.specs.declared.cycle.CycleNow.{CycleNow}
 use Rattle.cmh_report3.specs.declared.cycle.CycleNow.TheVariants as cycle
 use Rattle.cmh_report3.specs.Reports.{BecameOf, IsLeastLeaver, Leaves, NoCycleOf}

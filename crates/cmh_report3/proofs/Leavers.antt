@@ -4,7 +4,7 @@ use Rattle.std.specs.Prelude.{MatchOption}
 use Rattle.std.proofs.lemmas.Bool.{cases_lt}
 use Rattle.std.proofs.lemmas.List.{get_or_default, take_more}
 use Rattle.cmh_model3.specs.Waits.{IsNext}
-use Rattle.cmh_report3.specs.Reports.{IsLeastLeaver, Leaves}
+use Rattle.cmh_report3.specs.Reports.{Leaves}
 use Rattle.cmh_report3.specs.Inner.Leavers.{IsLeastIn}
 
 abbrev last_of : ℕ → List ℕ → ℕ

@@ -10,3 +10,4 @@ pub mod Naming
 pub mod Ended
 pub mod Newest
 pub mod Told
+pub mod Declaring

@@ -1,5 +1,5 @@
 -- What controllers that stand after the events of a run tell of their processes.
-use Rattle.std.proofs.Common.{◌≡◌, ◌↔◌, ℕ, ◌==◌, ◌||◌, Bool, true, false, List, [], ◌∷◌, map, refl, sym, ap, subst, ◌∙◌, inl, inr, true≢false, if◌then◌else◌}
+use Rattle.std.proofs.Common.{◌≡◌, ◌↔◌, ℕ, ◌==◌, Bool, true, false, List, [], ◌∷◌, map, refl, sym, ap, subst, ◌∙◌, inl, inr, true≢false, if◌then◌else◌}
 use Rattle.std.specs.List.{list_any, AllByRecursion}
 use Rattle.std.proofs.lemmas.Bool.{cases_Bool, eq-eqb, eqb-true, or_cases, or_left, or_right}
 use Rattle.cmh_controller3.specs.Controller as control
@@ -10,7 +10,7 @@ use Rattle.cmh_model3.specs.Journals.{state_after}
 use Rattle.cmh_model3.specs.Runs.{IsRun, entries_of, state_of}
 use Rattle.cmh_model3.specs.State.{State, empty_state, is_blocked}
 use Rattle.cmh_model3.proofs.Facts.{lawful_states}
-use Rattle.cmh_topology3.specs.Topology.{Topology, is_site, site_of, sites_of}
+use Rattle.cmh_topology3.specs.Topology.{Topology, is_site, site_of}
 use Rattle.cmh_report3.specs.Inner.Own.{LeavesOwn}
 use Rattle.cmh_report3.specs.Reports.{StandAfter}
 

@@ -60,10 +60,10 @@ module _ (events : List WorldEvent) (i : ℕ) (e : WorldEvent) (inside : i < len
   rest : List WorldEvent
   rest = drop (i + 1) events
 
-  next_is : clocks_of next ≡ ticked (clocks_of clocks) e
+  pub next_is : clocks_of next ≡ ticked (clocks_of clocks) e
   next_is = fun_ext moved
 
-  next_here : drop i events ≡ e ∷ drop (i + 1) events
+  pub next_here : drop i events ≡ e ∷ drop (i + 1) events
   next_here = ahead events i e inside is
 
   pub room_here : FitClocks (clocks_of clocks) (drop i events) → HasRoom (clock_at clocks e.site) e.entry.event

@@ -13,7 +13,7 @@ use Rattle.cmh_report3.specs.declared.cycle.CycleNow.{CycleNow}
 use Rattle.cmh_report3.specs.declared.cycle.CycleNow.TheVariants as cycle
 use Rattle.cmh_report3.specs.declared.cycle.Deadlock.{Deadlock}
 use Rattle.cmh_report3.specs.Endings.{StandsSince}
-use Rattle.cmh_report3.specs.Laws.{DeclaresLast, EachLayOnCycle, EachWasDeclaredThere, EachWasLeftByMember, NamesLeaver, OfEachDeclared}
+use Rattle.cmh_report3.specs.Laws.{Declares, DeclaresLast, EachLayOnCycle, EachWasDeclaredThere, EachWasLeftByMember, NamesLeaver, OfEachDeclared}
 use Rattle.cmh_report3.specs.Reports.{BecameOf, IsTold, Leaves, NoCycleOf}
 use Rattle.cmh_report3.proofs.Ended.{cycles_stand_or_are_left}
 use Rattle.cmh_report3.proofs.Newest.{newest_is_last}
@@ -35,18 +35,28 @@ module _ (home : ℕ → ℕ) (events : List WorldEvent) (run : IsRun home event
   last_told : (d : Deadlock) → IsDeclared home events d.process → IsTold events d → DeclaresLast home events d.process d.stop
   last_told d declared told = subst (DeclaresLast home events d.process) (sym told.stop_is) (newest_is_last home events d.process declared)
 
-  on_cycle : (i n : ℕ) → DeclaresLast home events i n → OnCycle (stop n events) i
+  its_entry : (i n : ℕ) → DeclaresLast home events i n → Declares home events i n
+  its_entry i n last = record {
+    before = last.before;
+    entry = last.entry;
+    behind = last.behind;
+    events_are = last.events_are;
+    declares = last.declares;
+    stop_is = last.stop_is;
+  }
+
+  pub on_cycle : (i n : ℕ) → Declares home events i n → OnCycle (stop n events) i
   on_cycle i n last =
       let there = (no_phantom home last.before last.entry last.behind (subst (IsRun home) last.events_are run) i last.declares).0 in
       subst (λ m. OnCycle (stop m events) i) (sym last.stop_is) (subst (λ es. OnCycle (stop (stop_of home last.before last.entry) es) i) (sym last.events_are) there)
 
-  has_cycle : (i n : ℕ) (now : CycleNow) → OnCycle (stop n events) i
+  pub has_cycle : (i n : ℕ) (now : CycleNow) → OnCycle (stop n events) i
       → BecameOf (Waits (stop n events)) (StandsSince n events) (λ j k. withdrawn_past n j k (λ s. 0) events ≡ true) i now → now ≢ cycle.None
   has_cycle i n now on became is =
       let none : NoCycleOf (Waits (stop n events)) i = subst (BecameOf (Waits (stop n events)) (StandsSince n events) (λ j k. withdrawn_past n j k (λ s. 0) events ≡ true) i) is became in
       none (i ∷ on.0 ∷ on.1) (refl, path_to_frames (Waits (stop n events)) i (on.0 ∷ on.1) i on.2)
 
-  leaver_of : (i n : ℕ) (now : CycleNow)
+  pub leaver_of : (i n : ℕ) (now : CycleNow)
       → BecameOf (Waits (stop n events)) (StandsSince n events) (λ j k. withdrawn_past n j k (λ s. 0) events ≡ true) i now → NamesLeaver events n now
   leaver_of i n (cycle.Stands members) became = tt
   leaver_of i n cycle.None became = tt
@@ -88,7 +98,7 @@ pub each_lay_on_cycle : EachLayOnCycle
 each_lay_on_cycle =
     each_told (λ home events told. OnCycle (stop told.stop events) told.process × (told.cycle ≢ cycle.None))
     (λ home events run d declared told.
-    let on = on_cycle home events run d.process d.stop (last_told home events run d declared told) in
+    let on = on_cycle home events run d.process d.stop (its_entry home events run d.process d.stop (last_told home events run d declared told)) in
     (on, has_cycle home events run d.process d.stop d.cycle on told.cycle_is))
 
 pub each_was_left_by_member : EachWasLeftByMember

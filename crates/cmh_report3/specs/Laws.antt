@@ -1,4 +1,4 @@
--- The laws of reports: what a report on a run tells of those that are declared.
+-- The laws of reports: what a report on a run tells of those that are declared, and what is told of each declaration.
 use Rattle.std.specs.Prelude.{◌≡◌, ◌≢◌, ◌⊎◌, ℕ, true, List, ◌∷◌, ◌++◌, ⊤, Some}
 use Rattle.std.specs.List.{AllByRecursion}
 use Rattle.cmh_model3.specs.Entries.{WorldEvent}
@@ -12,7 +12,7 @@ use Rattle.cmh_report3.specs.declared.cycle.CycleNow.TheVariants as cycle
 use Rattle.cmh_report3.specs.declared.cycle.Deadlock.{Deadlock}
 use Rattle.cmh_report3.specs.declared.report.Report.{Report}
 use Rattle.cmh_report3.specs.Endings.{StandsSince}
-use Rattle.cmh_report3.specs.Reports.{Leaves, Reports}
+use Rattle.cmh_report3.specs.Reports.{AreTold, Leaves, Reports}
 
 -- This holds of each process that a report on a run tells of as declared.
 abbrev pub OfEachDeclared : ((ℕ → ℕ) → List WorldEvent → Deadlock → Type 0) → Type 0
@@ -47,6 +47,33 @@ NamesLeaver events n now = ⊤
 -- So a report never says that nobody left a cycle.
 abbrev pub EachWasLeftByMember : Type 0
 EachWasLeftByMember = OfEachDeclared (λ home events told. NamesLeaver events told.stop told.cycle)
+
+-- This holds of each declaration of a run that is told.
+abbrev pub OfEachDeclaration : ((ℕ → ℕ) → List WorldEvent → Deadlock → Type 0) → Type 0
+OfEachDeclaration Holds =
+    (home : ℕ → ℕ) (events : List WorldEvent) (told : List Deadlock) → IsRun home events → AreTold events told
+    → AllByRecursion (Holds home events) told
+
+-- An entry declares the process, and the stop that is told is that of this declaration.
+pub record Declares (home : ℕ → ℕ) (events : List WorldEvent) (i n : ℕ) : Type 0 where
+  pub before : List WorldEvent
+  pub entry : WorldEvent
+  pub behind : List WorldEvent
+  pub events_are : events ≡ before ++ entry ∷ behind
+  pub declares : entry.entry.declared ≡ Some i
+  pub stop_is : n ≡ stop_of home before entry
+
+abbrev pub EachIsDeclaredThere : Type 0
+EachIsDeclaredThere = OfEachDeclaration (λ home events told. Declares home events told.process told.stop)
+
+-- Its process lay on a cycle of waits at that stop, and what is told is what became of one.
+abbrev pub EachHasCycle : Type 0
+EachHasCycle = OfEachDeclaration (λ home events told.
+    OnCycle (stop told.stop events) told.process × (told.cycle ≢ cycle.None))
+
+-- Where it tells that the cycle was left, it names a member that has withdrawn from its next past the stop.
+abbrev pub EachHasLeaver : Type 0
+EachHasLeaver = OfEachDeclaration (λ home events told. NamesLeaver events told.stop told.cycle)
 
 -- Of each cycle of each stop of a run the waits stand since, or a member withdrew from its next past the stop.
 abbrev pub CyclesStandOrAreLeft : Type 0

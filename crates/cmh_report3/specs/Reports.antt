@@ -7,7 +7,7 @@ use Rattle.cmh_frames.specs.Paths.{IsCycleOf}
 use Rattle.cmh_cycles.specs.Cycles.{IsFirstCycleOf}
 use Rattle.cmh_controller3.specs.Controller as control
 use Rattle.cmh_model3.specs.Entries.{WorldEvent}
-use Rattle.cmh_model3.specs.Runs.{IsDeclared, state_of}
+use Rattle.cmh_model3.specs.Runs.{IsDeclared, IsRun, state_of}
 use Rattle.cmh_model3.specs.Stops.{stop, withdrawn_past}
 use Rattle.cmh_model3.specs.Waits.{Waits, IsNext}
 use Rattle.cmh_topology3.specs.Topology.{Topology, is_site, site_of, sites_of}
@@ -15,7 +15,7 @@ use Rattle.cmh_report3.specs.declared.cycle.CycleNow.{CycleNow}
 use Rattle.cmh_report3.specs.declared.cycle.CycleNow.TheVariants as cycle
 use Rattle.cmh_report3.specs.declared.cycle.Deadlock.{Deadlock}
 use Rattle.cmh_report3.specs.declared.report.Report.{Report}
-use Rattle.cmh_report3.specs.Declarations.{newest_stop}
+use Rattle.cmh_report3.specs.Declarations.{declarations, newest_stop}
 use Rattle.cmh_report3.specs.Endings.{StandsSince}
 use Rattle.cmh_report3.specs.Transit.{in_transit}
 
@@ -50,11 +50,25 @@ BecameOf Stood Stands Left i (cycle.Left members by) =
     NoCycleOf Stands i × IsFirstCycleOf Stood i members.items × IsLeastLeaver Left members.items by
 BecameOf Stood Stands Left i cycle.None = NoCycleOf Stood i
 
+-- What is told of a process and a stop is what became of the cycle there.
+abbrev pub TellsCycle : List WorldEvent → Deadlock → Type 0
+TellsCycle events told =
+    BecameOf (Waits (stop told.stop events)) (StandsSince told.stop events)
+    (λ j k. withdrawn_past told.stop j k (λ s. 0) events ≡ true) told.process told.cycle
+
 -- What is told of a declared process: the stop of its newest declaration, and what became of the cycle there.
 pub record IsTold (events : List WorldEvent) (told : Deadlock) : Type 0 where
   pub stop_is : told.stop ≡ newest_stop told.process 0 (λ s. 0) events
-  pub cycle_is : BecameOf (Waits (stop told.stop events)) (StandsSince told.stop events)
-      (λ j k. withdrawn_past told.stop j k (λ s. 0) events ≡ true) told.process told.cycle
+  pub cycle_is : TellsCycle events told
+
+-- Each declaration of the events is told, in their order: with its stop, and with what became of the cycle there.
+pub record AreTold (events : List WorldEvent) (told : List Deadlock) : Type 0 where
+  pub each : map (λ (one : Deadlock). (one.process, one.stop)) told ≡ declarations (λ s. 0) events
+  pub cycles : AllByRecursion (TellsCycle events) told
+
+-- the events are a run, whatever sites their processes have
+abbrev pub AreSomeRun : List WorldEvent → Type 0
+AreSomeRun events = (home : ℕ → ℕ) × IsRun home events
 
 -- ---- the report
 

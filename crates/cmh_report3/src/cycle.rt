@@ -4,7 +4,7 @@ ghost use Rattle.std.specs.Prelude.{◌≡◌, ℕ, IfOk, MatchOption, filter, m
 ghost use Rattle.cmh_report3.specs.Inner.ClockTables.{FitClocks};
 ghost use Rattle.cmh_report3.specs.Inner.Leavers.{IsLeastIn};
 ghost use Rattle.cmh_report3.specs.Inner.Pairs.{has_pair};
-ghost use Rattle.cmh_report3.specs.Reports.{IsTold};
+ghost use Rattle.cmh_report3.specs.Reports.{IsTold, TellsCycle};
 ghost use Rattle.cmh_report3.specs.Inner.Stopped.{IsCycleOfStop};
 
 use crate::pairs::PairSet;
@@ -28,7 +28,7 @@ pub enum CycleNow {
     None,
 }
 
-/// A process that is declared deadlocked.
+/// A process that is declared deadlocked, or was.
 #[derive(Debug, Drop)]
 pub struct Deadlock {
     pub process: ProcId,
@@ -47,6 +47,21 @@ pub fn deadlock_of(
     ensures { IfOk result (λ deadlock. (deadlock.process ≡ process) × IsTold events.now deadlock) }
 {
     let number = newest_stop(alloc, process, events)?;
+    deadlock_at(alloc, process, number, events)
+}
+
+/// What is told of a process that was declared at this stop.
+pub fn deadlock_at(
+    alloc: Global,
+    process: ProcId,
+    number: Stamp,
+    events: &[WorldEvent<Event, Message>],
+) -> Result<Deadlock, AllocError>
+    requires { FitClocks (λ s. 0) events.now }
+    ensures process { IfOk result (λ deadlock. deadlock.process ≡ process) }
+    ensures stop { IfOk result (λ deadlock. deadlock.stop ≡ number) }
+    ensures cycle { IfOk result (TellsCycle events.now) }
+{
     let stop = stop_of(alloc, number, events)?;
     Ok(Deadlock {
         process,

@@ -66,10 +66,10 @@ impl<'a> fmt::Display for Leaving<'a> {
     }
 }
 
-/// Each declared process, with what became of its cycle.
+/// Each of these, with what became of its cycle, on a line of its own.
 #[derive(Drop)]
-struct Deadlocks<'a> {
-    deadlocks: &'a [Deadlock],
+pub struct Deadlocks<'a> {
+    pub deadlocks: &'a [Deadlock],
 }
 
 impl<'a> fmt::Display for Deadlocks<'a> {

@@ -1,7 +1,7 @@
-use Rattle.std.proofs.Common.{ℕ, ◌+◌, Option, Some, take, ◌∙◌, sym, subst}
+use Rattle.std.proofs.Common.{ℕ, ◌+◌, Option, take, ◌∙◌, sym, subst}
 use Rattle.cmh_report3.specs.Inner.Leavers.{IsLeastIn}
 use Rattle.cmh_report3.specs.Inner.Pairs.{has_pair}
-use Rattle.cmh_report3.proofs.Leavers.{hit_here, least_none, miss_here}
+use Rattle.cmh_report3.proofs.Leavers.{hit_here, miss_here}
 use Rattle.cmh_report3.proofs.cycle.least_leaver.Goals as goal
 use Rattle.cmh_report3.proofs.cycle.least_leaver.Goals.{then-has, else-has}
 

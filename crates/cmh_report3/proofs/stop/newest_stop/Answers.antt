@@ -1,7 +1,6 @@
-use Rattle.std.proofs.Common.{◌≡◌, ℕ, Bool, true, false, Option, None, Some, if◌then◌else◌, refl, sym, ap, ◌∙◌}
-use Rattle.std.specs.Option.{option_eq}
+use Rattle.std.proofs.Common.{ℕ, Bool, if◌then◌else◌, sym, ap, ◌∙◌}
 use Rattle.cmh_model3.specs.Stops.{declared_at}
-use Rattle.cmh_report3.specs.Declarations.{is_process, newest_stop}
+use Rattle.cmh_report3.specs.Declarations.{newest_stop}
 use Rattle.cmh_report3.specs.Inner.ClockTables.{clock_at}
 use Rattle.cmh_report3.proofs.Stopping.{fits_on, is_eq, newest_on}
 use Rattle.cmh_report3.proofs.stop.newest_stop.Goals as goal

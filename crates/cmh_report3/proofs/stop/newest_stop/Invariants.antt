@@ -1,4 +1,4 @@
-use Rattle.std.proofs.Common.{◌≡◌, ℕ, drop}
+use Rattle.std.proofs.Common.{◌≡◌, drop}
 use Rattle.cmh_report3.specs.Declarations.{newest_stop}
 use Rattle.cmh_report3.specs.Inner.ClockTables.{FitClocks, clock_at}
 use Rattle.cmh_report3.proofs.stop.newest_stop.Given as goal

@@ -1,7 +1,5 @@
-use Rattle.std.proofs.Common.{◌≡◌, ℕ, ◌+◌, true, false, List, sym, ap, subst, ◌∙◌}
-use Rattle.cmh_model3.specs.Rules.{clock_after}
+use Rattle.std.proofs.Common.{ℕ, ◌+◌, List, sym, ap, subst, ◌∙◌}
 use Rattle.cmh_model3.specs.Stops.{is_within}
-use Rattle.cmh_report3.specs.Inner.ClockTables.{clock_at}
 use Rattle.cmh_report3.proofs.Stopping.{IsStopSoFar, stop_past, stop_within}
 use Rattle.cmh_report3.proofs.stop.stop_of.Goals as goal
 use Rattle.cmh_report3.proofs.stop.stop_of.Goals.{then-is_within+in_ok-take_event, else-is_within+in_ok-add_ended+in_ok-add_left}

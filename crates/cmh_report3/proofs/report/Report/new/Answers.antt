@@ -1,4 +1,4 @@
-use Rattle.std.proofs.Common.{◌≡◌, ◌↔◌, ℕ, true, List, map, refl, sym, ◌∙◌}
+use Rattle.std.proofs.Common.{ℕ, List, map, refl, sym, ◌∙◌}
 use Rattle.cmh_frames.proofs.Members.{found_at, found_from}
 use Rattle.cmh_report3.specs.declared.cycle.Deadlock.{Deadlock}
 use Rattle.cmh_report3.proofs.Fitting.{run_fits}
