@@ -11,7 +11,7 @@ use Rattle.cmh_resume3.specs.declared.sender.State.{State}
 use Rattle.cmh_resume3.specs.declared.sender.State.TheVariants.{Down, Asked, Running, Refused, Mismatched}
 use Rattle.cmh_resume3.specs.declared.sender.Task.{Task}
 use Rattle.cmh_resume3.specs.declared.sender.Task.TheVariants.{Rest, Dial, End, Note}
-use Rattle.cmh_resume3.specs.Inner.Within.{IsWithin}
+use Rattle.cmh_resume3.specs.Within.{IsWithin}
 use Rattle.cmh_resume3.specs.Sender.{IsAsked, IsOpen, IsRunning, Sender, StandsFor, ended_state, known_to, next_of, noted_state, sent, state_by, with_kept, with_state}
 
 -- ---- states

@@ -14,7 +14,7 @@ use Rattle.cmh_resume3.specs.declared.sender.State.TheVariants.{Down, Asked, Run
 use Rattle.cmh_resume3.specs.Laws.{AllResume, Arrives, IsExact, Resumes, WorldMoments}
 use Rattle.cmh_resume3.specs.Link.{Link, IsNewest, at_one, new_link, receipts, silent_line, with_frame}
 use Rattle.cmh_resume3.specs.Moments.{Moment, Moments, Wrote, Synced, Handed, SenderOpened, Dialled, HeardAnswer, HeardAcknowledgement, HeardRefusal, WroteOn, SenderEnded, SenderTurned, SenderTicked, Claimed, HelloRefused, Took, ReceiverSynced, Acknowledged, ReceiverHeard, ReceiverRested, ReceiverClosed, ReceiverOpened, Lost}
-use Rattle.cmh_resume3.specs.Inner.Within.{IsWithin}
+use Rattle.cmh_resume3.specs.Within.{IsWithin}
 use Rattle.cmh_resume3.specs.Sender.{HearsAcknowledgement, HearsAnswer, IsAsked, IsOpen, IsRunning, Sender, StandsFor, WritesNext, known_to, next_of, pause_of, sent, spoke_of, task_of, with_kept, with_state}
 use Rattle.cmh_resume3.proofs.Ends.{IsQuieter, quiet_by, quiet_down, quiet_ended, quiet_mismatched, quiet_noted, quiet_refused, sent_all, sent_known, stands_known, stands_more, stands_still, within_more, within_next}
 use Rattle.cmh_resume3.proofs.Lines.{LineFits, line_apart, line_claimed, line_left, line_longer, line_older, line_passed, line_quieter, line_read, line_said, line_started, line_synced, line_taken, line_unclaimed, line_written}

@@ -3,4 +3,4 @@ pub mod Receiver
 pub mod Link
 pub mod Moments
 pub mod Laws
-pub mod Inner
+pub mod Within

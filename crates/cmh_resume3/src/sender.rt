@@ -3,6 +3,7 @@
 ghost use Rattle.std.specs.Prelude.{◌≡◌, ◌++◌, ◌∷◌, [], ◌<◌, ◌≤◌, ◌+◌, ◌^◌, ◌&&◌, if◌then◌else◌, nat_le, length, take, drop, IsTrue, ◌↔◌, OnErr, OnOk, Err};
 ghost use Rattle.cmh_wire3.specs.Mark.{mark_on};
 ghost use Rattle.cmh_wire3.specs.Wire.{spelled};
+ghost use Rattle.cmh_resume3.specs.Within.{IsWithin};
 ghost use Rattle.cmh_resume3.specs.Sender.{GivesNext, HearsAcknowledgement, HearsAnswer, IsAsked, IsDown, IsRunning, ended_state, fresh_sender, next_pause, noted_state, pause_of, sent, state_by, task_of, with_kept, with_state};
 
 use cmh_hello3::{Acknowledgement, Answer, Mismatch, Refusal};
@@ -91,7 +92,7 @@ pub struct SenderEnd {
 
 impl Model for SenderEnd {
     ghost use Rattle.std.specs.Prelude.{ℕ, List, length, ◌+◌, ◌^◌, ◌<◌};
-    ghost use Rattle.cmh_resume3.specs.Inner.Within.{IsWithin};
+    ghost use Rattle.cmh_resume3.specs.Within.{IsWithin};
     ghost use Rattle.cmh_resume3.specs.Sender.{Sender};
 
     ghost Value = { Sender };
@@ -126,9 +127,17 @@ impl SenderEnd {
 
     /// How the connection stands.
     pub fn state(&self) -> State
-        ensures { result ≡ self.now.state }
+        ensures state { result ≡ self.now.state }
+        ensures within { IsWithin self.now.acked (sent self.now) result }
     {
         self.state
+    }
+
+    /// How many messages it keeps: those that the receiver is not known to have synced.
+    pub fn kept(&self) -> usize
+        ensures { result ≡ length self.now.kept }
+    {
+        self.kept.len()
     }
 
     /// A message of the link is synced. After an error the end is as it was.

@@ -1,0 +1,3 @@
+pub mod Peers
+pub mod Happenings
+pub mod Changes

@@ -1,2 +1,0 @@
--- This crate's own words, of what a type keeps.
-pub mod Within
