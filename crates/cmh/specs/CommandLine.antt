@@ -115,6 +115,16 @@ NamesNoRun matches = (words : ArgMatches)
 abbrev pub NamesRun : ArgMatches → Type 0
 NamesRun matches = NamesOption matches (codes "run") (codes "true")
 
+-- the declarations of a run are not asked for
+abbrev pub NamesNoDeclarations : ArgMatches → Type 0
+NamesNoDeclarations matches = (words : ArgMatches)
+    → option_map (λ p. p.1) (subcommand_rows_of matches) ≡ Some (rows_of (found_of words))
+    → IsUnset (one_text (found_of words) (codes "declarations"))
+
+-- they are asked for
+abbrev pub NamesDeclarations : ArgMatches → Type 0
+NamesDeclarations matches = NamesOption matches (codes "declarations") (codes "true")
+
 -- a page is not asked for
 abbrev pub NamesNoPage : ArgMatches → Type 0
 NamesNoPage matches = (words : ArgMatches)

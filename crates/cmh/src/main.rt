@@ -4,12 +4,12 @@
 ghost use Rattle.std.specs.Prelude.{◌≡◌, ℕ, List, Option, Some, codes};
 ghost use Rattle.clap.specs.Matches.{found_of, one_text};
 ghost use Rattle.cmh_commands.specs.Drawing.{DrawsFiles, DrawsSome, part_between};
-ghost use Rattle.cmh_commands.specs.Files.{AuditsFiles, AuditsSomehow, ExplainsFiles, IsUnset, ListsFiles, ShowsFiles};
+ghost use Rattle.cmh_commands.specs.Files.{AuditsFiles, AuditsSomehow, DeclaresFiles, ExplainsFiles, IsUnset, ListsFiles, ShowsFiles};
 ghost use Rattle.cmh_commands.specs.NewWorld.{WorldEnds};
 ghost use Rattle.cmh_commands.specs.Numbers.{TellsNumber};
 ghost use Rattle.cmh_commands.specs.Paging.{PagesFiles, PlaysToPage};
 ghost use Rattle.cmh_commands.specs.Playing.{PlaysAlone, PlaysScript};
-ghost use Rattle.cmh.specs.CommandLine.{IsEnd, NamesAudit, NamesCluster, NamesColumn, NamesDraw, NamesEdition, NamesFolder, NamesNewWorld, NamesNoEdition, NamesNoFolder, NamesNoPage, NamesNoPageFile, NamesNoReasons, NamesNoRun, NamesNoStrictness, NamesNothing, NamesOption, NamesPage, NamesPlay, NamesReasons, NamesRun, NamesShow, NamesSite, NamesSiteNumber, NamesStrictness, ReadsNoInput};
+ghost use Rattle.cmh.specs.CommandLine.{IsEnd, NamesAudit, NamesCluster, NamesColumn, NamesDeclarations, NamesDraw, NamesEdition, NamesFolder, NamesNewWorld, NamesNoDeclarations, NamesNoEdition, NamesNoFolder, NamesNoPage, NamesNoPageFile, NamesNoReasons, NamesNoRun, NamesNoStrictness, NamesNothing, NamesOption, NamesPage, NamesPlay, NamesReasons, NamesRun, NamesShow, NamesSite, NamesSiteNumber, NamesStrictness, ReadsNoInput};
 ghost use Rattle.cmh.specs.Playing.{PlaysEdition3};
 ghost use Rattle.cmh_folder3.specs.Plays.{PlaysInto};
 ghost use Rattle.cmh.specs.Serving.{ServesCluster, ServesSite, ServesSome, ServesStrictly};
@@ -235,13 +235,16 @@ where
     ensures plays_edition3_into { NamesPlay matches.now → (edition folder : List ℕ) → NamesEdition matches.now edition
         → NamesFolder matches.now folder → PlaysInto input.old input.new out.old out.new err.old err.new result }
 
-    // Where an audit is named, files are audited; the reasons for stops, or a run, are told where they are asked for.
+    // Where an audit is named, files are audited; the reasons for stops, a run, or its declarations, are told where they
+    // are asked for.
     ensures audits { NamesAudit matches.now → NamesNoReasons matches.now → NamesNoRun matches.now
-        → AuditsFiles out.old out.new err.old err.new result }
+        → NamesNoDeclarations matches.now → AuditsFiles out.old out.new err.old err.new result }
     ensures explains { NamesAudit matches.now → NamesReasons matches.now
         → ExplainsFiles out.old out.new err.old err.new result }
     ensures lists { NamesAudit matches.now → NamesNoReasons matches.now → NamesRun matches.now
         → ListsFiles out.old out.new err.old err.new result }
+    ensures declares { NamesAudit matches.now → NamesNoReasons matches.now → NamesNoRun matches.now
+        → NamesDeclarations matches.now → DeclaresFiles out.old out.new err.old err.new result }
     ensures audits_some { NamesAudit matches.now → AuditsSomehow out.old out.new err.old err.new result }
 
     // Where `show` or `draw` is named, lines of journals are written, or a picture of the kind and the format asked for, or
