@@ -16,7 +16,7 @@ module _ {E F : Type 0} (got : ℕ → E → List F) (sites : List ℕ) where
   -- ---- one entry is taken
 
   module _ (k : ℕ) (left left' : List (List (Entry E F))) (old new : Queues F) (order order' : List ℕ) (t : TakesAt got sites k left left' old new order order')
-      (journals : List (List (Entry E F))) (distinct : AreDistinct sites) (long : length left ≡ length sites) (l : k < length left) (m : IsMerging got sites journals left old order) where
+      (first : ℕ → ℕ → List F) (journals : List (List (Entry E F))) (distinct : AreDistinct sites) (long : length left ≡ length sites) (l : k < length left) (m : IsMerging got sites first journals left old order) where
     abbrev entry : Entry E F
     entry = t.takes.0
 
@@ -26,19 +26,20 @@ module _ {E F : Type 0} (got : ℕ → E → List F) (sites : List ℕ) where
     inside : k < length sites
     inside = omega (arith, l, long)
 
-    under_way_more : (a b : ℕ) → receipts got a b (m.events ++ member ∷ []) ++ waiting new a b ≡ sendings a b (m.events ++ member ∷ [])
+    under_way_more : (a b : ℕ) → receipts got a b (m.events ++ member ∷ []) ++ waiting new a b ≡ first a b ++ sendings a b (m.events ++ member ∷ [])
     under_way_more a b =
         ap (λ z. z ++ waiting new a b) (receipts-more got a b m.events member)
         ∙ append_assoc (receipts got a b m.events) (got_on got a b member) (waiting new a b)
         ∙ ap (λ z. receipts got a b m.events ++ z) (t.takes.2 a b)
         ∙ sym (append_assoc (receipts got a b m.events) (waiting old a b) (sent_on a b member))
         ∙ ap (λ z. z ++ sent_on a b member) (m.under_way a b)
-        ∙ sym (sendings-more a b m.events member)
+        ∙ append_assoc (first a b) (sendings a b m.events) (sent_on a b member)
+        ∙ ap (λ z. first a b ++ z) (sym (sendings-more a b m.events member))
 
-    in_order_more : (so_far : List (WorldEvent E F)) → IsBeginningOf so_far (m.events ++ member ∷ []) → (a b : ℕ) → IsBeginningOf (receipts got a b so_far) (sendings a b so_far)
+    in_order_more : (so_far : List (WorldEvent E F)) → IsBeginningOf so_far (m.events ++ member ∷ []) → (a b : ℕ) → IsBeginningOf (receipts got a b so_far) (first a b ++ sendings a b so_far)
     in_order_more so_far begins a b = elim (beginning_push so_far m.events member begins) [
       | inl front ↦ m.in_order so_far front a b
-      | inr all ↦ subst (λ z. IsBeginningOf (receipts got a b z) (sendings a b z)) (sym all) (waiting new a b, under_way_more a b)
+      | inr all ↦ subst (λ z. IsBeginningOf (receipts got a b z) (first a b ++ sendings a b z)) (sym all) (waiting new a b, under_way_more a b)
     ]
 
     left_here : journal_of sites left (site_at sites k) ≡ entry ∷ t.rest
@@ -64,7 +65,7 @@ module _ {E F : Type 0} (got : ℕ → E → List F) (sites : List ℕ) where
           ∙ m.rest x
     ]
 
-    pub merging_more : IsMerging got sites journals left' new order'
+    pub merging_more : IsMerging got sites first journals left' new order'
     merging_more = record {
       events = m.events ++ member ∷ [];
       in_turn = map_push (λ (e : WorldEvent E F). e.site) m.events member ∙ ap (λ z. z ++ site_at sites k ∷ []) m.in_turn ∙ sym t.order_is;
@@ -77,7 +78,7 @@ module _ {E F : Type 0} (got : ℕ → E → List F) (sites : List ℕ) where
       → TakesAt got sites k left left' old new order order' → GoesOn got sites true left left' old new order order'
   goes_one k left left' old new order order' l t = record {
     long = ap length t.left_is ∙ length-set left k t.rest;
-    leads = λ journals distinct long m. merging_more k left left' old new order order' t journals distinct long l m;
+    leads = λ first journals distinct long m. merging_more k left left' old new order order' t first journals distinct long l m;
     less =
         let more = total-set left k t.rest l in
         let is = ap length t.takes.1 in
@@ -88,13 +89,13 @@ module _ {E F : Type 0} (got : ℕ → E → List F) (sites : List ℕ) where
   -- ---- one step after another
 
   pub goes_first : (left : List (List (Entry E F))) (queues : Queues F) (order : List ℕ) → GoesOn got sites false left left queues queues order order
-  goes_first left queues order = record { long = refl; leads = λ journals distinct long m. m; less = (refl, refl, refl) }
+  goes_first left queues order = record { long = refl; leads = λ first journals distinct long m. m; less = (refl, refl, refl) }
 
   pub goes_on : (moved : Bool) (a b c : List (List (Entry E F))) (x y z : Queues F) (p q r : List ℕ) → GoesOn got sites moved a b x y p q → GoesOn got sites true b c y z q r → GoesOn got sites true a c x z p r
-  goes_on moved a b c x y z p q r first next = record {
-    long = next.long ∙ first.long;
-    leads = λ journals distinct long m. next.leads journals distinct (first.long ∙ long) (first.leads journals distinct long m);
-    less = let f = most moved first in let n = next.less in omega (arith, f, n);
+  goes_on moved a b c x y z p q r early next = record {
+    long = next.long ∙ early.long;
+    leads = λ first journals distinct long m. next.leads first journals distinct (early.long ∙ long) (early.leads first journals distinct long m);
+    less = let f = most moved early in let n = next.less in omega (arith, f, n);
   }
     where
       most : (moved : Bool) → GoesOn got sites moved a b x y p q → total b ≤ total a
@@ -102,15 +103,15 @@ module _ {E F : Type 0} (got : ℕ → E → List F) (sites : List ℕ) where
       most false g = let h = ap total g.less.0 in omega (arith, h)
 
   pub goes_no_further : (moved : Bool) (a b c : List (List (Entry E F))) (x y z : Queues F) (p q r : List ℕ) → GoesOn got sites moved a b x y p q → GoesOn got sites false b c y z q r → GoesOn got sites moved a c x z p r
-  goes_no_further true a b c x y z p q r first next = record {
-    long = next.long ∙ first.long;
-    leads = λ journals distinct long m. next.leads journals distinct (first.long ∙ long) (first.leads journals distinct long m);
-    less = let f = first.less in let n = ap total next.less.0 in omega (arith, f, n);
+  goes_no_further true a b c x y z p q r early next = record {
+    long = next.long ∙ early.long;
+    leads = λ first journals distinct long m. next.leads first journals distinct (early.long ∙ long) (early.leads first journals distinct long m);
+    less = let f = early.less in let n = ap total next.less.0 in omega (arith, f, n);
   }
-  goes_no_further false a b c x y z p q r first next = record {
-    long = next.long ∙ first.long;
-    leads = λ journals distinct long m. next.leads journals distinct (first.long ∙ long) (first.leads journals distinct long m);
-    less = (next.less.0 ∙ first.less.0, next.less.1 ∙ first.less.1, next.less.2 ∙ first.less.2);
+  goes_no_further false a b c x y z p q r early next = record {
+    long = next.long ∙ early.long;
+    leads = λ first journals distinct long m. next.leads first journals distinct (early.long ∙ long) (early.leads first journals distinct long m);
+    less = (next.less.0 ∙ early.less.0, next.less.1 ∙ early.less.1, next.less.2 ∙ early.less.2);
   }
 
   pub goes_both : (moved more : Bool) (a b c : List (List (Entry E F))) (x y z : Queues F) (p q r : List ℕ) → GoesOn got sites moved a b x y p q → GoesOn got sites more b c y z q r → GoesOn got sites (moved || more) a c x z p r
@@ -131,15 +132,15 @@ module _ {E F : Type 0} (got : ℕ → E → List F) (sites : List ℕ) where
 
   -- ---- the start
 
-  pub merging_start : (journals : List (List (Entry E F))) (queues : Queues F) → ((a b : ℕ) → waiting queues a b ≡ []) → IsMerging got sites journals journals queues []
-  merging_start journals queues empty = record {
+  pub merging_start : (journals : List (List (Entry E F))) (queues : Queues F) → IsMerging got sites (waiting queues) journals journals queues []
+  merging_start journals queues = record {
     events = [];
     in_turn = refl;
     in_order = λ so_far begins a b. none so_far begins.0 begins.1 a b;
-    under_way = λ a b. empty a b;
+    under_way = λ a b. sym (append-nil (waiting queues a b));
     rest = λ s. refl;
   }
     where
-      none : (so_far rest : List (WorldEvent E F)) → so_far ++ rest ≡ [] → (a b : ℕ) → IsBeginningOf (receipts got a b so_far) (sendings a b so_far)
+      none : (so_far rest : List (WorldEvent E F)) → so_far ++ rest ≡ [] → (a b : ℕ) → IsBeginningOf (receipts got a b so_far) (waiting queues a b ++ sendings a b so_far)
       none [] rest h a b = beginning_nil _
       none (x ∷ xs) rest h a b = absurd (cc h)

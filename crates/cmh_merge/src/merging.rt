@@ -2,7 +2,8 @@
 
 ghost use Rattle.std.specs.Prelude.{◌≡◌, ℕ, ◌<◌, false, List, length, IfOk, MatchBool, map};
 ghost use Rattle.cmh_runs.specs.declared.entry.Entry.{Entry};
-ghost use Rattle.cmh_merge.specs.Merges.{AreDistinct, IsMerge};
+ghost use Rattle.cmh_merge.specs.Merges.{AreDistinct, IsMerge, IsMergeFrom};
+ghost use Rattle.cmh_merge.specs.Queues.{waiting};
 ghost use Rattle.cmh_merge.specs.Inner.Merging.{GoesOn, StuckAt, TakesAt};
 ghost use Rattle.cmh_merge.specs.Walks.{lefts_of, sites_of};
 
@@ -22,9 +23,7 @@ pub struct Merged<W> {
 }
 
 /// Takes entries of the journals of all sites as long as any can be taken: an entry that got nothing, or the next frame of
-/// its link. The only error is out of memory.
-///
-/// Each pass over the sites looks at each once more than it takes entries.
+/// its link. The journals begin with their world, so that nothing is under way at first. The only error is out of memory.
 pub fn merge<E, F: Copy + Drop, W: Walk<E, F>>(
     alloc: Global,
     walks: Vec<SiteWalk<W>>,
@@ -34,8 +33,24 @@ pub fn merge<E, F: Copy + Drop, W: Walk<E, F>>(
     ensures merged { IfOk result (λ merged. IsMerge W.got (sites_of walks.items) (lefts_of W.left walks.items)
         (lefts_of W.left merged.walks.items) merged.order.items) }
 {
+    merge_from(alloc, Queues::new(alloc), walks)
+}
+
+/// The same of journals that begin later, where these frames are under way.
+///
+/// Each pass over the sites looks at each once more than it takes entries.
+pub fn merge_from<E, F: Copy + Drop, W: Walk<E, F>>(
+    alloc: Global,
+    queues: Queues<F>,
+    walks: Vec<SiteWalk<W>>,
+) -> Result<Merged<W>, AllocError>
+    requires distinct { AreDistinct (sites_of walks.items) }
+    ensures sites { IfOk result (λ merged. sites_of merged.walks.items ≡ sites_of walks.items) }
+    ensures merged { IfOk result (λ merged. IsMergeFrom W.got (waiting queues) (sites_of walks.items)
+        (lefts_of W.left walks.items) (lefts_of W.left merged.walks.items) merged.order.items) }
+{
     let mut walks = walks;
-    let mut queues = Queues::new(alloc);
+    let mut queues = queues;
     let mut order = Vec::new(alloc);
     let mut sent = Vec::new(alloc);
     let mut moves = true;
