@@ -5,4 +5,5 @@ pub mod Places
 pub mod Merged
 pub mod Runs
 pub mod Walks
+pub mod Ends
 pub mod Verdicts

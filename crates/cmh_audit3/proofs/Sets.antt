@@ -3,9 +3,9 @@ use Rattle.std.proofs.Common.{◌≡◌, ℕ, ◌==◌, not, Bool, true, false, 
 use Rattle.std.specs.List.{list_any}
 use Rattle.std.proofs.lemmas.Bool.{eqb-true, or_cases, or_parts}
 use Rattle.cmh_frames.specs.Rows.{repeats}
-use Rattle.cmh_topology3.specs.Topology.{Topology, is_site}
+use Rattle.cmh_topology3.specs.Topology.{Topology, is_site, sites_of}
 use Rattle.cmh_segment3.specs.declared.segment.Segment.{Segment}
-use Rattle.cmh_audit3.specs.Set.{IsSet, has_site, is_known, is_of_world, sites_in}
+use Rattle.cmh_audit3.specs.Set.{IsSet, has_site, is_known, is_of_world, lacks_site, sites_in}
 
 none_if : {X : Type 0} (b : Bool) (x : X) (o : Option X) → (if b then Some x else o) ≡ None → (b ≡ false) × (o ≡ None)
 none_if true x o e = absurd (cc e)
@@ -24,14 +24,34 @@ known_in t (g ∷ gs) h s there =
       | inr later ↦ known_in t gs parts.1 s later
     ]
 
--- of segments that are a set, no site is repeated, and each is known
+covered_in : (sites there : List ℕ) → lacks_site sites there ≡ false → (s : ℕ) → has_site sites s ≡ true → has_site there s ≡ true
+covered_in [] there h s known = absurd (true≢false (sym known))
+covered_in (x ∷ sites) there h s known =
+    let parts = or_parts (not (has_site there x)) (lacks_site sites there) h in
+    elim (or_cases (x == s) (has_site sites s) known) [
+      | inl e ↦ subst (λ q. has_site there q ≡ true) (eqb-true x s e) (not_false (has_site there x) parts.0)
+      | inr later ↦ covered_in sites there parts.1 s later
+    ]
+
+-- of segments that are a set, no site is repeated, each is known, and none is missing
 pub record SetParts (t : Topology) (gs : List Segment) : Type 0 where
   pub once : repeats (sites_in gs) ≡ false
   pub known : (s : ℕ) → has_site (sites_in gs) s ≡ true → is_site t s ≡ true
+  pub covered : (s : ℕ) → is_site t s ≡ true → has_site (sites_in gs) s ≡ true
 
 pub set_parts : (t : Topology) (gs : List Segment) → IsSet t gs → SetParts t gs
 set_parts t gs set =
     let a = none_if (list_any (λ (g : Segment). not (is_of_world t.world g)) gs) _ _ set in
     let b = none_if (list_any (λ (g : Segment). not (is_known t g)) gs) _ _ a.1 in
     let c = none_if (repeats (sites_in gs)) _ _ b.1 in
-    record { once = c.0; known = known_in t gs b.0 }
+    let d = none_if (lacks_site (sites_of t) (sites_in gs)) _ _ c.1 in
+    record { once = c.0; known = known_in t gs b.0; covered = covered_in (sites_of t) (sites_in gs) d.0 }
+
+same_if_both : (a b : Bool) → (a ≡ true → b ≡ true) → (b ≡ true → a ≡ true) → a ≡ b
+same_if_both true b to from = sym (to refl)
+same_if_both false true to from = from refl
+same_if_both false false to from = refl
+
+-- so their sites are those of the topology
+pub same_sites : (t : Topology) (gs : List Segment) → IsSet t gs → (s : ℕ) → has_site (sites_in gs) s ≡ is_site t s
+same_sites t gs set s = let parts = set_parts t gs set in same_if_both (has_site (sites_in gs) s) (is_site t s) (parts.known s) (parts.covered s)

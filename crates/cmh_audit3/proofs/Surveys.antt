@@ -3,11 +3,13 @@ use Rattle.std.proofs.Common.{◌≡◌, ◌≢◌, ℕ, zero, suc, ◌+◌, ◌
 use Rattle.std.specs.Prelude.{slice_index_or}
 use Rattle.std.proofs.lemmas.Bool.{cases_eq, eq-eqb, ne_eqb, or_left, or_parts, or_right, true≢false}
 use Rattle.std.proofs.lemmas.List.{map-append, take_more}
+use Rattle.std.proofs.lemmas.Slice.Zip.{all_zipped_more}
 use Rattle.cmh_frames.specs.Rows.{repeats}
 use Rattle.cmh_merge.specs.Merges.{AreDistinct}
 use Rattle.cmh_merge.specs.Merges as merge
 use Rattle.cmh_merge.specs.Walks.{lefts_of, sites_of}
 use Rattle.cmh_merge.specs.declared.walk.SiteWalk.{SiteWalk}
+use Rattle.cmh_controller3.specs.Controller.{Controller}
 use Rattle.cmh_model3.specs.Entries as model
 use Rattle.cmh_topology3.specs.Topology.{Topology}
 use Rattle.cmh_segment3.specs.declared.entry.Entry.{Entry}
@@ -15,7 +17,7 @@ use Rattle.cmh_segment3.specs.declared.segment.Segment.{Segment}
 use Rattle.cmh_segment3.specs.Entries.{step_of}
 use Rattle.cmh_audit3.specs.Journals.{journal_of}
 use Rattle.cmh_audit3.specs.Set.{has_site, sites_in}
-use Rattle.cmh_audit3.specs.Inner.Lawful.{AreLawfulLengths, IsLawfulLength}
+use Rattle.cmh_audit3.specs.Inner.Lawful.{AreLawfulLengths, IsLawfulLength, StandIfLawful, StandsIfLawful}
 use Rattle.cmh_audit3.specs.Inner.Survey.{limit_at, steps_within}
 
 -- ---- one more
@@ -38,17 +40,18 @@ within_more [] (m ∷ ns) g n same = absurd (omega (arith, same))
 within_more (x ∷ gs) [] g n same = absurd (omega (arith, same))
 within_more (x ∷ gs) (m ∷ ns) g n same = ap (λ l. map step_of (take m x.entries) ∷ l) (within_more gs ns g n (let e : suc (length ns) ≡ suc (length gs) = same in omega (arith, e)))
 
--- the walks of the first segments
-pub record Surveying (t : Topology) (segments : List Segment) (i : ℕ) (limits : List ℕ) (walks : List (SiteWalk (List Entry))) : Type 0 where
+-- the walks of the first segments, and their controllers
+pub record Surveying (t : Topology) (segments : List Segment) (i : ℕ) (limits : List ℕ) (walks : List (SiteWalk (List Entry))) (controllers : List Controller) : Type 0 where
   pub lengths : AreLawfulLengths t (take i segments) limits
   pub sites : sites_of walks ≡ sites_in (take i segments)
   pub lefts : lefts_of (λ (w : List Entry). map step_of w) walks ≡ steps_within (take i segments) limits
+  pub stand : StandIfLawful t (take i segments) controllers
 
 pub survey_more :
-    (t : Topology) (segments : List Segment) (i : ℕ) (limits : List ℕ) (walks : List (SiteWalk (List Entry))) (g : Segment) (n : ℕ) (entries : List Entry) → Surveying t segments i limits walks
-    → i < length segments → g ≡ get_or segments i g → IsLawfulLength t g.header.site g.entries n → entries ≡ take n g.entries
-    → Surveying t segments (i + 1) (limits ++ n ∷ []) (walks ++ record { site = g.header.site; walk = entries } ∷ [])
-survey_more t segments i limits walks g n entries so_far l is lawful front =
+    (t : Topology) (segments : List Segment) (i : ℕ) (limits : List ℕ) (walks : List (SiteWalk (List Entry))) (controllers : List Controller) (g : Segment) (n : ℕ) (entries : List Entry) (c : Controller)
+    → Surveying t segments i limits walks controllers → i < length segments → g ≡ get_or segments i g → IsLawfulLength t g.header.site g.entries n → entries ≡ take n g.entries → StandsIfLawful t g.header.site g.entries c
+    → Surveying t segments (i + 1) (limits ++ n ∷ []) (walks ++ record { site = g.header.site; walk = entries } ∷ []) (controllers ++ c ∷ [])
+survey_more t segments i limits walks controllers g n entries c so_far l is lawful front stands =
     let next : take (i + 1) segments ≡ take i segments ++ g ∷ [] = take_more segments i g l ∙ ap (λ y. take i segments ++ y ∷ []) (sym is) in
     let w : SiteWalk (List Entry) = record { site = g.header.site; walk = entries } in
     record {
@@ -60,6 +63,8 @@ survey_more t segments i limits walks g n entries so_far l is lawful front =
           map-append (λ (x : SiteWalk (List Entry)). map step_of x.walk) walks (w ∷ []) ∙ ap (λ l. l ++ map step_of entries ∷ []) so_far.lefts
           ∙ ap (λ es. steps_within (take i segments) limits ++ map step_of es ∷ []) front
           ∙ sym (within_more (take i segments) limits g n (as_many t (take i segments) limits so_far.lengths)) ∙ ap (λ gs. steps_within gs (limits ++ n ∷ [])) (sym next);
+      stand = subst (λ gs. StandIfLawful t gs (controllers ++ c ∷ [])) (sym next)
+          (all_zipped_more (λ (x : Segment) (k : Controller). StandsIfLawful t x.header.site x.entries k) (take i segments) controllers g c so_far.stand stands);
     }
 
 -- ---- by site

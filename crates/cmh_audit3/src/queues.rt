@@ -8,22 +8,22 @@ ghost use Rattle.cmh_audit3.specs.Journals.{journal_of};
 use cmh_model3::SiteId;
 use cmh_segment3::{Entry, Segment};
 use std::alloc::{AllocError, Global};
-use std::collections::VecDeque;
 use std::marker::Model;
 
-/// The entries of a site, the first one first.
+/// The entries of a site.
 #[derive(Debug, Drop)]
 struct Queue {
-    entries: VecDeque<Entry>,
+    /// The first one last, where it can be taken.
+    entries: Vec<Entry>,
 }
 
 impl Model for Queue {
-    ghost use Rattle.std.specs.Prelude.{List};
+    ghost use Rattle.std.specs.Prelude.{List, reverse};
     ghost use Rattle.cmh_segment3.specs.declared.entry.Entry as entry;
 
     ghost Value = { List entry.Entry };
 
-    ghost view = { λ q. q.entries.items };
+    ghost view = { λ q. reverse q.entries.items };
 }
 
 impl Queue {
@@ -32,26 +32,23 @@ impl Queue {
         ensures { result ≡ [] }
     {
         Queue {
-            entries: VecDeque::new(alloc),
+            entries: Vec::new(alloc),
         }
     }
 
-    fn of(alloc: Global, entries: Vec<Entry>) -> Result<Self, AllocError>
-        ensures { IfOk result (λ queue. queue ≡ entries.items) }
+    fn of(entries: Vec<Entry>) -> Self
+        ensures { result ≡ entries.items }
     {
-        let mut left = entries;
-        let mut queue = VecDeque::new(alloc);
-        while let Some(entry) = left.pop() {
-            queue.push_front(entry)?;
-        }
-        Ok(Queue { entries: queue })
+        let mut entries = entries;
+        entries.reverse();
+        Queue { entries }
     }
 
     fn take(&mut self) -> Option<Entry>
         ensures first { result ≡ slice_get self.old 0 }
         ensures moved { self.old ≡ option_to_list result ++ self.new }
     {
-        self.entries.pop_front()
+        self.entries.pop()
     }
 }
 
@@ -93,9 +90,8 @@ impl Queues {
         ensures { OnOk result ((s : ℕ) → queue_at self.new s
             ≡ if site == s then entries.items else queue_at self.old s) }
     {
-        let queue = Queue::of(self.alloc, entries)?;
         self.lengthen(site)?;
-        self.rows[site.get() as usize] = queue;
+        self.rows[site.get() as usize] = Queue::of(entries);
         Ok(())
     }
 

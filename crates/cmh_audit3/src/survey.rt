@@ -3,12 +3,13 @@
 ghost use Rattle.std.specs.Prelude.{◌≡◌, IfOk, map};
 ghost use Rattle.cmh_merge.specs.Walks as walks;
 ghost use Rattle.cmh_segment3.specs.Entries.{step_of};
-ghost use Rattle.cmh_audit3.specs.Inner.Lawful.{AreLawfulLengths};
+ghost use Rattle.cmh_audit3.specs.Inner.Lawful.{AreLawfulLengths, StandIfLawful};
 ghost use Rattle.cmh_audit3.specs.Inner.Survey.{steps_within};
 ghost use Rattle.cmh_audit3.specs.Set.{sites_in};
 
-use crate::lawful::lawful_length;
+use crate::lawful::{Lawful, lawful_length};
 use crate::walk::SegmentWalk;
+use cmh_controller3::Controller;
 use cmh_merge::SiteWalk;
 use cmh_segment3::Segment;
 use cmh_topology3::Topology;
@@ -21,6 +22,8 @@ pub struct Survey<'a> {
     pub limits: Vec<usize>,
     /// A walk through these, of each.
     pub walks: Vec<SiteWalk<SegmentWalk<'a>>>,
+    /// The controller of each. It stands after all entries where they are lawful.
+    pub controllers: Vec<Controller>,
 }
 
 /// Steps the controller of each segment's site through its entries.
@@ -33,19 +36,26 @@ pub fn survey_of<'a>(
     ensures sites { IfOk result (λ survey. walks.sites_of survey.walks.items ≡ sites_in segments.now) }
     ensures walks { IfOk result (λ survey. walks.lefts_of (λ w. map step_of w) survey.walks.items
         ≡ steps_within segments.now survey.limits.items) }
+    ensures controllers { IfOk result (λ survey. StandIfLawful topology.now segments.now survey.controllers.items) }
 {
     let mut limits = Vec::new(alloc);
     let mut walks = Vec::new(alloc);
+    let mut controllers = Vec::new(alloc);
     for segment in segments {
         let site = segment.header.site;
         let entries = segment.entries.as_slice();
-        let lawful = lawful_length(alloc, topology, site, entries)?;
-        let (front, _) = entries.split_at(lawful);
-        limits.push(lawful)?;
+        let Lawful { length, controller } = lawful_length(alloc, topology, site, entries)?;
+        let (front, _) = entries.split_at(length);
+        limits.push(length)?;
         walks.push(SiteWalk {
             site,
             walk: SegmentWalk::new(front),
         })?;
+        controllers.push(controller)?;
     }
-    Ok(Survey { limits, walks })
+    Ok(Survey {
+        limits,
+        walks,
+        controllers,
+    })
 }

@@ -4,10 +4,11 @@ ghost use Rattle.std.specs.Prelude.{◌≡◌, ◌↔◌, IfErr, IfOk};
 ghost use Rattle.cmh_audit3.specs.Journals.{ComeFromRun, journal_of};
 ghost use Rattle.cmh_audit3.specs.Set.{IsSet};
 ghost use Rattle.cmh_audit3.specs.Stops.{AreStops};
-ghost use Rattle.cmh_audit3.specs.Verdicts.{IsAccepted, IsOrderOf, as_result};
+ghost use Rattle.cmh_audit3.specs.Verdicts.{ControllersStand, IsAccepted, IsOrderOf, as_result};
 
 use crate::stops::{Stops, stops_of};
 use crate::survey::{Survey, survey_of};
+use cmh_controller3::Controller;
 use cmh_merge::merge;
 use cmh_model3::SiteId;
 use cmh_segment3::Segment;
@@ -58,8 +59,13 @@ impl Order {
 /// Whether the segments of all sites come from one run.
 #[derive(Debug, Drop)]
 pub enum Verdict {
-    /// They do, and from one in this order.
-    Accepted(Order),
+    /// They do.
+    Accepted {
+        /// The order of such a run.
+        order: Order,
+        /// The controller of each segment's site, in the order of the segments, after all its entries.
+        controllers: Vec<Controller>,
+    },
     /// They don't.
     Refused(Stops),
 }
@@ -82,14 +88,24 @@ pub fn audit(
     // The order is that of such a run.
     ensures order { IfOk result (λ v. IfOk (as_result v) (IsOrderOf topology.now segments.now)) }
 
+    // The controllers stand where the entries of the segments lead.
+    ensures controllers { IfOk result (ControllersStand topology.now segments.now) }
+
     // The stops are the furthest that any run of these segments' beginnings gets.
     ensures stops { IfOk result (λ v. IfErr (as_result v) (AreStops topology.now segments.now)) }
 {
-    let Survey { limits, walks } = survey_of(alloc, topology, segments)?;
+    let Survey {
+        limits,
+        walks,
+        controllers,
+    } = survey_of(alloc, topology, segments)?;
     let merged = merge(alloc, walks)?;
     let stops = stops_of(alloc, topology.sites(), segments, &limits, &merged.walks)?;
     if stops.as_slice().is_empty() {
-        Ok(Verdict::Accepted(Order::new(merged.order)))
+        Ok(Verdict::Accepted {
+            order: Order::new(merged.order),
+            controllers,
+        })
     } else {
         Ok(Verdict::Refused(Stops::new(stops)))
     }

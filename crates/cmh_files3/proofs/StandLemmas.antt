@@ -1,23 +1,18 @@
 -- How a controller comes to stand where the events of a run lead.
-use Rattle.std.proofs.Common.{◌≡◌, ◌≢◌, ℕ, ◌+◌, ◌<◌, List, [], ◌∷◌, ◌++◌, length, map, take, drop, get_or, append-nil, true, refl, sym, ap, ◌∙◌, subst}
-use Rattle.std.specs.List.{AllByRecursion}
+use Rattle.std.proofs.Common.{◌≡◌, ◌≢◌, ℕ, ◌+◌, ◌<◌, List, [], ◌∷◌, ◌++◌, length, take, drop, get_or, append-nil, refl, sym, ap, ◌∙◌, subst}
 use Rattle.std.proofs.lemmas.List.{take_more, take-append-drop}
-use Rattle.std.proofs.lemmas.Slice.Zip.{all_zipped_more}
 use Rattle.cmh_runs.proofs.Journals.{entries_elsewhere, entries_here, entries_of-append, lawful_front, lawful_rest, state_after-append}
 use Rattle.cmh_model3.proofs.Sent.{one_outcome}
 use Rattle.cmh_model3.specs.Entries.{Entry, WorldEvent}
 use Rattle.cmh_model3.specs.Rules.{Sends, after}
 use Rattle.cmh_model3.specs.Journals.{rules_of, state_after}
-use Rattle.cmh_model3.specs.Runs as runs
 use Rattle.cmh_model3.specs.Runs.{IsRun, entries_of}
 use Rattle.cmh_model3.specs.State.{State, empty_state}
-use Rattle.cmh_topology3.specs.Topology.{Topology, is_site, site_of, sites_of}
+use Rattle.cmh_topology3.specs.Topology.{Topology, site_of}
 use Rattle.cmh_controller3.specs.Controller.{Controller, IsNew, home_of, state_of}
 use Rattle.cmh_controller3.specs.Replays.{IsLawful, StandsAfter}
 use Rattle.cmh_controller3.specs.Steps.{Steps, process_in}
 use Rattle.cmh_controller3.specs.declared.outcome.Outcome.{Outcome}
-use Rattle.cmh_report3.specs.Reports.{StandAfter}
-use Rattle.cmh_files3.specs.Inner.Standing.{StandAt}
 
 pub stands_new : (t : Topology) (s : ℕ) (events : List WorldEvent) (c : Controller) → IsNew t s c → StandsAfter t s (entries_of s (take 0 events)) c
 stands_new t s events c new = record { topology = new.topology; site = new.site; state = new.state }
@@ -79,45 +74,3 @@ module _ (t : Topology) (s : ℕ) (events : List WorldEvent) (i : ℕ) (e : Worl
               ∙ sym (state_after-append (rules_of (site_of t) s) empty_state (entries_of s front) (e.entry ∷ []))
               ∙ ap (state_after (site_of t) s empty_state) (sym entries_so_far);
         }
-
--- one more site, and its controller
-pub stand_more : (t : Topology) (events : List WorldEvent) (sites : List ℕ) (i s : ℕ) (controllers : List Controller) (c : Controller)
-    → i < length sites → s ≡ get_or sites i s → StandAt t events (take i sites) controllers → StandsAfter t s (entries_of s events) c
-    → StandAt t events (take (i + 1) sites) (controllers ++ c ∷ [])
-stand_more t events sites i s controllers c h is all one =
-    subst (λ (ss : List ℕ). StandAt t events ss (controllers ++ c ∷ []))
-    (sym (take_more sites i s h ∙ ap (λ y. take i sites ++ y ∷ []) (sym is)))
-    (all_zipped_more (λ p k. StandsAfter t p (entries_of p events) k) (take i sites) controllers s c all one)
-
-stand_sites : (t : Topology) (events : List WorldEvent) (sites : List ℕ) (controllers : List Controller) → StandAt t events sites controllers
-    → map (λ (c : Controller). c.site) controllers ≡ sites
-stand_sites t events [] [] all = refl
-stand_sites t events [] (c ∷ cs) all = absurd all
-stand_sites t events (s ∷ ss) [] all = absurd all
-stand_sites t events (s ∷ ss) (c ∷ cs) all =
-    ap (λ (x : ℕ). x ∷ map (λ (k : Controller). k.site) cs) all.0.site ∙ ap (λ (l : List ℕ). s ∷ l) (stand_sites t events ss cs all.1)
-
-stand_states : (t : Topology) (events : List WorldEvent) (sites : List ℕ) (controllers : List Controller) → StandAt t events sites controllers
-    → AllByRecursion (λ (c : Controller). state_of c ≡ runs.state_of (site_of t) c.site events) controllers
-stand_states t events [] [] all = tt
-stand_states t events [] (c ∷ cs) all = absurd all
-stand_states t events (s ∷ ss) [] all = absurd all
-stand_states t events (s ∷ ss) (c ∷ cs) all =
-    (subst (λ (x : ℕ). state_of c ≡ runs.state_of (site_of t) x events) (sym all.0.site) all.0.state, stand_states t events ss cs all.1)
-
-stand_topologies : (t : Topology) (events : List WorldEvent) (sites : List ℕ) (controllers : List Controller) → StandAt t events sites controllers
-    → AllByRecursion (λ (c : Controller). c.topology ≡ t) controllers
-stand_topologies t events [] [] all = tt
-stand_topologies t events [] (c ∷ cs) all = absurd all
-stand_topologies t events (s ∷ ss) [] all = absurd all
-stand_topologies t events (s ∷ ss) (c ∷ cs) all = (all.0.topology, stand_topologies t events ss cs all.1)
-
--- so a report can be made
-pub stand_after : (t : Topology) (events : List WorldEvent) (controllers : List Controller) → StandAt t events (sites_of t) controllers
-    → AllByRecursion (λ (e : WorldEvent). is_site t e.site ≡ true) events → StandAfter t events controllers
-stand_after t events controllers all known = record {
-  sites = stand_sites t events (sites_of t) controllers all;
-  topologies = stand_topologies t events (sites_of t) controllers all;
-  states = stand_states t events (sites_of t) controllers all;
-  of_world = known;
-}

@@ -1,5 +1,4 @@
 -- The words of the code alone. No contract of what it gives to its callers cites them.
-pub mod Standing
 pub mod Cuts
 pub mod Parts
 pub mod Taken

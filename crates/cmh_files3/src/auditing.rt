@@ -1,13 +1,8 @@
 //! The command `audit` of edition 3: whether the journals of all sites come from one run.
 
 ghost use Rattle.std.specs.Prelude.{◌≡◌, ◌++◌, true, OnOk, IfOk, IfErr, Some, flat_map, map, string_bytes};
-ghost use Rattle.std.specs.List.{AllByRecursion};
-ghost use Rattle.cmh_model3.specs.Entries as entries;
-ghost use Rattle.cmh_model3.specs.Runs.{IsRun};
-ghost use Rattle.cmh_topology3.specs.Topology.{is_site, site_of};
-ghost use Rattle.cmh_report3.specs.Reports.{Reports};
 ghost use Rattle.cmh_audit3.specs.Set.{IsSet};
-ghost use Rattle.cmh_audit3.specs.Verdicts.{IsOrderOf};
+ghost use Rattle.cmh_audit3.specs.Verdicts.{IsOrderOf, StandAtEnds};
 ghost use Rattle.cmh_files.specs.AuditTexts.{cuts_text};
 ghost use Rattle.cmh_files3.specs.Audits as spec;
 ghost use Rattle.cmh_files3.specs.Inner.Cuts.{cut_at};
@@ -17,11 +12,11 @@ ghost use Rattle.cmh_console.specs.Status.{IsStatus};
 
 use crate::audit_fault::AuditFault;
 use crate::more::{More, more_of_events, more_of_order, more_of_stops};
-use crate::standing::controllers_after;
 use cmh_audit3::{Order, Segment, Stop, Stops, Verdict, audit, check_set, read_file, run_of};
 use cmh_console::{Fault, Output, read_topology_file3};
+use cmh_controller3::Controller;
 use cmh_files::Cuts;
-use cmh_model3::{Event, Message, SiteId, WorldEvent};
+use cmh_model3::SiteId;
 use cmh_report3::Report;
 use cmh_topology3::Topology;
 use std::alloc::{AllocError, Global};
@@ -263,7 +258,9 @@ pub fn finding_on(
         return Err(AllocError);
     };
     match verdict {
-        Verdict::Accepted(order) => told_of_run(alloc, world, &order, segments, more),
+        Verdict::Accepted { order, controllers } => {
+            told_of_run(alloc, world, &order, &controllers, segments, more)
+        }
         Verdict::Refused(stops) => {
             let lines = more_of_stops(alloc, more, world, &segments, stops.as_slice())?;
             Ok(Told {
@@ -274,16 +271,19 @@ pub fn finding_on(
     }
 }
 
-/// The report on the run in which the sites take their entries in this order, with more lines of it.
+/// The report on the run in which the sites take their entries in this order, with more lines of it. The controllers are
+/// those of the audit.
 fn told_of_run(
     alloc: Global,
     world: &Topology,
     order: &Order,
+    controllers: &[Controller],
     segments: Vec<Segment>,
     more: More,
 ) -> Result<Told, AllocError>
     requires set { IsSet world.now segments.items }
     requires order { IsOrderOf world.now segments.items order.now }
+    requires stand { StandAtEnds world.now segments.items controllers.now }
     ensures finding { IfOk result (λ told. IsFindingOn world.now segments.items told.finding) }
     ensures more { IfOk result (λ told. AreMore more world.now segments.items told.finding
         (string_bytes told.lines)) }
@@ -291,23 +291,9 @@ fn told_of_run(
     let listed = more_of_order(alloc, more, order.as_slice(), &segments)?;
     let events = run_of(alloc, order, segments)?;
     let lines = more_of_events(alloc, more, listed, &events)?;
-    let report = report_on(alloc, world, &events)?;
+    let report = Report::new(alloc, world, controllers, &events)?;
     Ok(Told {
         finding: Finding::Accepted(report),
         lines,
     })
-}
-
-/// The report on a run.
-fn report_on(
-    alloc: Global,
-    world: &Topology,
-    events: &[WorldEvent<Event, Message>],
-) -> Result<Report, AllocError>
-    requires run { IsRun (site_of world.now) events.now }
-    requires of_world { AllByRecursion (λ (e : entries.WorldEvent). is_site world.now e.site ≡ true) events.now }
-    ensures { IfOk result (Reports (site_of world.now) events.now) }
-{
-    let controllers = controllers_after(alloc, world, events)?;
-    Report::new(alloc, world, &controllers, events)
 }

@@ -13,7 +13,6 @@ mod reason_lines;
 mod run_lines;
 mod showing;
 mod shown;
-mod standing;
 mod stop;
 mod taken;
 mod telling;

@@ -5,6 +5,8 @@ ghost use Rattle.cmh_model3.specs.State.{State};
 ghost use Rattle.cmh_topology3.specs.Topology.{Topology};
 ghost use Rattle.cmh_controller3.specs.Controller.{state_of};
 ghost use Rattle.cmh_controller3.specs.Replays.{StandsAfter};
+ghost use Rattle.cmh_controller3.specs.Steps.{Steps};
+ghost use Rattle.cmh_controller3.specs.declared.outcome.Outcome as outcomes;
 ghost use Rattle.cmh_segment3.specs.Entries.{step_of};
 ghost use Rattle.cmh_audit3.specs.Inner.Lawful as lawful;
 ghost use Rattle.cmh_audit3.specs.Journals.{AreLawful};
@@ -12,9 +14,8 @@ ghost use Rattle.cmh_files3.specs.Reasons.{IsOwnFault, Makes, value};
 
 use crate::difference::first_difference;
 use crate::reason::Reason;
-use crate::standing::step;
 use cmh_controller3::{Controller, Declaration as Declared, Outcome, Refusal};
-use cmh_model3::{Message, SiteId};
+use cmh_model3::{Event, Message, SiteId};
 use cmh_segment3::{Declaration, Entry};
 use cmh_topology3::Topology;
 use std::alloc::{AllocError, Global};
@@ -52,6 +53,16 @@ fn controller_before(
         step(&mut controller, &entry.event)?;
     }
     Ok(controller)
+}
+
+/// Takes an event that the controller accepts.
+fn step(controller: &mut Controller, event: &Event) -> Result<(), AllocError>
+    ensures { OnOk result ((outcome : outcomes.Outcome) × Steps controller.old event.now outcome controller.new) }
+{
+    match controller.step(event) {
+        Ok(_) => Ok(()),
+        Err(_) => Err(AllocError),
+    }
 }
 
 /// What is wrong with an entry by its site's controller before it; `None` where the controller makes it.

@@ -12,7 +12,7 @@ use Rattle.cmh_model3.specs.State.{State, empty_state, is_blocked}
 use Rattle.cmh_model3.proofs.Facts.{lawful_states}
 use Rattle.cmh_topology3.specs.Topology.{Topology, is_site, site_of}
 use Rattle.cmh_report3.specs.Inner.Own.{LeavesOwn}
-use Rattle.cmh_report3.specs.Reports.{StandAfter}
+use Rattle.cmh_report3.specs.Reports.{StandEach}
 
 some_member : (ks : List ℕ) → is_nonempty ks ≡ true → (k : ℕ) × (in_list ks k ≡ true)
 some_member [] h = absurd (true≢false (sym h))
@@ -57,12 +57,12 @@ module _ (t : Topology) (events : List WorldEvent) (run : IsRun (site_of t) even
           | inr later ↦ or_right (F (control.state_of c)) (list_any (λ (d : control.Controller). F (control.state_of d)) cs) (told_by cs all.1 h later)
         ]
 
-    pub told : (cs : List control.Controller) → StandAfter t events cs
+    pub told : (cs : List control.Controller) → StandEach t events cs
         → (list_any (λ (c : control.Controller). F (control.state_of c)) cs ≡ true) ↔ (F (state_of (site_of t) (site_of t p) events) ≡ true)
     told cs stand = (
       told_to cs stand.states,
       λ h. elim (cases_Bool (is_site t (site_of t p))) [
-        | inl known ↦ told_by cs stand.states h (ap (list_any (λ q. q == site_of t p)) stand.sites ∙ known)
+        | inl known ↦ told_by cs stand.states h (stand.sites (site_of t p) ∙ known)
         | inr unknown ↦
             absurd (true≢false (sym h ∙ ap (λ (es : List Entry). F (state_after (site_of t) (site_of t p) empty_state es)) (no_entries (site_of t p) events stand.of_world unknown) ∙ first))
       ],
@@ -77,7 +77,7 @@ module _ (t : Topology) (events : List WorldEvent) (run : IsRun (site_of t) even
     | inr active ↦ absurd (true≢false (sym h ∙ f.undeclared p active))
   ]
 
-  module _ (cs : List control.Controller) (stand : StandAfter t events cs) where
+  module _ (cs : List control.Controller) (stand : StandEach t events cs) where
     pub leaving_told : (j k : ℕ) → (list_any (λ (c : control.Controller). (control.state_of c).leaving j k) cs ≡ true)
         ↔ ((state_of (site_of t) (site_of t j) events).leaving j k ≡ true)
     leaving_told j k = told (λ v. v.leaving j k) j (leaving_own j k) refl cs stand

@@ -1,6 +1,6 @@
 -- What a report says of a run.
-use Rattle.std.specs.Prelude.{◌≡◌, ℕ, ◌≤◌, ◌↔◌, true, List, ◌∷◌, [], length, map, Contains, Option, None, Some}
-use Rattle.std.specs.List.{AllByRecursion}
+use Rattle.std.specs.Prelude.{◌≡◌, ℕ, ◌≤◌, ◌↔◌, ◌==◌, true, List, ◌∷◌, [], length, map, Contains, Option, None, Some}
+use Rattle.std.specs.List.{AllByRecursion, list_any}
 use Rattle.std.specs.List.Sorted.{IsStrictlyIncreasing, IsStrictlySortedBy}
 use Rattle.cmh_frames.specs.Relation.{pair_cmp}
 use Rattle.cmh_frames.specs.Paths.{IsCycleOf}
@@ -10,7 +10,7 @@ use Rattle.cmh_model3.specs.Entries.{WorldEvent}
 use Rattle.cmh_model3.specs.Runs.{IsDeclared, IsRun, state_of}
 use Rattle.cmh_model3.specs.Stops.{stop, withdrawn_past}
 use Rattle.cmh_model3.specs.Waits.{Waits, IsNext}
-use Rattle.cmh_topology3.specs.Topology.{Topology, is_site, site_of, sites_of}
+use Rattle.cmh_topology3.specs.Topology.{Topology, is_site, site_of}
 use Rattle.cmh_report3.specs.declared.cycle.CycleNow.{CycleNow}
 use Rattle.cmh_report3.specs.declared.cycle.CycleNow.TheVariants as cycle
 use Rattle.cmh_report3.specs.declared.cycle.Deadlock.{Deadlock}
@@ -19,9 +19,9 @@ use Rattle.cmh_report3.specs.Declarations.{declarations, newest_stop}
 use Rattle.cmh_report3.specs.Endings.{StandsSince}
 use Rattle.cmh_report3.specs.Transit.{in_transit}
 
--- The controllers of all sites, which stand where the events lead; and no event is of another site.
-pub record StandAfter (t : Topology) (events : List WorldEvent) (controllers : List control.Controller) : Type 0 where
-  pub sites : map (λ (c : control.Controller). c.site) controllers ≡ sites_of t
+-- Controllers of all sites, in any order, which stand where the events lead; and no event is of another site.
+pub record StandEach (t : Topology) (events : List WorldEvent) (controllers : List control.Controller) : Type 0 where
+  pub sites : (s : ℕ) → list_any (λ q. q == s) (map (λ (c : control.Controller). c.site) controllers) ≡ is_site t s
   pub topologies : AllByRecursion (λ (c : control.Controller). c.topology ≡ t) controllers
   pub states : AllByRecursion (λ (c : control.Controller). control.state_of c ≡ state_of (site_of t) c.site events) controllers
   pub of_world : AllByRecursion (λ (e : WorldEvent). is_site t e.site ≡ true) events

@@ -8,7 +8,7 @@ ghost use Rattle.cmh_model3.specs.Lists.{in_list};
 ghost use Rattle.cmh_report3.specs.declared.cycle.Deadlock as cycle;
 ghost use Rattle.cmh_report3.specs.Inner.ClockTables.{FitClocks};
 ghost use Rattle.cmh_model3.specs.Runs.{IsRun};
-ghost use Rattle.cmh_report3.specs.Reports.{IsTold, Reports, StandAfter};
+ghost use Rattle.cmh_report3.specs.Reports.{IsTold, Reports, StandEach};
 ghost use Rattle.cmh_topology3.specs.Topology.{site_of};
 
 use crate::cycle::{Deadlock, deadlock_of};
@@ -37,8 +37,8 @@ pub struct Report {
 }
 
 impl Report {
-    /// The report on the entries of a run of this world. The controllers are those of all its sites, and stand where the
-    /// entries lead.
+    /// The report on the entries of a run of this world. The controllers are those of all its sites, in any order, and stand
+    /// where the entries lead.
     pub fn new(
         alloc: Global,
         topology: &Topology,
@@ -46,7 +46,7 @@ impl Report {
         events: &[WorldEvent<Event, Message>],
     ) -> Result<Report, AllocError>
         requires run { IsRun (site_of topology.now) events.now }
-        requires stand { StandAfter topology.now events.now controllers.now }
+        requires stand { StandEach topology.now events.now controllers.now }
         ensures { IfOk result (Reports (site_of topology.now) events.now) }
     {
         Ok(Report {

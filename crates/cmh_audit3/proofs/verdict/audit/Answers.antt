@@ -6,6 +6,7 @@ use Rattle.cmh_audit3.specs.Set.{sites_in}
 use Rattle.cmh_audit3.specs.Stops.{AreStops}
 use Rattle.cmh_audit3.specs.Verdicts.{IsOrderOf}
 use Rattle.cmh_audit3.specs.Inner.Survey.{stop_at, stops_at}
+use Rattle.cmh_audit3.proofs.Ends.{stand_at_ends}
 use Rattle.cmh_audit3.proofs.Merged.{stops_refuse}
 use Rattle.cmh_audit3.proofs.Places.{lefts_in}
 use Rattle.cmh_audit3.proofs.Sets.{set_parts}
@@ -38,6 +39,11 @@ pub returns-then-is_empty-clause-accepted : goal.returns-then-is_empty-clause-ac
 returns-then-is_empty-clause-accepted c =
     let o = returns-then-is_empty-clause-order c in
     ((λ _. (o.events, o.run, o.kept)), (λ _. refl))
+
+pub returns-then-is_empty-clause-controllers : goal.returns-then-is_empty-clause-controllers
+returns-then-is_empty-clause-controllers c =
+    stand_at_ends c.args.topology.now c.args.segments.now c.new.result c.in_ok-limits.field-0.controllers.items (set_parts c.args.topology.now c.args.segments.now c.requires).once
+    (returns-then-is_empty-clause-order c) c.in_ok-limits.ensures.controllers
 
 pub returns-clause-stops : goal.returns-clause-stops
 returns-clause-stops c =

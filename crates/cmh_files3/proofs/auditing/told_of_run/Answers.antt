@@ -1,13 +1,12 @@
-use Rattle.std.proofs.Common.{◌≡◌, ℕ, true, List, string_bytes, sym, subst, subst₂}
-use Rattle.std.specs.List.{AllByRecursion}
+use Rattle.std.proofs.Common.{ℕ, List, string_bytes, sym, subst, subst₂}
 use Rattle.cmh_model3.specs.Entries.{WorldEvent}
 use Rattle.cmh_model3.specs.Runs.{IsRun}
-use Rattle.cmh_topology3.specs.Topology.{is_site, site_of}
+use Rattle.cmh_topology3.specs.Topology.{site_of}
 use Rattle.cmh_segment3.specs.declared.segment.Segment.{Segment}
 use Rattle.cmh_audit3.specs.Verdicts.{IsOrderOf}
-use Rattle.cmh_report3.specs.Reports.{AreSomeRun, Reports}
+use Rattle.cmh_report3.specs.Reports.{AreSomeRun, Reports, StandEach}
 use Rattle.cmh_files3.specs.Inner.Runs.{IsMoreOfEvents, IsMoreOfOrder}
-use Rattle.cmh_files3.proofs.FindingLemmas.{more_of_run, of_world}
+use Rattle.cmh_files3.proofs.FindingLemmas.{more_of_run, stand_each}
 use Rattle.cmh_files3.proofs.auditing.told_of_run.Goals as goal
 
 pub more_of_events-requires : goal.more_of_events-requires
@@ -15,16 +14,16 @@ more_of_events-requires c =
     subst (λ (es : List WorldEvent). AreSomeRun es) (sym c.deref-2.ensures.value)
     (site_of c.args.world.now, c.in_ok-events.ensures.run c.args.world.now c.requires.order)
 
-pub report_on-requires-clause-run : goal.report_on-requires-clause-run
-report_on-requires-clause-run c =
+pub new-requires-clause-run : goal.new-requires-clause-run
+new-requires-clause-run c =
     subst (λ (es : List WorldEvent). IsRun (site_of c.args.world.now) es) (sym c.deref-3.ensures.value)
     (c.in_ok-events.ensures.run c.args.world.now c.requires.order)
 
-pub report_on-requires-clause-of_world : goal.report_on-requires-clause-of_world
-report_on-requires-clause-of_world c =
+pub new-requires-clause-stand : goal.new-requires-clause-stand
+new-requires-clause-stand c =
     let t = c.args.world.now in
-    subst (λ (es : List WorldEvent). AllByRecursion (λ (e : WorldEvent). is_site t e.site ≡ true) es) (sym c.deref-3.ensures.value)
-    (of_world t c.args.segments.items c.in_ok-events.events.items c.requires.set (c.in_ok-events.ensures.journals t c.requires.order))
+    subst (λ (es : List WorldEvent). StandEach t es c.args.controllers.now) (sym c.deref-3.ensures.value)
+    (stand_each t c.args.segments.items c.in_ok-events.events.items c.args.controllers.now c.requires.set (c.in_ok-events.ensures.journals t c.requires.order) c.requires.stand)
 
 pub returns-clause-finding : goal.returns-clause-finding
 returns-clause-finding c =
