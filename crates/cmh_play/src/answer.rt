@@ -7,9 +7,9 @@ ghost use Rattle.cmh_play.specs.Replies.{reply_text};
 ghost use Rattle.cmh_frames.specs.Texts.{declared_text};
 
 use crate::reply::Reply;
-use crate::tail::Tail;
 use cmh_console::{Output, WriteFault};
 use cmh_frames::{Done, Frame, Probe, ProcId, Reply as Grant, Request};
+use cmh_text::ShortText;
 use std::io::Write;
 
 /// Writes a reply. One that is frequent is put together from its end, which takes less time than to format it.
@@ -19,7 +19,7 @@ pub fn write_reply<W: Write>(out: &mut Output<W>, reply: &Reply) -> Result<(), W
     ensures ok { OnOk result (out.new.has_failed ≡ out.old.has_failed) }
     ensures err { OnErr result (out.new.has_failed ≡ true) }
 {
-    let mut text = Tail::new();
+    let mut text = ShortText::new();
     match reply {
         Reply::Taken(done) => put_taken(&mut text, done),
         Reply::Got(frame, done) => put_got(&mut text, frame, done),
@@ -30,7 +30,7 @@ pub fn write_reply<W: Write>(out: &mut Output<W>, reply: &Reply) -> Result<(), W
 
 /// The text of a step that was taken.
 #[inline(always)]
-fn put_taken(text: &mut Tail, done: &Done)
+fn put_taken(text: &mut ShortText, done: &Done)
     requires { text.old ≡ [] }
     ensures { text.new ≡ reply_text (Reply.Taken done.now) }
 {
@@ -40,7 +40,7 @@ fn put_taken(text: &mut Tail, done: &Done)
 
 /// The text of a frame that was handed over.
 #[inline(always)]
-fn put_got(text: &mut Tail, frame: &Frame, done: &Done)
+fn put_got(text: &mut ShortText, frame: &Frame, done: &Done)
     requires { text.old ≡ [] }
     ensures { text.new ≡ reply_text (Reply.Got frame.now done.now) }
 {
@@ -66,7 +66,7 @@ fn put_got(text: &mut Tail, frame: &Frame, done: &Done)
 
 /// How many frames a step sent, and whom it declared, up to the end of the line.
 #[inline(always)]
-fn put_done(text: &mut Tail, done: &Done)
+fn put_done(text: &mut ShortText, done: &Done)
     requires { text.old ≡ [] }
     ensures text { text.new ≡ decimal done.now.sent ++ declared_text done.now.declared ++ codes "\n" }
     ensures len { length text.new ≤ 35 }
@@ -78,7 +78,7 @@ fn put_done(text: &mut Tail, done: &Done)
 
 /// The process that a step declared, if it declared one.
 #[inline(always)]
-fn put_declared(text: &mut Tail, declared: Option<ProcId>)
+fn put_declared(text: &mut ShortText, declared: Option<ProcId>)
     requires { length text.old ≤ 1 }
     ensures text { text.new ≡ declared_text declared ++ text.old }
     ensures len { length text.new ≤ 14 + length text.old }
@@ -91,7 +91,7 @@ fn put_declared(text: &mut Tail, declared: Option<ProcId>)
 
 /// Two processes with a space between them.
 #[inline(always)]
-fn put_pair(text: &mut Tail, first: ProcId, second: ProcId)
+fn put_pair(text: &mut ShortText, first: ProcId, second: ProcId)
     requires { length text.old ≤ 41 }
     ensures text { text.new ≡ decimal first ++ codes " " ++ decimal second ++ text.old }
     ensures len { length text.new ≤ 9 + length text.old }

@@ -12,7 +12,6 @@ mod play_fault;
 mod playground;
 mod reply;
 mod site;
-mod tail;
 
 pub use crate::draft::Draft;
 pub use crate::keeper::{Folder, Keeper, NoKeeper};

@@ -1,5 +1,5 @@
 -- The links that are cut.
-use Rattle.std.proofs.Common.{◌≡◌, ℕ, Bool, cond, ◌&&◌, ◌||◌, ◌==◌, true, false, List, refl, sym, ap, ◌∙◌, nat_cmp, Ordering}
+use Rattle.std.proofs.Common.{◌≡◌, ℕ, Bool, cond, ◌&&◌, ◌||◌, ◌==◌, true, false, List, refl, sym, ap, nat_cmp, Ordering}
 use Rattle.std.specs.List.{list_any}
 use Rattle.std.specs.Ordering.{ordering_then, is_eq}
 use Rattle.std.specs.Cmp.{both_tied, unsigned_tied}

@@ -1,5 +1,5 @@
 -- The next message of a link.
-use Rattle.std.proofs.Common.{◌≡◌, ℕ, ◌==◌, List, [], ◌∷◌, ◌++◌, drop, if◌then◌else◌, None, Some, refl, sym, ap, subst, ◌∙◌, inl, inr, slice_get}
+use Rattle.std.proofs.Common.{◌≡◌, ℕ, ◌==◌, List, [], ◌∷◌, ◌++◌, drop, if◌then◌else◌, None, Some, refl, ap, subst, ◌∙◌, inl, inr, slice_get}
 use Rattle.std.proofs.lemmas.Bool.{cases_eq, eq-eqb, ne_eqb}
 use Rattle.cmh_controller3.specs.Refusals.{Refuses}
 use Rattle.cmh_controller3.specs.declared.refusal.Refusal.{Refusal}

@@ -1,5 +1,5 @@
 -- One step more of a world that is played.
-use Rattle.std.proofs.Common.{◌≡◌, ◌≢◌, ℕ, zero, suc, ◌+◌, ◌<◌, ◌≤◌, ◌==◌, Bool, true, false, List, [], ◌∷◌, ◌++◌, length, map, get_or, drop, if◌then◌else◌, Option, Some, refl, sym, ap, subst, ◌∙◌, arith}
+use Rattle.std.proofs.Common.{◌≡◌, ℕ, zero, suc, ◌<◌, ◌==◌, List, [], ◌∷◌, ◌++◌, length, map, get_or, drop, if◌then◌else◌, Some, refl, sym, ap, subst, ◌∙◌, arith}
 use Rattle.std.proofs.Math.ListN.{set}
 use Rattle.std.proofs.Math.Seq.{drop-append_seam}
 use Rattle.std.specs.List.{AllByRecursion}
@@ -11,20 +11,16 @@ use Rattle.cmh_controller3.specs.declared.outcome.Outcome.{Outcome}
 use Rattle.cmh_controller3.specs.declared.refusal.Refusal.{Refusal}
 use Rattle.cmh_controller3.specs.Refusals.{Refuses}
 use Rattle.cmh_frames.proofs.Ascending.{head_below}
-use Rattle.cmh_frames.proofs.Each.{all_append}
 use Rattle.cmh_frames.proofs.Members.{increasing_tail}
 use Rattle.cmh_model3.specs.declared.event.Event.{Event}
 use Rattle.cmh_model3.specs.declared.frame.Message.{Message}
 use Rattle.cmh_model3.specs.Entries.{WorldEvent}
 use Rattle.cmh_model3.specs.Journals.{frames_to, message_from}
-use Rattle.cmh_model3.specs.Laws.{entry_at}
 use Rattle.cmh_model3.specs.Rules.{Accepts, Sends, after}
-use Rattle.cmh_model3.specs.Runs.{IsBeginningOf, IsRun, state_of, under_way}
+use Rattle.cmh_model3.specs.Runs.{IsRun, state_of, under_way}
 use Rattle.cmh_model3.specs.Stops.{declared_at}
-use Rattle.cmh_model3.proofs.Extends.{accepted_extends}
 use Rattle.cmh_model3.proofs.Runs.{one_step}
-use Rattle.cmh_report3.specs.Reports.{StandAfter}
-use Rattle.cmh_topology3.specs.Topology.{Topology, is_site, site_of, sites_of}
+use Rattle.cmh_topology3.specs.Topology.{Topology, site_of}
 
 -- where each of these controllers stands
 abbrev pub Stand : (ℕ → ℕ) → List WorldEvent → List control.Controller → Type 0

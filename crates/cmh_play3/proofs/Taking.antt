@@ -1,8 +1,8 @@
 -- A site takes an event: what is held is played still.
-use Rattle.std.proofs.Common.{◌≡◌, ◌≢◌, ℕ, zero, suc, ◌<◌, ◌≤◌, ◌==◌, Bool, true, List, [], ◌∷◌, ◌++◌, length, map, get_or, drop, if◌then◌else◌, Option, Some, refl, sym, ap, subst, ◌∙◌, arith}
+use Rattle.std.proofs.Common.{◌≡◌, ℕ, zero, suc, ◌<◌, ◌==◌, Bool, true, List, [], ◌∷◌, ◌++◌, length, get_or, drop, if◌then◌else◌, Option, refl, sym, ap, subst, ◌∙◌, arith}
 use Rattle.std.proofs.Math.ListN.{set}
 use Rattle.std.proofs.Math.Path.{fun_ext}
-use Rattle.std.specs.List.{AllByRecursion}
+use Rattle.std.specs.List.{list_any}
 use Rattle.std.specs.List.Sorted.{IsStrictlyIncreasing}
 use Rattle.cmh_controller3.specs.Controller as control
 use Rattle.cmh_controller3.specs.Refusals.{Refuses}
@@ -21,9 +21,10 @@ use Rattle.cmh_model3.specs.Runs as runs
 use Rattle.cmh_model3.specs.Runs.{IsBeginningOf, IsRun, state_of}
 use Rattle.cmh_model3.proofs.Extends.{accepted_extends}
 use Rattle.cmh_model3.proofs.Runs.{one_step}
-use Rattle.cmh_report3.specs.Reports.{StandAfter}
+use Rattle.cmh_report3.specs.Reports.{StandEach}
 use Rattle.cmh_topology3.specs.Topology.{Topology, is_site, site_of, sites_of}
-use Rattle.cmh_play3.specs.World.{World, IsReason, Steps}
+use Rattle.cmh_play3.specs.Held.{StandAfter}
+use Rattle.cmh_play3.specs.World.{World, Steps}
 use Rattle.cmh_play3.specs.declared.reply.Done.{Done}
 use Rattle.cmh_play3.proofs.Stepping.{accepts, all_at, all_set, goes_to, links_on, refuses, sends, site_at, sites_in, sites_set, stand_on, stop_is}
 
@@ -36,6 +37,15 @@ pub set_same : {X : Type 0} (xs : List X) (k : ℕ) (x : X) → x ≡ get_or xs 
 set_same [] k x is = refl
 set_same (y ∷ ys) zero x is = ap (λ z. z ∷ ys) is
 set_same (y ∷ ys) (suc k) x is = ap (λ zs. y ∷ zs) (set_same ys k x is)
+
+-- controllers in the order of the topology are those of all sites
+pub stand_each : (t : Topology) (es : List WorldEvent) (cs : List control.Controller) → StandAfter t es cs → StandEach t es cs
+stand_each t es cs stand = record {
+  sites = λ s. ap (list_any (λ q. q == s)) stand.sites;
+  topologies = stand.topologies;
+  states = stand.states;
+  of_world = stand.of_world;
+}
 
 long : (cs : List control.Controller) → length (sites_in cs) ≡ length cs
 long [] = refl

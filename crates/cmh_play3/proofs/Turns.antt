@@ -1,7 +1,6 @@
 -- One line of a script is a turn.
 use Rattle.std.proofs.Common.{◌≡◌, ℕ, List, Option, refl, subst, sym}
 use Rattle.std.specs.Prelude.{MatchOption}
-use Rattle.cmh_model3.specs.Journals.{message_from}
 use Rattle.cmh_model3.specs.declared.event.Event.TheVariants.{Ask, Reply as Reply_event, Withdraw, Got, Turn}
 use Rattle.cmh_script3.specs.Script.{Says}
 use Rattle.cmh_script3.specs.declared.script.Command.TheVariants.{Act, WithdrawAll, Deliver, Cut, Report}

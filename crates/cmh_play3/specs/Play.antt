@@ -10,7 +10,7 @@ use Rattle.cmh_console.specs.declared.faults.Fault.{Fault}
 use Rattle.cmh_console.specs.declared.faults.Fault.TheVariants as faults
 use Rattle.cmh_frames.specs.Rows.{Row}
 use Rattle.cmh_topology3.specs.Rows.{IsFaultOf, fault_of}
-use Rattle.cmh_topology3.specs.Topology.{IsTopologyOf, site_of}
+use Rattle.cmh_topology3.specs.Topology.{IsTopologyOf}
 use Rattle.cmh_model3.specs.Runs.{IsRun}
 use Rattle.cmh_script3.specs.Script.{Says}
 use Rattle.cmh_script3.specs.declared.script.Line.{Line}

@@ -1,5 +1,5 @@
 -- A world that is played: all that happened, which links are cut, and what each command does to them.
-use Rattle.std.specs.Prelude.{◌≡◌, ℕ, Bool, false, true, ◌&&◌, ◌||◌, not, ◌==◌, List, [], ◌∷◌, ◌++◌, length, Option, None, Some, MatchOption}
+use Rattle.std.specs.Prelude.{◌≡◌, ℕ, Bool, false, true, ◌&&◌, ◌||◌, not, ◌==◌, List, [], ◌∷◌, ◌++◌, length, Some, MatchOption}
 use Rattle.cmh_controller3.specs.Refusals.{Refuses}
 use Rattle.cmh_controller3.specs.Steps.{process_in}
 use Rattle.cmh_controller3.specs.declared.outcome.Declaration.{Declaration}
@@ -11,7 +11,7 @@ use Rattle.cmh_model3.specs.declared.frame.Message.{Message}
 use Rattle.cmh_model3.specs.Entries.{WorldEvent}
 use Rattle.cmh_model3.specs.Laws.{entry_at}
 use Rattle.cmh_model3.specs.Rules.{Accepts, Sends}
-use Rattle.cmh_model3.specs.Runs.{IsRun, state_of, under_way}
+use Rattle.cmh_model3.specs.Runs.{state_of, under_way}
 use Rattle.cmh_model3.specs.Stops.{declared_at}
 use Rattle.cmh_report3.specs.Reports.{Reports}
 use Rattle.cmh_script3.specs.declared.script.Command.{Command}

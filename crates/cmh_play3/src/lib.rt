@@ -2,6 +2,7 @@
 //! happened. And the command `play --edition 3`, which drives it by a script.
 #![tactic(auto)]
 
+mod answer;
 mod draft;
 mod links;
 mod play;

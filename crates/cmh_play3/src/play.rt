@@ -11,6 +11,7 @@ ghost use Rattle.cmh_play3.specs.Play.{Answered, IsWorldOf, PlayedTo, Replies, a
 ghost use Rattle.cmh_play3.specs.World.{CarriesOut};
 ghost use Rattle.cmh_script3.specs.Script.{Says};
 
+use crate::answer::write_reply;
 use crate::draft::Draft;
 use crate::playground::Playground;
 use crate::reply::Reply;
@@ -109,7 +110,7 @@ fn answer_all<R: BufRead + Ahead, W: Write>(
         }
         let said = said_by(alloc, next)?;
         let reply = state.answer(alloc, said)?;
-        out.write_text(&reply)?;
+        write_reply(out, &reply)?;
         flush_awaited(out, input.has_line())?;
     }
     Err(DialogueFault::Input)

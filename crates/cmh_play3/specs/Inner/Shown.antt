@@ -1,5 +1,5 @@
 -- What a line does to the state of a script that is held.
-use Rattle.std.specs.Prelude.{◌≡◌, ℕ, List, [], ⊤}
+use Rattle.std.specs.Prelude.{◌≡◌, ℕ, [], ⊤}
 use Rattle.cmh_model3.specs.Journals.{message_from}
 use Rattle.cmh_script3.specs.declared.script.Command.TheVariants.{Act}
 use Rattle.cmh_script3.specs.declared.script.Line.{Line}

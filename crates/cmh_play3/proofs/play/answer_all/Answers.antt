@@ -1,4 +1,4 @@
-use Rattle.std.proofs.Common.{inl, inr, refl, sym, subst, ◌∙◌}
+use Rattle.std.proofs.Common.{inr, refl, sym, subst, ◌∙◌}
 use Rattle.std.proofs.KnownBytes.{Appends-kept}
 use Rattle.cmh_console.proofs.LineLemmas.{unread_err}
 use Rattle.cmh_play3.specs.PlayStates.{PlayState}
@@ -20,8 +20,8 @@ loop-turn-preserved g c = record {
       (talked_more _ _ _ _ _ c.loop-turn.turn c.loop-turn.invariant.talked _ _ c.in_ok-next.next _ _ c.in_ok-next.ensures.line c.in_ok-next.ensures.rest
       (c.is_end.ensures.no c.if-is_end.false)
       (turn_of c.loop-turn.state c.answer.new.self _ c.in_ok-said.said c.in_ok-reply.reply c.in_ok-said.ensures.said c.in_ok-reply.ensures)
-      (Appends-kept _ _ _ _ c.in_ok-write_text.ensures.bytes c.in_ok-flush_awaited.ensures.bytes));
-  unfailed = c.in_ok-flush_awaited.ensures.ok ∙ c.in_ok-write_text.ensures.ok ∙ c.loop-turn.invariant.unfailed;
+      (Appends-kept _ _ _ _ c.in_ok-write_reply.ensures.bytes c.in_ok-flush_awaited.ensures.bytes));
+  unfailed = c.in_ok-flush_awaited.ensures.ok ∙ c.in_ok-write_reply.ensures.ok ∙ c.loop-turn.invariant.unfailed;
 }
 
 pub returns-then-is_end-clause-answers : goal.returns-then-is_end-clause-answers
@@ -47,8 +47,8 @@ returns-in_err-said-clause-answers g c = talked_some _ _ _ _ _ c.loop-turn.turn 
 pub returns-in_err-reply-clause-answers : goal.returns-in_err-reply-clause-answers
 returns-in_err-reply-clause-answers g c = talked_some _ _ _ _ _ c.loop-turn.turn c.loop-turn.invariant.talked _
 
-pub returns-in_err-write_text-clause-answers : goal.returns-in_err-write_text-clause-answers
-returns-in_err-write_text-clause-answers g c = talked_failed _ _ _ _ _ c.loop-turn.turn c.loop-turn.invariant.talked _ _ c.in_err-write_text.ensures.err
+pub returns-in_err-write_reply-clause-answers : goal.returns-in_err-write_reply-clause-answers
+returns-in_err-write_reply-clause-answers g c = talked_failed _ _ _ _ _ c.loop-turn.turn c.loop-turn.invariant.talked _ _ c.in_err-write_reply.ensures.err
 
 pub returns-in_err-flush_awaited-clause-answers : goal.returns-in_err-flush_awaited-clause-answers
 returns-in_err-flush_awaited-clause-answers g c = talked_failed _ _ _ _ _ c.loop-turn.turn c.loop-turn.invariant.talked _ _ c.in_err-flush_awaited.ensures.err

@@ -1,4 +1,4 @@
-use Rattle.std.proofs.Common.{◌≡◌, ◌∷◌, ℕ, List, None, Some, drop, refl, true, ap, sym, subst, ◌∙◌, slice_get}
+use Rattle.std.proofs.Common.{◌≡◌, ℕ, List, None, drop, refl, ap, sym, subst, ◌∙◌, slice_get}
 use Rattle.cmh_model3.specs.declared.event.Event.{Event}
 use Rattle.cmh_model3.specs.declared.event.Event.TheVariants.{Got}
 use Rattle.cmh_model3.specs.declared.frame.Message.{Message}

@@ -3,8 +3,8 @@ use Rattle.cmh_model3.specs.Entries.{WorldEvent}
 use Rattle.cmh_model3.specs.Runs as runs
 use Rattle.cmh_model3.specs.Runs.{IsRun}
 use Rattle.cmh_model3.proofs.Extends.{nothing_is_run}
-use Rattle.cmh_report3.specs.Reports.{StandAfter}
 use Rattle.cmh_topology3.specs.Topology.{Topology, site_of}
+use Rattle.cmh_play3.specs.Held.{StandAfter}
 use Rattle.cmh_play3.proofs.playground.Playground.new.Goals as goal
 
 pub returns-clause-played : goal.returns-clause-played

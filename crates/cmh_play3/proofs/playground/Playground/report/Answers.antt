@@ -1,9 +1,17 @@
-use Rattle.std.proofs.Common.{List, refl, sym, subst}
+use Rattle.std.proofs.Common.{List, refl, sym, subst, subst₂}
+use Rattle.cmh_controller3.specs.Controller.{Controller}
 use Rattle.cmh_model3.specs.Entries.{WorldEvent}
-use Rattle.cmh_report3.specs.Reports.{Reports}
+use Rattle.cmh_report3.specs.Reports.{Reports, StandEach}
 use Rattle.cmh_report3.specs.declared.report.Report.{Report}
 use Rattle.cmh_topology3.specs.Topology.{site_of}
+use Rattle.cmh_play3.proofs.Taking.{stand_each}
 use Rattle.cmh_play3.proofs.playground.Playground.report.Goals as goal
+
+pub new-requires-clause-stand : goal.new-requires-clause-stand
+new-requires-clause-stand c =
+    let held = c.args.self.now in
+    subst₂ (λ (es : List WorldEvent) (cs : List Controller). StandEach held.topology es cs) (sym c.deref-2.ensures.value) (sym c.deref.ensures.value)
+    (stand_each held.topology held.events.items held.controllers.items c.requires.stand)
 
 pub returns : goal.returns
 returns c =

@@ -8,8 +8,8 @@ use Rattle.cmh_model3.specs.Journals.{frames_to, message_from}
 use Rattle.cmh_model3.specs.Laws.{entry_at}
 use Rattle.cmh_model3.specs.Runs as runs
 use Rattle.cmh_model3.specs.Runs.{IsRun}
-use Rattle.cmh_report3.specs.Reports.{StandAfter}
 use Rattle.cmh_topology3.specs.Topology.{site_of}
+use Rattle.cmh_play3.specs.Held.{StandAfter}
 use Rattle.cmh_play3.specs.Links.{is_cut, under_way}
 use Rattle.cmh_play3.proofs.Taking.{links_now, longer, refuses_it, set_same, stand_now, steps_now}
 use Rattle.cmh_play3.proofs.playground.Playground.step.Goals as goal

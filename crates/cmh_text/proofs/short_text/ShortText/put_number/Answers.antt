@@ -1,7 +1,7 @@
 use Rattle.std.proofs.Common.{length, drop, arith, ap, length-drop, length-append}
 use Rattle.std.specs.Fmt.{decimal}
 use Rattle.std.proofs.lemmas.Fmt.{length-decimal-le}
-use Rattle.cmh_play.proofs.tail.Tail.put_number.Goals as goal
+use Rattle.cmh_text.proofs.short_text.ShortText.put_number.Goals as goal
 
 pub write_digits-self-inside-requires : goal.write_digits-self-inside-requires
 write_digits-self-inside-requires c =

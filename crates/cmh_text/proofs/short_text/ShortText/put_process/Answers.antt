@@ -1,7 +1,7 @@
 use Rattle.std.proofs.Common.{length, ap, arith, length-append}
 use Rattle.std.specs.Fmt.{decimal}
 use Rattle.std.proofs.lemmas.Fmt.{length-decimal-le}
-use Rattle.cmh_play.proofs.tail.Tail.put_process.Goals as goal
+use Rattle.cmh_text.proofs.short_text.ShortText.put_process.Goals as goal
 
 pub returns-clause-len : goal.returns-clause-len
 returns-clause-len c =
