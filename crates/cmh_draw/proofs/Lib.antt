@@ -3,3 +3,4 @@ pub mod ColumnLemmas
 pub mod SizeLemmas
 pub mod StepLemmas
 pub mod MarkLemmas
+pub mod ArrowLemmas

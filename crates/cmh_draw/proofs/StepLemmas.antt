@@ -1,5 +1,5 @@
 -- The steps of a cycle, member by member and as pairs.
-use Rattle.std.proofs.Common.{◌≡◌, ℕ, Bool, false, true, ◌&&◌, ◌||◌, ◌==◌, List, [], ◌∷◌, refl, ap, ◌∙◌}
+use Rattle.std.proofs.Common.{◌≡◌, ℕ, Bool, false, true, ◌&&◌, ◌||◌, ◌==◌, List, [], ◌∷◌, refl, ap}
 use Rattle.cmh_draw.specs.Inner.Steps.{steps, has_step}
 
 no_step : (b : Bool) → ((b && false) || false) ≡ false

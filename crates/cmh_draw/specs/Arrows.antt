@@ -1,5 +1,5 @@
 -- The frames of a run as arrows: from the entry that sent a frame to the entry that got it.
-use Rattle.std.specs.Prelude.{ℕ, ◌-◌, Bool, not, ◌==◌, if◌then◌else◌, List, [], ◌∷◌, ◌++◌, get_or, map, slice_get, slice_index, option_map, None}
+use Rattle.std.specs.Prelude.{ℕ, ◌-◌, ◌<◌, Bool, not, ◌==◌, if◌then◌else◌, List, [], ◌∷◌, ◌++◌, get_or, map, slice_get, slice_index, option_map, None, IfSome}
 use Rattle.cmh_frames.specs.declared.frame.Frame.{Frame}
 use Rattle.cmh_frames.specs.Journals.{frame_from}
 use Rattle.cmh_frames.specs.Topology.{Topology, is_site, sites_of}
@@ -40,3 +40,7 @@ arrows_of t journals columns = each_from (λ row site.
     (sent_where (λ x. x == to) (spot_of columns row site) (journal_of journals site))
     (got_from site (journal_of journals to))) 0 (sites_of t)
     ++ sent_where (λ to. not (is_site t to)) (spot_of columns row site) (journal_of journals site)) 0 (sites_of t)
+
+-- an arrow goes forward in time: the entry that got the frame, if one did, stands on the right of the one that sent it
+abbrev pub IsForward : Arrow → Type 0
+IsForward arrow = IfSome arrow.got (λ (got : EntrySpot). arrow.from.spot.column < got.spot.column)

@@ -1,5 +1,5 @@
 -- What is drawn.
-use Rattle.std.specs.Prelude.{◌≡◌, ℕ, ◌≤◌, Bool, false, ◌&&◌, ◌==◌, List, [], ◌∷◌, ◌++◌, drop, length, map, None, unwrap_or, zip}
+use Rattle.std.specs.Prelude.{◌≡◌, ℕ, ◌≤◌, Bool, false, ◌&&◌, ◌==◌, List, [], ◌∷◌, ◌++◌, drop, length, map, None, unwrap_or, zip, ⊤}
 use Rattle.std.specs.List.{AllByRecursion, list_any}
 use Rattle.std.specs.Option.{option_map, option_map_or}
 use Rattle.cmh_frames.specs.Rules.{IsAscending}
@@ -10,8 +10,9 @@ use Rattle.cmh_audit.specs.Journals.{journal_of}
 use Rattle.cmh_audit.specs.Reports.{Report, cycle_of}
 use Rattle.cmh_audit.specs.declared.verdict.Verdict.{Verdict}
 use Rattle.cmh_audit.specs.declared.verdict.Verdict.TheVariants.{Accepted, Refused}
-use Rattle.cmh_draw.specs.Arrows.{arrows_of, spot_of}
+use Rattle.cmh_draw.specs.Arrows.{IsForward, arrows_of, spot_of}
 use Rattle.cmh_draw.specs.Each.{each_from, number_from}
+use Rattle.cmh_draw.specs.declared.mark.Arrow as arrows
 use Rattle.cmh_draw.specs.declared.mark.Declared.{Declared}
 use Rattle.cmh_draw.specs.declared.mark.DrawnEvent.TheVariants.{Older}
 use Rattle.cmh_draw.specs.declared.mark.Mark as marks
@@ -43,12 +44,19 @@ entry_marks t journals columns = each_from (λ row site. each_from (λ number (e
     (record { at = spot_of columns row site number; event = Older e.event; declared = option_map older_declared e.declared }) ∷ []) 1
     (journal_of journals site)) 0 (sites_of t)
 
+-- in a picture of journals that come from a run, each arrow goes forward in time
+abbrev pub AreForward : Verdict → List arrows.Arrow → Type 0
+AreForward (Accepted report) drawn = AllByRecursion IsForward drawn
+AreForward (Refused stops) drawn = ⊤
+
 -- The picture of a run: each site, each frame, each entry and each stop once, and nothing else. Each entry has a column
--- of its own among those of its site, and a place within the picture.
+-- of its own among those of its site, ascending, and a place within the picture; an entry that got a frame stands on the
+-- right of the one that sent it.
 pub record IsRunPicture (t : Topology) (journals : List Journal) (verdict : Verdict) (picture : Picture) : Type 0 where
   pub columns : List (List ℕ)
   pub lengths_are : map (λ of. length of) columns ≡ map (λ site. length (journal_of journals site)) (sites_of t)
   pub are_ascending : AllByRecursion IsAscending columns
+  pub are_forward : AreForward verdict (arrows_of t journals columns)
   pub are_within : AllByRecursion (λ of. AllByRecursion (λ column. column ≤ picture.columns) of) columns
   pub kind_is : picture.kind ≡ Run
   pub edition_is : picture.may_withdraw ≡ false

@@ -1,6 +1,7 @@
 //! The frames of a run as arrows: from the entry that sent a frame to the entry that got it.
 
 ghost use Rattle.std.specs.Prelude.{◌≡◌, ◌++◌, None, IfOk, OnOk, map, option_map, slice_get};
+ghost use Rattle.std.specs.List.{AllByRecursion, list_all};
 ghost use Rattle.cmh_frames.specs.Journals.{frame_from};
 ghost use Rattle.cmh_audit.specs.Journals.{journal_of};
 ghost use Rattle.cmh_draw.specs.Arrows as spec;
@@ -214,4 +215,38 @@ fn add_got(
         _ => {}
     }
     Ok(())
+}
+
+/// These arrows, each of which goes forward in time.
+///
+/// Those of a run do, by the columns that are found for it. If one did not, that would count as out of memory.
+pub fn forward(arrows: Vec<Arrow>) -> Result<Vec<Arrow>, AllocError>
+    ensures same { IfOk result (λ all. all.items ≡ arrows.items) }
+    ensures forward { IfOk result (λ all. AllByRecursion spec.IsForward all.items) }
+{
+    if go_forward(&arrows) {
+        Ok(arrows)
+    } else {
+        Err(AllocError)
+    }
+}
+
+fn go_forward(arrows: &[Arrow]) -> bool
+    ensures { result ≡ list_all inner.is_forward arrows.now }
+{
+    for arrow in arrows {
+        if !is_forward(arrow) {
+            return false;
+        }
+    }
+    true
+}
+
+fn is_forward(arrow: &Arrow) -> bool
+    ensures { result ≡ inner.is_forward arrow.now }
+{
+    match arrow.got {
+        Some(got) => arrow.from.spot.column < got.spot.column,
+        None => true,
+    }
 }

@@ -10,7 +10,7 @@ mod running;
 mod size;
 mod waiting;
 
-pub use crate::arrows::{pair_up, spot_of};
+pub use crate::arrows::{forward, pair_up, spot_of};
 pub use crate::columns::{Columns, checked, search_by};
 pub use crate::drawn_run::Line;
 pub use crate::mark::{

@@ -2,14 +2,13 @@
 
 ghost use Rattle.std.specs.Prelude.{◌≡◌, ◌≤◌, ◌++◌, IfOk, OnOk, length, map, option_map};
 ghost use Rattle.cmh_audit.specs.Journals.{journal_of};
-ghost use Rattle.cmh_draw.specs.Arrows.{arrows_of};
 ghost use Rattle.cmh_draw.specs.Each.{number_from};
 ghost use Rattle.cmh_draw.specs.Inner.Marks.{entry_marks, stop_mark};
 ghost use Rattle.cmh_draw.specs.Marks as spec;
-ghost use Rattle.cmh_draw.specs.Marks.{IsRunPicture, older_declared};
+ghost use Rattle.cmh_draw.specs.Marks.{AreForward, IsRunPicture, older_declared};
 ghost use Rattle.cmh_draw.specs.declared.mark.Mark.TheVariants.{Arrow as Arrow_mark};
 
-use crate::arrows::{arrows_of, spot_of};
+use crate::arrows::{arrows_of, forward, spot_of};
 use crate::columns::{Columns, columns_of};
 use crate::drawn_run::{DrawnRun, Line};
 use crate::mark::{Arrow, Declared, DrawnEvent, EntryMark, Mark, Site};
@@ -23,9 +22,8 @@ use std::alloc::{AllocError, Global};
 /// The picture of the run from which the journals come: each site, each frame that was sent, and each entry. Where they
 /// come from none, it has what they record, and a mark at each entry that can't be taken.
 ///
-/// The k-th frame that was sent on a link is drawn to the entry that got the k-th. The entry that got a frame stands on
-/// the right of the one that sent it where the journals permit that, which no clause says. The only error is out of
-/// memory.
+/// The k-th frame that was sent on a link is drawn to the entry that got the k-th, which stands on the right of the one
+/// that sent it where the journals come from a run. The only error is out of memory.
 pub fn run_picture(
     alloc: Global,
     topology: &Topology,
@@ -41,7 +39,9 @@ pub fn run_picture(
         journals,
         columns: &columns,
     };
-    let marks = marks_of(alloc, &run, verdict, width)?;
+    let sent = arrows_of(alloc, &run)?;
+    let arrows = in_time(verdict, sent)?;
+    let marks = marks_of(alloc, &run, &arrows, verdict, width)?;
     Ok(Picture {
         kind: Kind::Run,
         may_withdraw: false,
@@ -51,22 +51,33 @@ pub fn run_picture(
     })
 }
 
+/// These arrows of a run, which go forward in time if the journals come from one.
+fn in_time(verdict: &Verdict, arrows: Vec<Arrow>) -> Result<Vec<Arrow>, AllocError>
+    ensures same { IfOk result (λ all. all.items ≡ arrows.items) }
+    ensures forward { IfOk result (λ all. AreForward verdict.now all.items) }
+{
+    match verdict {
+        Verdict::Accepted(_) => forward(arrows),
+        Verdict::Refused(_) => Ok(arrows),
+    }
+}
+
 fn marks_of(
     alloc: Global,
     run: &DrawnRun<'_>,
+    arrows: &[Arrow],
     verdict: &Verdict,
     width: u32,
 ) -> Result<Vec<Mark>, AllocError>
     ensures { IfOk result (λ marks. marks.items
         ≡ spec.site_marks run.now.topology.now (λ site. width)
-        ++ map Arrow_mark (arrows_of run.now.topology.now run.now.journals.now run.now.columns.now)
+        ++ map Arrow_mark arrows.now
         ++ spec.entry_marks run.now.topology.now run.now.journals.now run.now.columns.now
         ++ spec.stop_marks run.now.topology.now run.now.columns.now verdict.now) }
 {
-    let arrows = arrows_of(alloc, run)?;
     let mut marks = Vec::new(alloc);
     add_sites(run.topology, width, &mut marks)?;
-    add_arrows(&arrows, &mut marks)?;
+    add_arrows(arrows, &mut marks)?;
     add_all_entries(alloc, run, &mut marks)?;
     match verdict {
         Verdict::Accepted(_) => {}

@@ -1,5 +1,5 @@
 -- What is drawn of a world of edition 3.
-use Rattle.std.specs.Prelude.{◌≡◌, ℕ, ◌≤◌, Bool, true, false, not, ◌&&◌, ◌==◌, if◌then◌else◌, List, [], ◌∷◌, ◌++◌, drop, length, map, Some, zip}
+use Rattle.std.specs.Prelude.{◌≡◌, ℕ, ◌≤◌, Bool, true, false, not, ◌&&◌, ◌==◌, if◌then◌else◌, List, [], ◌∷◌, ◌++◌, drop, length, map, Some, zip, ⊤}
 use Rattle.std.specs.List.{AllByRecursion, list_any}
 use Rattle.std.specs.Option.{option_map, option_map_or}
 use Rattle.cmh_frames.specs.Rules.{IsAscending}
@@ -14,8 +14,9 @@ use Rattle.cmh_report3.specs.declared.cycle.CycleNow.TheVariants as cycle
 use Rattle.cmh_report3.specs.declared.cycle.Deadlock.{Deadlock}
 use Rattle.cmh_files3.specs.declared.auditing.Finding.{Finding}
 use Rattle.cmh_files3.specs.declared.auditing.Finding.TheVariants.{Accepted, Refused}
-use Rattle.cmh_draw.specs.Arrows.{spot_of}
+use Rattle.cmh_draw.specs.Arrows.{IsForward, spot_of}
 use Rattle.cmh_draw.specs.Each.{each_from, number_from}
+use Rattle.cmh_draw.specs.declared.mark.Arrow as arrows
 use Rattle.cmh_draw.specs.declared.mark.Declared.{Declared}
 use Rattle.cmh_draw.specs.declared.mark.DrawnEvent.TheVariants.{Newer}
 use Rattle.cmh_draw.specs.declared.mark.Mark as marks
@@ -71,12 +72,19 @@ entry_marks t segments columns finding = each_from (λ row site. each_from (λ n
   declared = option_map (drawn_declaration finding) e.declared;
 }) ∷ []) 1 (journal_of segments site)) 0 (sites_of t)
 
+-- in a picture of segments that come from a run, each arrow goes forward in time
+abbrev pub AreForward : Finding → List arrows.Arrow → Type 0
+AreForward (Accepted report) drawn = AllByRecursion IsForward drawn
+AreForward (Refused stops) drawn = ⊤
+
 -- The picture of a run: each site, each message, each entry and each stop once, and nothing else. Each entry has a column
--- of its own among those of its site, ascending, and a place within the picture.
+-- of its own among those of its site, ascending, and a place within the picture; an entry that got a message stands on the
+-- right of the one that sent it.
 pub record IsRunPicture (t : Topology) (segments : List Segment) (finding : Finding) (picture : Picture) : Type 0 where
   pub columns : List (List ℕ)
   pub lengths_are : map (λ of. length of) columns ≡ map (λ site. length (journal_of segments site)) (sites_of t)
   pub are_ascending : AllByRecursion IsAscending columns
+  pub are_forward : AreForward finding (arrows_of t segments columns)
   pub are_within : AllByRecursion (λ of. AllByRecursion (λ column. column ≤ picture.columns) of) columns
   pub kind_is : picture.kind ≡ Run
   pub edition_is : picture.may_withdraw ≡ true

@@ -4,19 +4,18 @@ ghost use Rattle.std.specs.Prelude.{◌≡◌, ◌++◌, IfOk, OnOk, map, option
 ghost use Rattle.std.specs.List.{list_any};
 ghost use Rattle.cmh_audit3.specs.Journals.{journal_of};
 ghost use Rattle.cmh_draw.specs.declared.mark.Mark.TheVariants.{Arrow as Arrow_mark};
-ghost use Rattle.cmh_draw3.specs.Arrows.{arrows_of};
 ghost use Rattle.cmh_draw3.specs.Inner.Marks as inner;
 ghost use Rattle.cmh_draw3.specs.Inner.Stands.{stands};
 ghost use Rattle.cmh_draw3.specs.Marks as spec;
-ghost use Rattle.cmh_draw3.specs.Marks.{IsRunPicture};
+ghost use Rattle.cmh_draw3.specs.Marks.{AreForward, IsRunPicture};
 
 use crate::arrows::arrows_of;
 use crate::columns::columns_of;
 use crate::newer_run::{NewerRun, entries_at};
 use cmh_audit3::{Segment, Stop};
 use cmh_draw::{
-    Columns, Declared, DrawnEvent, EntryMark, Kind, Line, Mark, Picture, Site, add_arrows, row_of,
-    spot_of, width_of,
+    Arrow, Columns, Declared, DrawnEvent, EntryMark, Kind, Line, Mark, Picture, Site, add_arrows,
+    forward, row_of, spot_of, width_of,
 };
 use cmh_files3::Finding;
 use cmh_report3::{CycleNow, Deadlock};
@@ -27,8 +26,8 @@ use std::alloc::{AllocError, Global};
 /// The picture of the run from which the segments come: each site, each message that was sent, and each entry. Where they
 /// come from none, it has what they record, and a mark at each entry that can't be taken.
 ///
-/// The k-th message that was sent on a link is drawn to the entry that got the k-th. That entry stands on the right of the
-/// one that sent it where the segments permit that, which no clause says. The only error is out of memory.
+/// The k-th message that was sent on a link is drawn to the entry that got the k-th, which stands on the right of the one
+/// that sent it where the segments come from a run. The only error is out of memory.
 pub fn run_picture(
     alloc: Global,
     topology: &Topology,
@@ -44,7 +43,9 @@ pub fn run_picture(
         segments,
         columns: &columns,
     };
-    let marks = marks_of(alloc, &run, finding, width)?;
+    let sent = arrows_of(alloc, &run)?;
+    let arrows = in_time(finding, sent)?;
+    let marks = marks_of(alloc, &run, &arrows, finding, width)?;
     Ok(Picture {
         kind: Kind::Run,
         may_withdraw: true,
@@ -54,22 +55,33 @@ pub fn run_picture(
     })
 }
 
+/// These arrows of a run, which go forward in time if the segments come from one.
+fn in_time(finding: &Finding, arrows: Vec<Arrow>) -> Result<Vec<Arrow>, AllocError>
+    ensures same { IfOk result (λ all. all.items ≡ arrows.items) }
+    ensures forward { IfOk result (λ all. AreForward finding.now all.items) }
+{
+    match finding {
+        Finding::Accepted(_) => forward(arrows),
+        Finding::Refused(_) => Ok(arrows),
+    }
+}
+
 fn marks_of(
     alloc: Global,
     run: &NewerRun<'_>,
+    arrows: &[Arrow],
     finding: &Finding,
     width: u32,
 ) -> Result<Vec<Mark>, AllocError>
     ensures { IfOk result (λ marks. marks.items
         ≡ spec.site_marks run.now.topology.now (λ site. width)
-        ++ map Arrow_mark (arrows_of run.now.topology.now run.now.segments.now run.now.columns.now)
+        ++ map Arrow_mark arrows.now
         ++ spec.entry_marks run.now.topology.now run.now.segments.now run.now.columns.now finding.now
         ++ spec.stop_marks run.now.topology.now run.now.columns.now finding.now) }
 {
-    let arrows = arrows_of(alloc, run)?;
     let mut marks = Vec::new(alloc);
     add_sites(run.topology, width, &mut marks)?;
-    add_arrows(&arrows, &mut marks)?;
+    add_arrows(arrows, &mut marks)?;
     add_all_entries(alloc, run, finding, &mut marks)?;
     match finding {
         Finding::Accepted(_) => {}

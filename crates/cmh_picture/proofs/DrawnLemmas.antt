@@ -1,10 +1,10 @@
 -- A text for one more mark.
-use Rattle.std.proofs.Common.{◌≡◌, ℕ, ◌+◌, ◌<◌, List, [], ◌∷◌, ◌++◌, length, take, get_or, refl, sym, ap, subst, ◌∙◌, append_assoc}
+use Rattle.std.proofs.Common.{◌≡◌, ℕ, ◌+◌, ◌<◌, List, [], ◌∷◌, ◌++◌, length, take, get_or, refl, sym, ap, subst, ◌∙◌, append_assoc, append-nil}
 use Rattle.std.proofs.lemmas.List.{take_more}
 use Rattle.cmh_draw.specs.declared.mark.Mark.{Mark}
 use Rattle.cmh_picture.specs.Inner.Adding.{AddsMark, AddsMarks, IsMade}
 use Rattle.cmh_picture.specs.Names.{name_of}
-use Rattle.cmh_picture.specs.PictureTexts.{HasNames, IsDrawn, first_word}
+use Rattle.cmh_picture.specs.PictureTexts.{HasNames, IsDrawn, first_words, last_words}
 use Rattle.cmh_picture.specs.declared.format.Format.{Format}
 
 adds_push : (marks : List Mark) (mark : Mark) (old text new : List ℕ) → AddsMarks marks old text → AddsMark mark text new
@@ -27,12 +27,12 @@ behind [] before text has = tt
 behind (mark ∷ marks) before text has =
     (before ++ has.0, has.1, ap (λ (l : List ℕ). before ++ l) has.2 ∙ sym (append_assoc before has.0 (name_of mark ++ has.1)), has.3)
 
--- what the marks add, and whatever stands behind it, has their names
-names_from : (marks : List Mark) (old drawn foot : List ℕ) → AddsMarks marks old drawn → (rest : List ℕ) × (drawn ++ foot ≡ old ++ rest) × HasNames marks rest
-names_from [] old drawn foot are = (foot, ap (λ (l : List ℕ). l ++ foot) are, tt)
-names_from (mark ∷ marks) old drawn foot are =
+-- what the marks add has their names
+names_from : (marks : List Mark) (old drawn : List ℕ) → AddsMarks marks old drawn → (rest : List ℕ) × (drawn ≡ old ++ rest) × HasNames marks rest
+names_from [] old drawn are = ([], are ∙ sym (append-nil old), tt)
+names_from (mark ∷ marks) old drawn are =
     let adds = are.1 in
-    let later = names_from marks are.0 drawn foot are.2 in (
+    let later = names_from marks are.0 drawn are.2 in (
       adds.before ++ (name_of mark ++ (adds.after ++ later.0)),
       later.1 ∙ ap (λ (l : List ℕ). l ++ later.0) adds.is ∙ append_assoc old (adds.before ++ (name_of mark ++ adds.after)) later.0
           ∙ ap (λ (l : List ℕ). old ++ l) (append_assoc adds.before (name_of mark ++ adds.after) later.0
@@ -42,5 +42,9 @@ names_from (mark ∷ marks) old drawn foot are =
 
 pub drawn_from : (format : Format) (marks : List Mark) (text : List ℕ) → IsMade format marks text → IsDrawn format marks text
 drawn_from format marks text made =
-    let found = names_from marks (first_word format ++ made.head) made.drawn made.foot made.are_added in
-    (made.head ++ found.0, made.is ∙ found.1 ∙ append_assoc (first_word format) made.head found.0, behind marks made.head found.0 found.2)
+    let found = names_from marks (first_words format ++ made.head) made.drawn made.are_added in (
+      made.head ++ found.0,
+      made.is ∙ ap (λ (l : List ℕ). l ++ last_words format) (found.1 ∙ append_assoc (first_words format) made.head found.0)
+          ∙ append_assoc (first_words format) (made.head ++ found.0) (last_words format),
+      behind marks made.head found.0 found.2,
+    )

@@ -12,7 +12,7 @@ use cmh_draw::{Arrow, DrawnFrame, EntryMark, EntrySpot, Kind, Mark, Process, Sit
 use std::alloc::{AllocError, Global};
 use std::fmt;
 
-/// What stands before the marks, but for the first word.
+/// What stands before the marks, but for the first words.
 pub fn head_of(alloc: Global, kind: Kind) -> Result<String, AllocError> {
     match kind {
         Kind::Waits => String::from_str(alloc, WAITS_HEAD),

@@ -14,7 +14,7 @@ use crate::{dot, svg};
 use cmh_draw::{Mark, Picture};
 use std::alloc::{AllocError, Global};
 
-/// A picture as text: a head, the text of each mark, and a foot.
+/// A picture as text: a head, the text of each mark, and a foot. An SVG is closed, and so is a graph.
 ///
 /// Nothing in it has to be escaped: it is made of numbers and of words that stand here. What a mark's text says but its
 /// name is shown by files that were looked at (`scripts/lessons/run`). The only error is out of memory.
@@ -56,7 +56,7 @@ fn svg_text(alloc: Global, picture: &Picture, scene: Scene<'_>) -> Result<String
     ensures { IfOk result (λ text. IsMade Svg picture.now.marks.items (string_bytes text)) }
 {
     let head = svg::head_of(alloc, scene)?;
-    let mut text = format!(in alloc; "<svg {head}")?;
+    let mut text = format!(in alloc; "<svg xmlns='http://www.w3.org/2000/svg' {head}")?;
     for mark in &picture.marks {
         add_svg(alloc, scene, mark, &mut text)?;
     }

@@ -10,7 +10,7 @@ use cmh_draw::{Kind, Mark};
 use std::alloc::{AllocError, Global};
 use std::fmt;
 
-/// What stands before the marks, but for the first word.
+/// What stands before the marks, but for the first words.
 pub fn head_of(alloc: Global, scene: Scene<'_>) -> Result<String, AllocError> {
     let end = scene.end();
     let width = end.x;
@@ -25,7 +25,7 @@ pub fn head_of(alloc: Global, scene: Scene<'_>) -> Result<String, AllocError> {
         Kind::Run => RUN_MORE,
     };
     format!(in alloc;
-        "xmlns='http://www.w3.org/2000/svg' width='{width}' height='{height}' viewBox='0 0 {width} {height}'>\n{STYLE}{legend}{more}"
+        "width='{width}' height='{height}' viewBox='0 0 {width} {height}'>\n{STYLE}{legend}{more}"
     )
 }
 

@@ -1,5 +1,6 @@
 -- The way of a frame, and what a site's frames give.
-use Rattle.std.specs.Prelude.{ℕ, Bool, not, ◌==◌, if◌then◌else◌, List, [], ◌∷◌, ◌++◌, None}
+use Rattle.std.specs.Prelude.{ℕ, nat_lt, Bool, true, not, ◌==◌, if◌then◌else◌, List, [], ◌∷◌, ◌++◌, None}
+use Rattle.std.specs.Option.{option_map_or}
 use Rattle.cmh_frames.specs.declared.frame.Frame.{Frame}
 use Rattle.cmh_frames.specs.Topology.{Topology, is_site, sites_of}
 use Rattle.cmh_journal.specs.Journal.{Journal}
@@ -35,3 +36,7 @@ abbrev pub from_site : Topology → List Journal → List (List ℕ) → ℕ →
 from_site t journals columns row site =
     each_from (λ to_row to. to_site journals (spot_of columns row site) (spot_of columns to_row to) site to) 0 (sites_of t)
     ++ sent_where (λ to. not (is_site t to)) (spot_of columns row site) (journal_of journals site)
+
+-- whether the entry that got the frame of an arrow, if one did, stands on the right of the one that sent it
+abbrev pub is_forward : Arrow → Bool
+is_forward arrow = option_map_or (λ (got : EntrySpot). nat_lt arrow.from.spot.column got.spot.column) arrow.got true

@@ -1,8 +1,9 @@
--- A text to which the text of each mark is added: a first word, a head, a text for each mark, in their order, and a foot.
+-- A text to which the text of each mark is added: the first words, the rest of a head, a text for each mark, in their order,
+-- and the last words.
 use Rattle.std.specs.Prelude.{◌≡◌, ℕ, List, [], ◌∷◌, ◌++◌}
 use Rattle.cmh_draw.specs.declared.mark.Mark.{Mark}
 use Rattle.cmh_picture.specs.Names.{name_of}
-use Rattle.cmh_picture.specs.PictureTexts.{first_word}
+use Rattle.cmh_picture.specs.PictureTexts.{first_words, last_words}
 use Rattle.cmh_picture.specs.declared.format.Format.{Format}
 
 -- a text with the name of a mark in it was added; what else it says is not promised
@@ -19,6 +20,5 @@ AddsMarks (mark ∷ marks) old new = (text : List ℕ) × AddsMark mark old text
 pub record IsMade (format : Format) (marks : List Mark) (text : List ℕ) : Type 0 where
   pub head : List ℕ
   pub drawn : List ℕ
-  pub foot : List ℕ
-  pub are_added : AddsMarks marks (first_word format ++ head) drawn
-  pub is : text ≡ drawn ++ foot
+  pub are_added : AddsMarks marks (first_words format ++ head) drawn
+  pub is : text ≡ drawn ++ last_words format

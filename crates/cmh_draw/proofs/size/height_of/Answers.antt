@@ -1,4 +1,4 @@
-use Rattle.std.proofs.Common.{◌≡◌, ℕ, ◌+◌, ◌<◌, ◌≤◌, List, length, get_or, ap, subst, arith}
+use Rattle.std.proofs.Common.{◌≡◌, ℕ, ◌<◌, ◌≤◌, List, length, get_or, ap, subst, arith}
 use Rattle.cmh_frames.specs.Topology.{sites_of, members_of}
 use Rattle.cmh_draw.proofs.SizeLemmas.{all_more}
 use Rattle.cmh_draw.proofs.size.height_of.Goals as goal
