@@ -453,6 +453,7 @@ function edge(from, to, isThick) {
     return [el('path', { d: 'M' + start.x.toFixed(1) + ' ' + start.y.toFixed(1) + 'Q' + bend.x.toFixed(1) + ' ' + bend.y.toFixed(1) + ' ' + end.x.toFixed(1) + ' ' + end.y.toFixed(1), class: isThick ? 'cycle' : 'wait' }), head(bend, tip, isThick ? 'thick' : '')];
 }
 
+// @EXTRA@
 // ---- The page.
 
 const run = read(find('run').textContent);

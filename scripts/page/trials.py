@@ -1,4 +1,4 @@
-"""What scripts/page/run tries. The expected values come from the rules (model.py), and from `cmh audit` of the journals cut
+"""What scripts/page/run tries. The expected values come from the rules (rules.py), and from `cmh audit` of the journals cut
 at each moment."""
 import glob
 import importlib.machinery
@@ -12,7 +12,8 @@ import sys
 import tempfile
 import time
 
-import model
+import edition3
+import rules
 
 ROOT = os.path.realpath(os.path.join(os.path.dirname(os.path.abspath(__file__)), "..", ".."))
 LESSONS = os.path.join(ROOT, "docs", "lessons")
@@ -67,7 +68,7 @@ class Played:
             json.dump({"edition": self.edition, "sites": [{"site": s, "processes": ps} for s, ps in self.sites]}, file)
         self.journals = [os.path.join(self.folder, f"site-{site}.cmhj") for site, _ in self.sites]
         self.audit = trials.cmh("audit", "--run", "--topology", self.topology, *self.journals).stdout.decode().split("\n")[:-1]
-        self.events = [model.Event(line) for line in self.audit if model.ENTRY.fullmatch(line)]
+        self.events = [rules.Event(line) for line in self.audit if rules.ENTRY.fullmatch(line)]
 
     def text(self):
         with open(self.page, "rb") as file:
@@ -109,7 +110,7 @@ def pairs(found):
 def trial_of_text(trials, played):
     """The page has the lines that the rules give, between what stands in every page."""
     parts = make.parts()
-    lines = "".join(line + "\n" for line in model.lines_of(played.edition, played.sites, played.audit))
+    lines = "".join(line + "\n" for line in rules.lines_of(played.edition, played.sites, played.audit))
     trials.check(f"{played.name}: the page of its script", played.text(), parts["HEAD"] + lines + parts["FOOT"])
     drawn = trials.cmh("draw", "--page", "--topology", played.topology, *reversed(played.journals))
     again = trials.cmh("draw", "--page", "--topology", played.topology, *played.journals)
@@ -258,7 +259,7 @@ def trial_of_moments(trials, driver, played):
     """At each moment the waits are those that an audit of the journals so far finds, and what each controller knows is what
     the rules say."""
     open_page(driver, played.page)
-    world = model.World(played.sites)
+    world = rules.World(played.sites)
     for moment in range(len(played.events) + 1):
         name = f"{played.name} at {moment}"
         fate = world.take(played.events[moment - 1]) if moment else None
@@ -406,20 +407,23 @@ def main():
         wide = Played(trials, "64 sites", wide_script())
         trial_of_text(trials, wide)
         driver, missing = browser()
-        if driver is None:
-            print(f"skipped: no browser, {missing} is missing")
-        else:
-            try:
+        try:
+            victim, long3 = edition3.all_trials(trials, driver, make.parts(3), open_page, press)
+            if driver is None:
+                print(f"skipped: no browser, {missing} is missing")
+            else:
                 for played in [*lessons, hostile]:
                     trial_of_moments(trials, driver, played)
                 trial_of_keys(trials, driver, lessons[3])
                 trial_of_refused(trials, driver, refused_page)
-                for page, name in ((lessons[5].page, lessons[5].name), (refused_page, "refused"), (wide.page, "64 sites"), (empty.page, "no sites")):
+                for page, name in ((lessons[5].page, lessons[5].name), (refused_page, "refused"), (wide.page, "64 sites"), (empty.page, "no sites"), (victim, "edition 3")):
                     trial_of_sizes(trials, driver, page, name)
                 trial_of_time(trials, driver, long.page, "5,000 events", True)
+                trial_of_time(trials, driver, long3, "5,000 events of edition 3", True)
                 trial_of_time(trials, driver, most.page, "20,000 events", False)
                 trial_of_time(trials, driver, wide.page, "64 sites", False)
-            finally:
+        finally:
+            if driver:
                 driver.quit()
         print(f"{trials.passed} passed, {trials.failed} failed")
         return trials.failed > 0

@@ -80,12 +80,15 @@ IsPageCause topology files old new has_failed TooManyEvents = HasTooManyEvents t
 -- ---- the page
 
 -- the lines stand in the text, between what stands in every page
-pub record IsPage (topology : List ℕ) (files : List (List ℕ)) (text : List ℕ) : Type 0 where
+pub record IsAround (lines text : List ℕ) : Type 0 where
   pub head : List ℕ
-  pub lines : List ℕ
   pub foot : List ℕ
-  pub tells : TellsRun topology files lines
   pub text_is : text ≡ head ++ lines ++ foot
+
+pub record IsPage (topology : List ℕ) (files : List (List ℕ)) (text : List ℕ) : Type 0 where
+  pub lines : List ℕ
+  pub tells : TellsRun topology files lines
+  pub around : IsAround lines text
 
 abbrev pub WrotePage : List ℕ → List (List ℕ) → Option (List ℕ) → Option (List ℕ) → Type 0
 WrotePage topology files old new = (text : List ℕ) × IsPage topology files text × Appends old new text

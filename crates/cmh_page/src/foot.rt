@@ -1,6 +1,6 @@
-//! What stands after them: the script that shows them. `scripts/page/make` writes this file.
+//! What stands after them: the script that shows them, in two parts. `scripts/page/make` writes this file.
 
-pub const FOOT: &str = "\
+pub const SCRIPT: &str = "\
 </script>
 <script>'use strict';
 (() => {
@@ -403,6 +403,9 @@ const tip = short(bend, to, 19);
 const end = short(bend, to, isThick ? 29 : 26);
 return [el('path', { d: 'M' + start.x.toFixed(1) + ' ' + start.y.toFixed(1) + 'Q' + bend.x.toFixed(1) + ' ' + bend.y.toFixed(1) + ' ' + end.x.toFixed(1) + ' ' + end.y.toFixed(1), class: isThick ? 'cycle' : 'wait' }), head(bend, tip, isThick ? 'thick' : '')];
 }
+";
+
+pub const LAST: &str = "\
 const run = read(find('run').textContent);
 const stateAt = history(run);
 const total = run.events.length;

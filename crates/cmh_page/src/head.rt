@@ -1,11 +1,16 @@
-//! What stands before the lines of a page: its words and its style. `scripts/page/make` writes this file.
+//! What stands before the lines of a page, its words and its style, and the checksums of editions 1 and 2. `scripts/page/make` writes this file.
 
-pub const HEAD: &str = "\
+pub const START: &str = "\
 <!DOCTYPE html>
 <html lang=\"en\">
 <head>
 <meta charset=\"utf-8\">
-<meta http-equiv=\"Content-Security-Policy\" content=\"default-src 'none'; script-src 'sha256-fxBt61S/F0uA4TplcLcTdm5OsVXTeWapxJxkby0MZ1M='; style-src 'sha256-8pEOcaw/0o2Z4aRFxBsmk1RwHAcc3Rn0HLvcGr7io5E='; base-uri 'none'; form-action 'none'\">
+<meta http-equiv=\"Content-Security-Policy\" content=\"default-src 'none'; script-src '";
+
+pub const BETWEEN: &str = "'; style-src '";
+
+pub const STYLE: &str = "\
+'; base-uri 'none'; form-action 'none'\">
 <meta name=\"viewport\" content=\"width=device-width, initial-scale=1\">
 <title>A run, step by step</title>
 <style>:root{color-scheme:light dark;--paper:#fff;--ink:#111;--faint:#595959;--rule:#bbb;--soft:#f2f2f2;--act:#a9d5f0;--request:#005a94;--reply:#00664b;--probe:#9c4200;--alarm:#ffd08a;--edge:#b34700}
@@ -70,7 +75,10 @@ text{fill:var(--ink);font:11px system-ui,sans-serif;stroke:var(--paper);stroke-w
 .head.thick{fill:var(--edge)}
 .group{fill:none;stroke:var(--rule);stroke-width:2}
 @media (min-width:60rem){main{grid-template-columns:minmax(0,3fr) minmax(0,2fr);grid-template-rows:auto auto auto 1fr}#controls,#told{grid-column:1/-1}#waiting{grid-column:2;grid-row:3/5}#happened,#knowing{grid-column:1}#travelling{grid-column:1/-1}}
-@media print{:root{--paper:#fff;--ink:#000;--faint:#333;--rule:#999;--soft:#fff}#controls{display:none}main{display:block}.what,#told{break-inside:avoid;margin-bottom:.6rem}#diagram,.scroll,#waits,#way{max-height:none;overflow:visible}}</style>
+@media print{:root{--paper:#fff;--ink:#000;--faint:#333;--rule:#999;--soft:#fff}#controls{display:none}main{display:block}.what,#told{break-inside:avoid;margin-bottom:.6rem}#diagram,.scroll,#waits,#way{max-height:none;overflow:visible}}";
+
+pub const END: &str = "\
+</style>
 </head>
 <body>
 <header>
@@ -121,3 +129,7 @@ text{fill:var(--ink);font:11px system-ui,sans-serif;stroke:var(--paper);stroke-w
 </main>
 <script type=\"text/plain\" id=\"run\">
 ";
+
+pub const SCRIPT_SUM: &str = "sha256-fxBt61S/F0uA4TplcLcTdm5OsVXTeWapxJxkby0MZ1M=";
+
+pub const STYLE_SUM: &str = "sha256-8pEOcaw/0o2Z4aRFxBsmk1RwHAcc3Rn0HLvcGr7io5E=";

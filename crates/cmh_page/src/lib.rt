@@ -2,6 +2,7 @@
 //! the lines of the run.
 #![tactic(auto)]
 
+mod around;
 mod fate;
 mod fates;
 mod foot;
@@ -13,5 +14,6 @@ mod page_fault;
 mod paging;
 mod topology_text;
 
+pub use crate::around::{Extra, page_around};
 pub use crate::page_fault::PageFault;
 pub use crate::paging::{page_text, run_page};

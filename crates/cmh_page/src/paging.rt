@@ -4,8 +4,8 @@ ghost use Rattle.std.specs.Prelude.{◌≡◌, ◌++◌, ℕ, List, true, IfErr,
 ghost use Rattle.cmh_console.specs.Status.{IsStatus};
 ghost use Rattle.cmh_page.specs.Pages.{IsPage, IsPageCause, IsPageFault, PageEnds, WrotePage};
 
-use crate::foot::FOOT;
-use crate::head::HEAD;
+use crate::around::{Extra, page_around};
+use crate::head::{SCRIPT_SUM, STYLE_SUM};
 use crate::lines::lines_of;
 use crate::page_fault::PageFault;
 use cmh_console::Output;
@@ -63,18 +63,16 @@ pub fn page_text(alloc: Global, topology: &[u8], journals: &[Vec<u8>]) -> Result
     ensures fault { IfErr result (IsPageFault topology.now (map (λ file. file.items) journals.now)) }
 {
     let lines = lines_of(alloc, topology, journals)?;
-    let before = head();
-    let after = foot();
-    let text = format!(in alloc; "{before}{lines}{after}")?;
+    let text = page_around(alloc, &extra(), lines.as_str())?;
     Ok(text)
 }
 
-/// What stands before the lines.
-fn head() -> &'static str {
-    HEAD
-}
-
-/// What stands after them.
-fn foot() -> &'static str {
-    FOOT
+/// A page of editions 1 and 2 has what stands in every page and no more.
+fn extra() -> Extra<'static> {
+    Extra {
+        script_sum: SCRIPT_SUM,
+        style_sum: STYLE_SUM,
+        style: "",
+        script: "",
+    }
 }
