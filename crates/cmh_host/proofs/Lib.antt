@@ -1,3 +1,4 @@
+mod Leading
 mod Named
 mod Porting
 pub mod StartFaults

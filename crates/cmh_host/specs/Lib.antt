@@ -6,4 +6,5 @@ pub mod SiteScript
 pub mod Opening
 pub mod SiteReplies
 pub mod Steps
+pub mod Ends
 pub mod Together

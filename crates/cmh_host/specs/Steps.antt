@@ -1,11 +1,11 @@
 -- What a running site answers to an event, and to a question.
-use Rattle.std.specs.Prelude.{◌≡◌, ℕ, All, Contains, List, length, ⊤}
+use Rattle.std.specs.Prelude.{◌≡◌, ℕ, List, length}
 use Rattle.cmh_frames.specs.declared.frame.Frame.{Frame}
 use Rattle.cmh_frames.specs.declared.event.Event.{Event}
 use Rattle.cmh_station.specs.Journaled.{Journaled}
 use Rattle.cmh_station.specs.Steps.{NotStepped, Stepped}
 use Rattle.cmh_host.specs.declared.site_reply.SiteReply.{SiteReply}
-use Rattle.cmh_host.specs.declared.site_reply.SiteReply.TheVariants.{Taken, Refused, Declared, Links}
+use Rattle.cmh_host.specs.declared.site_reply.SiteReply.TheVariants.{Taken, Refused, Declared}
 
 -- A station took the event, by the rules, and its entry was kept, or it refused the event. Which station it was is not told:
 -- what comes out of a lock is known by its type alone.
@@ -23,12 +23,3 @@ IsDeclared site reply = (processes : List ℕ) × (reply ≡ Declared site proce
 abbrev pub IsListOf : List ℕ → SiteReply → Type 0
 IsListOf list (Declared named processes) = processes ≡ list
 IsListOf list reply = ⊥
-
-abbrev pub IsLinks : SiteReply → Type 0
-IsLinks (Links links) = ⊤
-IsLinks reply = ⊥
-
--- each link is with one of these sites
-abbrev pub AreLinksOf : List ℕ → SiteReply → Type 0
-AreLinksOf sites (Links links) = All (λ ends. Contains sites ends.site) links.items
-AreLinksOf sites reply = ⊥

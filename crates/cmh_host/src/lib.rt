@@ -28,7 +28,7 @@ pub use crate::site_script::{ClusterLine, Order, SiteLine, parse_for_cluster, pa
 pub use crate::start::{SiteSetup, SiteStart, start_site};
 pub use crate::starting::{
     Carriers, FileStation, Opened, Running, RunningSite, SiteHandle, Speakers, closed_in,
-    closed_out, link_ends, note_seal, open_station, start_threads, step,
+    closed_out, ends_of, link_ends, note_seal, open_station, start_threads, step,
 };
 pub use crate::system::System;
 pub use crate::together::{Answer, answer_events, reply_to};

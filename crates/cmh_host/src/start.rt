@@ -1,6 +1,8 @@
 //! How a site starts: its port, its journal, and its threads.
 
-ghost use Rattle.std.specs.Prelude.{◌≡◌, ◌⊎◌, IfOk, IfErr};
+ghost use Rattle.std.specs.Prelude.{◌≡◌, ◌⊎◌, map, IfOk, IfErr};
+ghost use Rattle.cmh_host.specs.Ends.{others_of};
+ghost use Rattle.cmh_links.specs.Threads.{link_sites, site_of};
 
 use crate::site_fault::SiteFault;
 use crate::starting::{Carriers, Opened, RunningSite, Speakers, open_station, start_threads};
@@ -51,6 +53,10 @@ pub fn start_site<R>(
 where
     R: System + Files<File = File> + Send + 'static,
     ensures site { IfOk result (λ running. running.handle.site ≡ setup.now.site) }
+
+    // It has a link to each other site.
+    ensures links { IfOk result (λ running. link_sites running.threads.places.items running.threads.waiting.items
+        ≡ others_of setup.now.topology.now setup.now.site) }
     ensures fault { IfErr result (λ fault. (fault ≡ SiteFault.Listen) ⊎ (fault ≡ SiteFault.JournalDisk)
         ⊎ (fault ≡ SiteFault.Memory)) }
 {
@@ -106,6 +112,8 @@ fn open_own<R>(
 where
     R: System + Files<File = File> + Send + 'static,
     ensures site { IfOk result (λ opened. opened.site ≡ setup.now.site) }
+    ensures to { IfOk result (λ opened. map site_of opened.taps.items
+        ≡ others_of setup.now.topology.now setup.now.site) }
     ensures fault { IfErr result (λ fault. (fault ≡ SiteFault.JournalDisk) ⊎ (fault ≡ SiteFault.Memory)) }
 {
     let journal = make_journal(&rt, alloc, setup.journal)?;
@@ -128,6 +136,8 @@ where
     requires listens { carriers.listen.faults ≡ 0 }
     requires dials { carriers.dial.faults ≡ 0 }
     ensures site { IfOk result (λ running. running.handle.site ≡ opened.site) }
+    ensures links { IfOk result (λ running. link_sites running.threads.places.items running.threads.waiting.items
+        ≡ map site_of opened.taps.items) }
     ensures fault { IfErr result (λ fault. fault ≡ SiteFault.Memory) }
 {
     match start_threads(rt, alloc, topology, opened, carriers) {

@@ -1,15 +1,16 @@
 //! A running site: its station over a file, its threads, and what it is asked.
 
-ghost use Rattle.std.specs.Prelude.{◌≡◌, IfOk};
+ghost use Rattle.std.specs.Prelude.{◌≡◌, ◌==◌, [], ◌∷◌, ◌++◌, filter, map, not, IfOk, OnOk};
+ghost use Rattle.cmh_host.specs.Ends.{TellsLinks, ends_of, ends_with, others_of};
+ghost use Rattle.cmh_links.specs.Threads.{link_sites, site_of};
 ghost use Rattle.cmh_host.specs.Opening.{IsNewStation};
-ghost use Rattle.cmh_frames.specs.Topology.{sites_of};
 ghost use Rattle.cmh_frames.specs.Runs.{IsBeginningOf};
-ghost use Rattle.cmh_host.specs.Steps.{AreLinksOf, IsDeclared, IsLinks, IsListOf, WasStepped};
+ghost use Rattle.cmh_host.specs.Steps.{IsDeclared, IsListOf, WasStepped};
 
 use crate::JournalSink;
 use crate::site_reply::{LinkEnds, SiteReply};
 use crate::system::System;
-use cmh_carriers::{Dial, Note, Speaker, TcpDial, TcpListen};
+use cmh_carriers::{Dial, LinkTable, Note, Speaker, TcpDial, TcpListen};
 use cmh_console::NoFile;
 use cmh_frames::{Done, Event, SiteId, Topology};
 use cmh_journal::Sink;
@@ -60,6 +61,7 @@ where
     requires { sink.faults ≡ 0 }
     ensures site { IfOk result (λ opened. opened.site ≡ site) }
     ensures fresh { IfOk result (λ opened. IsNewStation topology.now site opened.station.core) }
+    ensures to { IfOk result (λ opened. map site_of opened.taps.items ≡ others_of topology.now site) }
 {
     let (station, taps, mut readers) = match Station::new(rt, alloc, topology, site, sink, 1) {
         Ok(opened) => opened,
@@ -130,7 +132,9 @@ fn lock_station<R: Wait + Drop>(
     alloc: Global,
     station: Station<JournalSink, KeptBoard<R>>,
     taps: Vec<LinkTap>,
-) -> Result<Locked<R>, AllocError> {
+) -> Result<Locked<R>, AllocError>
+    ensures { IfOk result (λ locked. locked.taps.items ≡ taps.items) }
+{
     let Ok((shared, taps)) = SharedStation::new(alloc, station, taps) else {
         return Err(AllocError);
     };
@@ -160,6 +164,8 @@ where
     requires listens { carriers.listen.faults ≡ 0 }
     requires dials { carriers.dial.faults ≡ 0 }
     ensures site { IfOk result (λ running. running.handle.site ≡ opened.site) }
+    ensures links { IfOk result (λ running. link_sites running.threads.places.items running.threads.waiting.items
+        ≡ map site_of opened.taps.items) }
 {
     let Opened {
         site,
@@ -278,31 +284,54 @@ pub fn note_seal<R: Wait>(rt: &R, speaker: Option<&Speaker>, refusal: StationRef
     }
 }
 
-/// The states of a site's links, each look under the lock of the table alone.
+/// The links of a site, all of one moment: the lock of the table is taken once.
 pub fn link_ends<R: Wait>(
     rt: &R,
     alloc: Global,
     topology: &Topology,
+    site: SiteId,
     links: &SharedLinks,
 ) -> Result<SiteReply, AllocError>
-    ensures links { IfOk result IsLinks }
-    ensures sites { IfOk result (AreLinksOf (sites_of topology.now)) }
+    ensures { IfOk result (TellsLinks topology.now site) }
 {
-    let mut ends = Vec::with_capacity(alloc, topology.sites().len())?;
+    let table = links.lock(rt);
+    Ok(SiteReply::Links(ends_of(alloc, topology, site, &table)?))
+}
+
+/// The links of a site as a table has them: a row for each other site, ascending. A link that it doesn't have is new.
+pub fn ends_of(
+    alloc: Global,
+    topology: &Topology,
+    site: SiteId,
+    table: &LinkTable,
+) -> Result<Vec<LinkEnds>, AllocError>
+    ensures { IfOk result (λ rows. rows.items ≡ ends_of table.now topology.now site) }
+{
+    let mut rows = Vec::with_capacity(alloc, topology.sites().len())?;
     for other in topology.sites() {
-        let table = links.lock(rt);
-        if let (Some(outgoing), Some(incoming)) = (
-            table.state_out(*other),
-            table.state_in(*other),
-        ) {
-            ends.push(LinkEnds {
-                site: *other,
-                outgoing,
-                incoming,
-            })?;
-        }
+        push_row(&mut rows, table, *other, site)?;
     }
-    Ok(SiteReply::Links(ends))
+    Ok(rows)
+}
+
+/// A row for a site, unless it is the own one.
+fn push_row(
+    rows: &mut Vec<LinkEnds>,
+    table: &LinkTable,
+    other: SiteId,
+    own: SiteId,
+) -> Result<(), AllocError>
+    ensures { OnOk result (rows.new.items ≡ rows.old.items ++
+        map (ends_with table.now) (filter (λ s. not (s == own)) (other ∷ []))) }
+{
+    if other != own {
+        rows.push(LinkEnds {
+            site: other,
+            outgoing: table.state_out(other).unwrap_or(LinkState::Fresh),
+            incoming: table.state_in(other).unwrap_or(LinkState::Fresh),
+        })?;
+    }
+    Ok(())
 }
 
 /// Why the link to a site is closed, where it is.

@@ -3,6 +3,7 @@ use Rattle.std.proofs.Common.{◌≡◌, ℕ, zero, suc, ◌+◌, ◌<◌, List,
 use native.Mathlib.Numerals.{unary_clauses}
 use Rattle.std.proofs.Math.Logic.{∥∥₁_elim}
 use Rattle.std.proofs.Props.{props}
+use Rattle.cmh_frames.specs.Topology.{Topology}
 use Rattle.cmh_frames.specs.declared.event.Event.{Event}
 use Rattle.cmh_frames.specs.Entries.{Outcome}
 use Rattle.cmh_client.specs.Desks.{AreReplies}
@@ -10,7 +11,7 @@ use Rattle.cmh_host.specs.Steps.{WasStepped}
 use Rattle.cmh_host.specs.Together.{AreTaken}
 use Rattle.cmh_host.specs.declared.site_reply.SiteReply.TheVariants as site
 use Rattle.cmh_station.specs.declared.refusal.StationRefusal.{StationRefusal}
-use Rattle.cmh_service.specs.Replies.{AnswersEvent, AnswersQuestion, AnswersSaid, IsReply, event_reply_of, taken}
+use Rattle.cmh_service.specs.Replies.{AnswersEvent, AnswersQuestion, AnswersSaid, IsReply, WasAnswered, event_reply_of, taken}
 use Rattle.cmh_service.specs.Texts.{event_text, reply_text}
 use Rattle.cmh_service.specs.declared.reply.EventReply.{EventReply}
 use Rattle.cmh_service.specs.declared.reply.Reply.{Reply}
@@ -57,5 +58,9 @@ one_more events at e replies r few is are now = simp unary_clauses (next_reply e
 pub answers_event : (event : Event) (reply : EventReply) → ∥ IsReply event reply ∥₁ → AnswersEvent event (event_text reply)
 answers_event event reply is = ∥∥₁_elim is (Prim.hlevel props) (λ i. ∣ (reply, i, refl) ∣₁)
 
-pub answers_question : (said : Said) (reply : Reply) → AnswersSaid said reply → AnswersQuestion said (reply_text reply)
+-- the host that is locked answered
+pub was_answered : (t : Topology) (number : ℕ) (said : Said) (reply : Reply) → AnswersSaid t number said reply → WasAnswered said reply
+was_answered t number said reply answers = (t, number, answers)
+
+pub answers_question : (said : Said) (reply : Reply) → WasAnswered said reply → AnswersQuestion said (reply_text reply)
 answers_question said reply answers = (reply, answers, refl)

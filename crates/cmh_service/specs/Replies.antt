@@ -4,11 +4,12 @@ use Rattle.std.specs.List.Sorted.{IsStrictlyIncreasing}
 use Rattle.cmh_frames.specs.Declarations.{declarations}
 use Rattle.cmh_frames.specs.Entries.{Outcome}
 use Rattle.cmh_frames.specs.Relation.{has}
-use Rattle.cmh_frames.specs.Topology.{At}
+use Rattle.cmh_frames.specs.Topology.{At, Topology}
 use Rattle.cmh_frames.specs.declared.event.Event.{Event}
 use Rattle.cmh_controller.specs.declared.refusal.Refusal.TheVariants.{Memory}
 use Rattle.cmh_journal.specs.Journal.{entry_limit}
-use Rattle.cmh_host.specs.Steps.{IsDeclared, IsLinks, WasStepped}
+use Rattle.cmh_host.specs.Ends.{TellsLinks}
+use Rattle.cmh_host.specs.Steps.{IsDeclared, WasStepped}
 use Rattle.cmh_host.specs.Together.{AreTaken}
 use Rattle.cmh_host.specs.declared.site_reply.SiteReply.{SiteReply}
 use Rattle.cmh_host.specs.declared.site_reply.SiteReply.TheVariants as site
@@ -106,17 +107,21 @@ abbrev pub AnswersAs : (SiteReply → Type 0) → Reply → Type 0
 AnswersAs Is (Site reply) = Is reply ⊎ WasShort reply
 AnswersAs Is reply = ⊥
 
--- what a line is answered that is no event
-abbrev pub AnswersSaid : Said → Reply → Type 0
-AnswersSaid said.Declared reply = AnswersAs (λ r. (number : ℕ) × IsDeclared number r) reply
-AnswersSaid said.Links reply = AnswersAs IsLinks reply
-AnswersSaid (said.Waits process) reply = AnswersWaits process reply
-AnswersSaid (said.Owed process) reply = AnswersOwed process reply
-AnswersSaid said.Watch reply = reply ≡ Watching
-AnswersSaid said.Status reply = AnswersStatus reply
-AnswersSaid (said.Event line) reply = reply ≡ Site site.BadLine
-AnswersSaid said.Quit reply = reply ≡ Site site.BadLine
+-- what a site of a topology answers to a line that is no event
+abbrev pub AnswersSaid : Topology → ℕ → Said → Reply → Type 0
+AnswersSaid t number said.Declared reply = AnswersAs (IsDeclared number) reply
+AnswersSaid t number said.Links reply = AnswersAs (TellsLinks t number) reply
+AnswersSaid t number (said.Waits process) reply = AnswersWaits process reply
+AnswersSaid t number (said.Owed process) reply = AnswersOwed process reply
+AnswersSaid t number said.Watch reply = reply ≡ Watching
+AnswersSaid t number said.Status reply = AnswersStatus reply
+AnswersSaid t number (said.Event line) reply = reply ≡ Site site.BadLine
+AnswersSaid t number said.Quit reply = reply ≡ Site site.BadLine
+
+-- Some site of some topology answers this. Which one it is is not told: it comes out of a lock.
+abbrev pub WasAnswered : Said → Reply → Type 0
+WasAnswered line reply = (t : Topology) × (number : ℕ) × AnswersSaid t number line reply
 
 -- the text of such an answer
 abbrev pub AnswersQuestion : Said → List ℕ → Type 0
-AnswersQuestion line text = (reply : Reply) × AnswersSaid line reply × (text ≡ reply_text reply)
+AnswersQuestion line text = (reply : Reply) × WasAnswered line reply × (text ≡ reply_text reply)

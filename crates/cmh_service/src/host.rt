@@ -2,7 +2,7 @@
 
 ghost use Rattle.std.specs.Prelude.{◌≡◌, ◌≤◌, [], length, map, vec_capacity, IfOk, IsErr};
 ghost use Rattle.cmh_client.specs.Desks.{AreReplies};
-ghost use Rattle.cmh_host.specs.Steps.{IsLinks};
+ghost use Rattle.cmh_host.specs.Ends.{TellsLinks};
 ghost use Rattle.cmh_service.specs.Replies.{AnswersOwed, AnswersSaid, AnswersStatus, AnswersWaits, IsReply, WereTaken, event_reply_of, taken};
 ghost use Rattle.cmh_station.specs.Journaled.{batch_limit};
 
@@ -100,7 +100,7 @@ impl<R: Wait + Drop> Host<R> {
 
     /// The answer to a line that is no event.
     pub fn answer(&mut self, said: &Said, clients: usize) -> Reply
-        ensures { AnswersSaid said.now result }
+        ensures { AnswersSaid self.old.topology self.old.handle.site said.now result }
     {
         match said {
             Said::Declared => site_reply(self.handle.declared(&self.rt)),
@@ -123,9 +123,10 @@ impl<R: Wait + Drop> Host<R> {
     }
 
     fn links(&self) -> Result<SiteReply, AllocError>
-        ensures { IfOk result IsLinks }
+        ensures { IfOk result (TellsLinks self.now.topology self.now.handle.site) }
     {
-        link_ends(&self.rt, self.alloc, &self.topology, self.links.links())
+        let (site, links) = (self.handle.site, self.links.links());
+        link_ends(&self.rt, self.alloc, &self.topology, site, links)
     }
 
     fn waits_of(&self, process: ProcId) -> Reply

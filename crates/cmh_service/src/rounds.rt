@@ -1,7 +1,7 @@
 //! The rounds in which events go to the station: those of all clients that wait at that moment go together.
 
 ghost use Rattle.std.specs.Prelude.{◌≤◌, vec_capacity};
-ghost use Rattle.cmh_service.specs.Replies.{AnswersSaid};
+ghost use Rattle.cmh_service.specs.Replies.{WasAnswered};
 ghost use Rattle.cmh_station.specs.Journaled.{batch_limit};
 
 use crate::guests::MOST_CLIENTS;
@@ -132,8 +132,9 @@ impl<R: Wait + Drop> Rounds<R> {
     }
 
     /// The answer to a line that is no event.
+    #[tactic(auto, using(crate::proofs::Replies::was_answered))]
     pub fn answer(&self, rt: &R, said: &Said) -> Reply
-        ensures { AnswersSaid said.now result }
+        ensures { WasAnswered said.now result }
     {
         let clients = self.clients();
         self.host.lock(rt).answer(said, clients)

@@ -4,6 +4,7 @@ use Rattle.std.specs.Prelude.{IfErr, IfSome, IsErr, IsErrAnd, Result, Ok, Err, f
 use Rattle.std.specs.Io.BufRead.{drop_through}
 use Rattle.std.specs.Io.KnownBytes.{Appends}
 use Rattle.std.proofs.lemmas.List.{append_assoc, append-nil}
+use Rattle.cmh_frames.specs.Topology.{Topology}
 use Rattle.cmh_frames.specs.declared.event.Event.{Event}
 use Rattle.cmh_console.proofs.LinesSeen.{if_some}
 use Rattle.cmh_console.specs.Lines.{IsNextLine, IsEndless, IsLineFault}
@@ -22,7 +23,7 @@ use Rattle.cmh_console.specs.declared.script.Line.TheVariants.{Command}
 use Rattle.cmh_host.specs.declared.site_script.SiteLine.{SiteLine}
 use Rattle.cmh_host.specs.declared.site_script.SiteLine.TheVariants.{Event as SiteEvent}
 use Rattle.cmh_host.specs.SiteReplies.{reply_text}
-use Rattle.cmh_site.specs.SiteTalk.{IsTurnOfSite, WasSaidToSite}
+use Rattle.cmh_site.specs.SiteTalk.{IsTurnOfSite, LeadToOthers, WasSaidToSite}
 use Rattle.cmh_host.specs.Together.{AreStepped, WereAnswered}
 use Rattle.cmh_site.specs.Together.{LinesSay, SaidTurn, SaysEvent, more, none}
 use Rattle.cmh_host.specs.declared.site_reply.SiteReply.{SiteReply}
@@ -34,17 +35,17 @@ said_more bytes _ process event _ (none _) some says = more bytes (drop_through 
 said_more bytes now process event _ (more _ _ p e es first said others) some says =
     more bytes (drop_through 10 now) p e (es ++ event ∷ []) first said (said_more (drop_through 10 bytes) now process event es others some says)
 
-module _ (site : ℕ) (first : Bool) (bytes : List ℕ) where
+module _ (t : Topology) (site : ℕ) (first : Bool) (bytes : List ℕ) where
   -- the events of lines were answered in their order
   all_answered : (rest now text : List ℕ) (last : Bool) (events : List Event) (replies : List SiteReply)
-      → Dialogue Bool (IsTurnOfSite site) first bytes rest text last Awaits → LinesSay rest events now → AreStepped events replies
-      → Dialogue Bool (IsTurnOfSite site) first bytes now (text ++ flat_map reply_text replies) last Awaits
+      → Dialogue Bool (IsTurnOfSite t site) first bytes rest text last Awaits → LinesSay rest events now → AreStepped events replies
+      → Dialogue Bool (IsTurnOfSite t site) first bytes now (text ++ flat_map reply_text replies) last Awaits
   all_answered rest _ text last _ [] dialogue (none _) are =
-      subst (λ (t : List ℕ). Dialogue Bool (IsTurnOfSite site) first bytes rest t last Awaits) (sym (append-nil text)) dialogue
+      subst (λ (said : List ℕ). Dialogue Bool (IsTurnOfSite t site) first bytes rest said last Awaits) (sym (append-nil text)) dialogue
   all_answered rest _ text last _ (reply ∷ replies) dialogue (none _) are = absurd are
   all_answered rest now text last _ [] dialogue (more _ _ process event others some says lines) are = absurd are
   all_answered rest now text last _ (reply ∷ replies) dialogue (more _ _ process event others some says lines) are =
-      subst (λ (t : List ℕ). Dialogue Bool (IsTurnOfSite site) first bytes now t last Awaits) (append_assoc text (reply_text reply) (flat_map reply_text replies))
+      subst (λ (said : List ℕ). Dialogue Bool (IsTurnOfSite t site) first bytes now said last Awaits) (append_assoc text (reply_text reply) (flat_map reply_text replies))
       (all_answered (drop_through 10 rest) now (text ++ reply_text reply) last others replies
       (turn rest text (reply_text reply) last last Awaits dialogue some
       (record { said = SiteEvent (Command (Act process event)); reply = reply; says = says; answers = (are.0, refl, refl); text_is = refl }))
@@ -57,28 +58,28 @@ module _ (site : ℕ) (first : Bool) (bytes : List ℕ) where
     pub text : List ℕ
     pub now_is : now ≡ Some left
     pub says : LinesSay rest events left
-    pub dialogue : Dialogue Bool (IsTurnOfSite site) first bytes rest text last Awaits
+    pub dialogue : Dialogue Bool (IsTurnOfSite t site) first bytes rest text last Awaits
     pub wrote : Appends old out text
     pub counted : n + length left ≤ length bytes
 
 -- the same, where the reader tells its bytes
-abbrev pub HasWaited : ℕ → Bool → Option (List ℕ) → Option (List ℕ) → Option (List ℕ) → Option (List ℕ) → Bool → List Event → ℕ → Type 0
-HasWaited site first start now old out last events n =
-    (bytes : List ℕ) → start ≡ Some bytes → WaitedSoFar site first bytes now old out last events n
+abbrev pub HasWaited : Topology → ℕ → Bool → Option (List ℕ) → Option (List ℕ) → Option (List ℕ) → Option (List ℕ) → Bool → List Event → ℕ → Type 0
+HasWaited t site first start now old out last events n =
+    (bytes : List ℕ) → start ≡ Some bytes → WaitedSoFar t site first bytes now old out last events n
 
-module _ (site : ℕ) (first : Bool) (start old now out : Option (List ℕ)) (last : Bool) (n : ℕ) where
-  none_waits : HasTalked Bool (IsTurnOfSite site) first start now old out last n → HasWaited site first start now old out last [] n
+module _ (t : Topology) (site : ℕ) (first : Bool) (start old now out : Option (List ℕ)) (last : Bool) (n : ℕ) where
+  none_waits : HasTalked Bool (IsTurnOfSite t site) first start now old out last n → HasWaited t site first start now old out last [] n
   none_waits so_far = λ bytes e.
       let s = so_far bytes e in
       record { rest = s.rest; left = s.rest; text = s.text; now_is = s.now_is; says = none s.rest; dialogue = s.dialogue; wrote = s.wrote; counted = s.counted }
 
-module _ (site : ℕ) (first : Bool) (start old now out : Option (List ℕ)) (last : Bool) (events : List Event) (n : ℕ)
-    (so_far : HasWaited site first start now old out last events n) where
+module _ (t : Topology) (site : ℕ) (first : Bool) (start old now out : Option (List ℕ)) (last : Bool) (events : List Event) (n : ℕ)
+    (so_far : HasWaited t site first start now old out last events n) where
   -- one more waits
   pub one_waits : (after : Option (List ℕ)) (next : NextLine) (process : ℕ) (event : Event)
       → IfSome now (λ bytes. IsNextLine bytes next) → IfSome now (λ bytes. after ≡ Some (drop_through 10 bytes)) → next ≢ End
       → WasSaidToSite (line_of next) (SiteEvent (Command (Act process event)))
-      → HasWaited site first start after old out last (events ++ event ∷ []) (n + 1)
+      → HasWaited t site first start after old out last (events ++ event ∷ []) (n + 1)
   one_waits after next process event is left going says = λ bytes e.
       let s = so_far bytes e in
       let one = first_is s.left next (at_some now (λ bytes. IsNextLine bytes next) s.left s.now_is is) going in
@@ -97,30 +98,30 @@ module _ (site : ℕ) (first : Bool) (start old now out : Option (List ℕ)) (la
       }
 
   -- those that wait are answered
-  pub all_told : (wrote : Option (List ℕ)) → WereAnswered events out wrote → HasTalked Bool (IsTurnOfSite site) first start now old wrote last n
+  pub all_told : (wrote : Option (List ℕ)) → WereAnswered events out wrote → HasTalked Bool (IsTurnOfSite t site) first start now old wrote last n
   all_told wrote told = λ bytes e.
       let s = so_far bytes e in
       record {
         rest = s.left;
         text = s.text ++ flat_map reply_text told.replies;
         now_is = s.now_is;
-        dialogue = all_answered site first bytes s.rest s.left s.text last events told.replies s.dialogue s.says told.are;
+        dialogue = all_answered t site first bytes s.rest s.left s.text last events told.replies s.dialogue s.says told.are;
         wrote = Appends-trans old out wrote s.text (flat_map reply_text told.replies) s.wrote told.wrote;
         counted = s.counted;
       }
 
   -- a fault comes after the lines that were answered
-  pub waited_some : (has_failed : Bool) (fault : DialogueFault) → IfSome start (λ bytes. Conversed (IsTurnOfSite site) first bytes old out has_failed (Err fault))
+  pub waited_some : (has_failed : Bool) (fault : DialogueFault) → IfSome start (λ bytes. Conversed (IsTurnOfSite t site) first bytes old out has_failed (Err fault))
   waited_some has_failed fault = if_some start _ (λ bytes e.
       let s = so_far bytes e in
       record { text = s.text; is = (s.rest, last, s.dialogue); wrote = inr s.wrote })
 
-  pub waited_err : (has_failed : Bool) (r : Result Flow DialogueFault) → IsErr r → IfSome start (λ bytes. Conversed (IsTurnOfSite site) first bytes old out has_failed r)
+  pub waited_err : (has_failed : Bool) (r : Result Flow DialogueFault) → IsErr r → IfSome start (λ bytes. Conversed (IsTurnOfSite t site) first bytes old out has_failed r)
   waited_err has_failed (Ok x) err = absurd (true≢false (sym err))
   waited_err has_failed (Err fault) err = waited_some has_failed fault
 
   pub waited_failed : (after : Option (List ℕ)) (has_failed : Bool) (r : Result Flow DialogueFault) → IsErr r → has_failed ≡ true
-      → IfSome start (λ bytes. Conversed (IsTurnOfSite site) first bytes old after has_failed r)
+      → IfSome start (λ bytes. Conversed (IsTurnOfSite t site) first bytes old after has_failed r)
   waited_failed after has_failed (Ok x) err failed = absurd (true≢false (sym err))
   waited_failed after has_failed (Err fault) err failed = if_some start _ (λ bytes e.
       let s = so_far bytes e in
@@ -137,42 +138,45 @@ module _ (site : ℕ) (first : Bool) (start old now out : Option (List ℕ)) (la
   unread_waiting = unread_err start now n has_left
 
 -- a line that says this was answered
-pub answered_line : (now site : ℕ) (was is : Bool) (flow : Flow) (line old new : Option (List ℕ)) (said : SiteLine) → now ≡ site
-    → WasSaidToSite line said → SaidTurn now was is said flow old new → HasAnswered (λ line text. IsTurnOfSite site was is line text flow) line old new
-answered_line now site was is flow line old new said same says turned =
-    let turned' = subst (λ (s : ℕ). SaidTurn s was is said flow old new) same turned in
+pub answered_line : (t' : Topology) (here : ℕ) (t : Topology) (site : ℕ) (was is : Bool) (flow : Flow) (line old new : Option (List ℕ)) (said : SiteLine)
+    → t' ≡ t → here ≡ site → WasSaidToSite line said → SaidTurn t' here was is said flow old new
+    → HasAnswered (λ line text. IsTurnOfSite t site was is line text flow) line old new
+answered_line t' here t site was is flow line old new said same kept says turned =
+    let first = subst (λ (u : Topology). SaidTurn u here was is said flow old new) same turned in
+    let second = subst (λ (s : ℕ). SaidTurn t s was is said flow old new) kept first in
     record {
-      text = reply_text turned'.reply;
-      answered = record { said = said; reply = turned'.reply; says = says; answers = turned'.answers; text_is = refl };
-      wrote = turned'.wrote;
+      text = reply_text second.reply;
+      answered = record { said = said; reply = second.reply; says = says; answers = second.answers; text_is = refl };
+      wrote = second.wrote;
     }
 
 -- no line was read
-pub waits_begin : (site : ℕ) (first : Bool) (start old : Option (List ℕ)) (events : List Event) → events ≡ []
-    → (length events < 64) × HasWaited site first start start old old first events 0
-waits_begin site first start old events is = subst (λ (es : List Event). (length es < 64) × HasWaited site first start start old old first es 0) (sym is)
-    (omega arith, none_waits site first start old start old first 0 (begun Bool (IsTurnOfSite site) first start old))
+pub waits_begin : (t : Topology) (site : ℕ) (first : Bool) (start old : Option (List ℕ)) (events : List Event) → events ≡ []
+    → (length events < 64) × HasWaited t site first start start old old first events 0
+waits_begin t site first start old events is = subst (λ (es : List Event). (length es < 64) × HasWaited t site first start start old old first es 0) (sym is)
+    (omega arith, none_waits t site first start old start old first 0 (begun Bool (IsTurnOfSite t site) first start old))
 
 -- none waits after they were answered
-pub waits_anew : (site : ℕ) (first : Bool) (start old now out : Option (List ℕ)) (last : Bool) (events : List Event) (n : ℕ) → events ≡ []
-    → HasTalked Bool (IsTurnOfSite site) first start now old out last n → (length events < 64) × HasWaited site first start now old out last events n
-waits_anew site first start old now out last events n is so_far = subst (λ (es : List Event). (length es < 64) × HasWaited site first start now old out last es n) (sym is)
-    (omega arith, none_waits site first start old now out last n so_far)
+pub waits_anew : (t : Topology) (site : ℕ) (first : Bool) (start old now out : Option (List ℕ)) (last : Bool) (events : List Event) (n : ℕ) → events ≡ []
+    → HasTalked Bool (IsTurnOfSite t site) first start now old out last n → (length events < 64) × HasWaited t site first start now old out last events n
+waits_anew t site first start old now out last events n is so_far = subst (λ (es : List Event). (length es < 64) × HasWaited t site first start now old out last es n) (sym is)
+    (omega arith, none_waits t site first start old now out last n so_far)
 
-pub turn_anew : (here site : ℕ) (first : Bool) (start old now out : Option (List ℕ)) (last : Bool) (events : List Event) (n : ℕ) → here ≡ site → events ≡ []
-    → HasTalked Bool (IsTurnOfSite site) first start now old out last n
-    → (here ≡ site) × (length events < 64) × HasWaited site first start now old out last events n
-turn_anew here site first start old now out last events n kept is so_far =
-    let w = waits_anew site first start old now out last events n is so_far in (kept, w.0, w.1)
+pub turn_anew : (t' : Topology) (here : ℕ) (t : Topology) (site : ℕ) (first : Bool) (start old now out : Option (List ℕ)) (last : Bool) (events : List Event) (n : ℕ)
+    (links : List ℕ) → t' ≡ t → here ≡ site → LeadToOthers t site links → events ≡ []
+    → HasTalked Bool (IsTurnOfSite t site) first start now old out last n
+    → (t' ≡ t) × (here ≡ site) × (length events < 64) × HasWaited t site first start now old out last events n × LeadToOthers t site links
+turn_anew t' here t site first start old now out last events n links same kept lead is so_far =
+    let w = waits_anew t site first start old now out last events n is so_far in (same, kept, w.0, w.1, lead)
 
 -- one more waits, in a list of any name
-pub waits_on : (site : ℕ) (first : Bool) (start old now out : Option (List ℕ)) (last : Bool) (events : List Event) (n : ℕ)
-    → HasWaited site first start now old out last events n
+pub waits_on : (t : Topology) (site : ℕ) (first : Bool) (start old now out : Option (List ℕ)) (last : Bool) (events : List Event) (n : ℕ)
+    → HasWaited t site first start now old out last events n
     → (after left : Option (List ℕ)) (grown : List Event) (next : NextLine) (said : SiteLine) (event : Event) → left ≡ after → grown ≡ events ++ event ∷ []
     → IfSome now (λ bytes. IsNextLine bytes next) → IfSome now (λ bytes. after ≡ Some (drop_through 10 bytes)) → next ≢ End
-    → WasSaidToSite (line_of next) said → SaysEvent said event → HasWaited site first start left old out last grown (n + 1)
-waits_on site first start old now out last events n so_far after left grown next said event same are is rest going says event_is =
-    subst (λ (b : Option (List ℕ)). HasWaited site first start b old out last grown (n + 1)) (sym same)
-    (subst (λ (es : List Event). HasWaited site first start after old out last es (n + 1)) (sym are)
-    (one_waits site first start old now out last events n so_far after next event_is.0 event is rest going
+    → WasSaidToSite (line_of next) said → SaysEvent said event → HasWaited t site first start left old out last grown (n + 1)
+waits_on t site first start old now out last events n so_far after left grown next said event same are is rest going says event_is =
+    subst (λ (b : Option (List ℕ)). HasWaited t site first start b old out last grown (n + 1)) (sym same)
+    (subst (λ (es : List Event). HasWaited t site first start after old out last es (n + 1)) (sym are)
+    (one_waits t site first start old now out last events n so_far after next event_is.0 event is rest going
     (subst (λ (l : SiteLine). WasSaidToSite (line_of next) l) event_is.1 says)))

@@ -2,6 +2,7 @@
 use Rattle.std.specs.Prelude.{◌≡◌, ℕ, ◌<◌, Bool, List, [], ◌∷◌, length, Option}
 use Rattle.std.specs.Io.BufRead.{drop_through}
 use Rattle.std.specs.Io.KnownBytes.{Appends}
+use Rattle.cmh_frames.specs.Topology.{Topology}
 use Rattle.cmh_frames.specs.declared.event.Event.{Event}
 use Rattle.cmh_console.specs.Dialogue.{line_in}
 use Rattle.cmh_console.specs.declared.dialogue.Flow.{Flow}
@@ -25,7 +26,7 @@ abbrev pub SaysEvent : SiteLine → Event → Type 0
 SaysEvent said event = (process : ℕ) × (said ≡ SiteEvent (Command (Act process event)))
 
 -- a line that says this was answered
-pub record SaidTurn (site : ℕ) (was is : Bool) (said : SiteLine) (flow : Flow) (old new : Option (List ℕ)) : Type 0 where
+pub record SaidTurn (t : Topology) (site : ℕ) (was is : Bool) (said : SiteLine) (flow : Flow) (old new : Option (List ℕ)) : Type 0 where
   pub reply : SiteReply
-  pub answers : AnswersSite site was is said reply flow
+  pub answers : AnswersSite t site was is said reply flow
   pub wrote : Appends old new (reply_text reply)

@@ -4,9 +4,10 @@ ghost use Rattle.std.specs.Prelude.{◌≡◌, ◌≢◌, ◌≤◌, ◌⊎◌, 
 ghost use Rattle.cmh_console.specs.Faults.{NamesFault};
 ghost use Rattle.cmh_console.specs.Status.{IsStatus};
 ghost use Rattle.cmh_console.specs.Dialogue.{Conversed, IsAnswerFault, IsDialogueFault, line_of};
-ghost use Rattle.cmh_links.specs.Threads.{connected_in, failed_in};
-ghost use Rattle.cmh_site.specs.Endings.{IsSiteFault, Served, Welcomed};
-ghost use Rattle.cmh_site.specs.SiteTalk.{AnswersSite, CountsLinks, IsConnected, IsTurnOfSite, WasSaidToSite};
+ghost use Rattle.cmh_links.specs.Threads.{connected_in, failed_in, link_sites};
+ghost use Rattle.cmh_site.specs.Endings.{EndedEarly, IsSiteFault, Served, Welcomed};
+ghost use Rattle.cmh_site.specs.SiteTalk.{AnswersSite, CountsLinks, IsConnected, IsTurnOfSite, LeadToOthers, WasSaidToSite};
+ghost use Rattle.cmh_host.specs.Ends.{TellsLinks};
 ghost use Rattle.cmh_host.specs.SiteFaults.{as_fault};
 ghost use Rattle.cmh_host.specs.Together.{WereAnswered};
 ghost use Rattle.cmh_site.specs.Together.{SaidTurn, SaysEvent};
@@ -50,11 +51,13 @@ where
 
     // At status 0 it said that it listens, answered each line in its order, and said that it stopped.
     ensures served { result ≡ 0 → IfSome input.old.left
-        (λ bytes. Served start.now.site bytes out.old.written out.new.written) }
+        (λ bytes. Served start.now.topology.now start.now.site bytes out.old.written out.new.written) }
     ensures flushed { result ≡ 0 → out.new.is_flushed ≡ true }
     ensures silent { result ≡ 0 → err.new ≡ err.old }
 
-    // Else a fault is named that has a cause.
+    // Else it wrote a beginning of that, unless a write failed, and a fault is named that has a cause.
+    ensures early { result ≢ 0 → IfSome input.old.left (λ bytes. EndedEarly start.now.topology.now start.now.site bytes
+        out.old.written out.new.written out.new.has_failed) }
     ensures fault { result ≢ 0 → NamesFault as_fault
         (IsSiteFault start.now.topology.now start.now.site input.old.left input.new.has_failed out.new.has_failed)
         result err.old err.new }
@@ -80,10 +83,12 @@ where
     V: Voice + Send + Drop + 'static,
     // It said that it listens, answered each line in its order, and said that it stopped.
     ensures served { OnOk result (IfSome input.old.left
-        (λ bytes. Served start.now.site bytes out.old.written out.new.written)) }
+        (λ bytes. Served start.now.topology.now start.now.site bytes out.old.written out.new.written)) }
     ensures flushed { OnOk result (out.new.is_flushed ≡ true) }
 
-    // The fault has a cause.
+    // Else it wrote a beginning of that, unless a write failed, and the fault has a cause.
+    ensures early { OnErr result (IfSome input.old.left (λ bytes. EndedEarly start.now.topology.now start.now.site bytes
+        out.old.written out.new.written out.new.has_failed)) }
     ensures fault { IfErr result
         (IsSiteFault start.now.topology.now start.now.site input.old.left input.new.has_failed out.new.has_failed) }
 {
@@ -103,8 +108,10 @@ fn site_into<R, I: BufRead + Ahead, W: Write>(
 where
     R: System + Files<File = File> + AllocGlobal + Send + 'static,
     ensures served { OnOk result (IfSome input.old.left
-        (λ bytes. Served start.now.site bytes out.old.written out.new.written)) }
+        (λ bytes. Served start.now.topology.now start.now.site bytes out.old.written out.new.written)) }
     ensures flushed { OnOk result (out.new.is_flushed ≡ true) }
+    ensures early { OnErr result (IfSome input.old.left (λ bytes. EndedEarly start.now.topology.now start.now.site bytes
+        out.old.written out.new.written out.new.has_failed)) }
     ensures fault { IfErr result
         (IsSiteFault start.now.topology.now start.now.site input.old.left input.new.has_failed out.new.has_failed) }
 {
@@ -157,6 +164,9 @@ where
         noting: &Noting,
     ) -> Result<Self, SiteFault>
         ensures site { IfOk result (λ host. host.handle.site ≡ setup.now.site) }
+        ensures topology { IfOk result (λ host. host.topology.now ≡ setup.now.topology.now) }
+        ensures to_others { IfOk result (λ host. LeadToOthers host.topology.now host.handle.site
+            (link_sites host.threads.places.items host.threads.waiting.items)) }
         ensures unconnected { IfOk result (λ host. host.has_connected ≡ false) }
         ensures fault { IfErr result (λ fault. (fault ≡ SiteFault.Listen) ⊎ (fault ≡ SiteFault.JournalDisk)
             ⊎ (fault ≡ SiteFault.Memory)) }
@@ -191,8 +201,10 @@ where
         input: &mut Input<I>,
         out: &mut Output<W>,
     ) -> Result<Flow, DialogueFault>
+        requires to_others { LeadToOthers self.old.topology.now self.old.handle.site
+            (link_sites self.old.threads.places.items self.old.threads.waiting.items) }
         ensures served { IfSome input.old.left (λ bytes.
-            Welcomed self.old.handle.site self.old.has_connected bytes
+            Welcomed self.old.topology.now self.old.handle.site self.old.has_connected bytes
             out.old.written out.new.written out.new.has_failed result) }
         ensures fault { IfErr result (IsDialogueFault input.old.left input.new.has_failed out.new.has_failed) }
     {
@@ -208,8 +220,10 @@ where
         input: &mut Input<I>,
         out: &mut Output<W>,
     ) -> Result<Flow, DialogueFault>
+        requires to_others { LeadToOthers self.old.topology.now self.old.handle.site
+            (link_sites self.old.threads.places.items self.old.threads.waiting.items) }
         ensures answers { IfSome input.old.left (λ bytes.
-            Conversed (IsTurnOfSite self.old.handle.site) self.old.has_connected bytes
+            Conversed (IsTurnOfSite self.old.topology.now self.old.handle.site) self.old.has_connected bytes
             out.old.written out.new.written out.new.has_failed result) }
         ensures fault { IfErr result (IsDialogueFault input.old.left input.new.has_failed out.new.has_failed) }
     {
@@ -268,9 +282,14 @@ where
         said: SiteLine,
         out: &mut Output<W>,
     ) -> Result<Flow, DialogueFault>
-        ensures answers { IfOk result (λ flow. SaidTurn self.old.handle.site self.old.has_connected self.new.has_connected
-            said flow out.old.written out.new.written) }
+        requires to_others { LeadToOthers self.old.topology.now self.old.handle.site
+            (link_sites self.old.threads.places.items self.old.threads.waiting.items) }
+        ensures answers { IfOk result (λ flow. SaidTurn self.old.topology.now self.old.handle.site
+            self.old.has_connected self.new.has_connected said flow out.old.written out.new.written) }
+        ensures topology { self.new.topology.now ≡ self.old.topology.now }
         ensures site { self.new.handle.site ≡ self.old.handle.site }
+        ensures to_others { LeadToOthers self.old.topology.now self.old.handle.site
+            (link_sites self.new.threads.places.items self.new.threads.waiting.items) }
         ensures fault { IfErr result (IsAnswerFault out.old.written out.new.written out.new.has_failed) }
     {
         let (reply, flow) = self.reply(said)?;
@@ -280,8 +299,14 @@ where
     }
 
     fn reply(&mut self, said: SiteLine) -> Result<(SiteReply, Flow), AllocError>
-        ensures replies { IfOk result (λ replied. AnswersSite self.old.handle.site self.old.has_connected self.new.has_connected said replied.0 replied.1) }
+        requires to_others { LeadToOthers self.old.topology.now self.old.handle.site
+            (link_sites self.old.threads.places.items self.old.threads.waiting.items) }
+        ensures replies { IfOk result (λ replied. AnswersSite self.old.topology.now self.old.handle.site
+            self.old.has_connected self.new.has_connected said replied.0 replied.1) }
+        ensures topology { self.new.topology.now ≡ self.old.topology.now }
         ensures site { self.new.handle.site ≡ self.old.handle.site }
+        ensures to_others { LeadToOthers self.old.topology.now self.old.handle.site
+            (link_sites self.new.threads.places.items self.new.threads.waiting.items) }
     {
         match said {
             SiteLine::Event(Line::Silent) => Ok((SiteReply::Silent, Flow::Awaits)),
@@ -293,22 +318,32 @@ where
                 Ok((self.handle.declared(&self.rt)?, Flow::Awaits))
             }
             SiteLine::Order(Order::Connect) => Ok((self.connect(), Flow::Awaits)),
-            SiteLine::Order(Order::Links) => {
-                let reply = link_ends(&self.rt, self.alloc, self.topology, self.threads.links())?;
-                Ok((reply, Flow::Awaits))
-            }
+            SiteLine::Order(Order::Links) => Ok((self.links()?, Flow::Awaits)),
             SiteLine::Order(Order::Quit) => Ok((SiteReply::Silent, Flow::Ends)),
         }
     }
 
+    fn links(&self) -> Result<SiteReply, AllocError>
+        ensures { IfOk result (TellsLinks self.now.topology.now self.now.handle.site) }
+    {
+        let links = self.threads.links();
+        link_ends(&self.rt, self.alloc, self.topology, self.handle.site, links)
+    }
+
     /// Opens the outgoing links, once.
     fn connect(&mut self) -> SiteReply
-        ensures replies { MatchBool self.old.has_connected (result ≡ SiteReply.Late) (IsConnected result) }
+        requires to_others { LeadToOthers self.old.topology.now self.old.handle.site
+            (link_sites self.old.threads.places.items self.old.threads.waiting.items) }
+        ensures replies { MatchBool self.old.has_connected (result ≡ SiteReply.Late)
+            (IsConnected self.old.topology.now self.old.handle.site result) }
         ensures counted { self.old.has_connected ≡ false → CountsLinks
             (connected_in self.old.threads.places.items) (connected_in self.new.threads.places.items)
             (failed_in self.old.threads.places.items) (failed_in self.new.threads.places.items) result }
         ensures connected { self.new.has_connected ≡ true }
+        ensures topology { self.new.topology.now ≡ self.old.topology.now }
         ensures site { self.new.handle.site ≡ self.old.handle.site }
+        ensures to_others { LeadToOthers self.old.topology.now self.old.handle.site
+            (link_sites self.new.threads.places.items self.new.threads.waiting.items) }
     {
         if self.has_connected {
             return SiteReply::Late;
