@@ -1,5 +1,5 @@
 -- What changes at one end of the links with one peer, where no other end changes.
-use Rattle.std.specs.Prelude.{◌≡◌, ◌≢◌, ℕ, ◌<◌, Bool, true, List, slice_get, slice_index_or, slice_set, Option, None, Some}
+use Rattle.std.specs.Prelude.{◌≡◌, ◌≢◌, ◌⊎◌, ℕ, ◌<◌, ◌≤◌, Bool, true, false, List, slice_get, slice_index_or, slice_set, Option, None, Some}
 use Rattle.cmh_model3.specs.declared.frame.Message.{Message}
 use Rattle.cmh_hello3.specs.declared.acknowledgement.Acknowledgement.{Acknowledgement}
 use Rattle.cmh_resume3.specs.Receiver.{Receiver, rested, said, synced_of}
@@ -48,6 +48,9 @@ IsSyncedAt place xs = (d : Peer) → (slice_index_or xs place d).into.unsynced �
 abbrev pub IsClaimedAt : ℕ → ℕ → List Peer → Type 0
 IsClaimedAt place line xs = (d : Peer) → (slice_index_or xs place d).into.claim ≡ Some line
 
+abbrev pub IsClosedAt : ℕ → List Peer → Type 0
+IsClosedAt place xs = (d : Peer) → (slice_index_or xs place d).into.closed ≡ true
+
 abbrev pub IsReceived : List Message → ℕ → Bool → Receiver → Receiver → Type 0
 IsReceived messages now closes a b = b ≡ received messages now closes a
 
@@ -56,9 +59,10 @@ pub record EndsAt (line : ℕ) (a b : Receiver) : Type 0 where
   pub claimed : a.claim ≡ Some line → b ≡ rested a
   pub other : a.claim ≢ Some line → b ≡ a
 
--- the connection has the claim, and this is acknowledged on it
-pub record SaysCount (line epoch : ℕ) (acknowledgement : Acknowledgement) (a b : Receiver) : Type 0 where
+-- The connection has the claim, and this is acknowledged on it after a read, which filled its buffer or not.
+pub record SaysCount (line : ℕ) (filled : Bool) (epoch : ℕ) (acknowledgement : Acknowledgement) (a b : Receiver) : Type 0 where
   pub claimed : a.claim ≡ Some line
+  pub due : (filled ≡ false) ⊎ (4096 ≤ a.unsaid)
   pub count : acknowledgement.count ≡ synced_of a
   pub epoch_is : acknowledgement.epoch ≡ epoch
   pub after : b ≡ said a
@@ -66,6 +70,6 @@ pub record SaysCount (line epoch : ℕ) (acknowledgement : Acknowledgement) (a b
 -- An acknowledgement, where the connection has the claim and the read did not fill its buffer or 4,096 messages came since
 -- the last one; otherwise none, and nothing changes.
 abbrev pub Acknowledges : ℕ → ℕ → Bool → ℕ → Option Acknowledgement → List Peer → List Peer → Type 0
-Acknowledges place line filled epoch (Some acknowledgement) xs ys = ChangesInto place (SaysCount line epoch acknowledgement) xs ys
+Acknowledges place line filled epoch (Some acknowledgement) xs ys = ChangesInto place (SaysCount line filled epoch acknowledgement) xs ys
 Acknowledges place line filled epoch None xs ys = (ys ≡ xs)
     × ((d : Peer) → (slice_index_or xs place d).into.claim ≡ Some line → (filled ≡ true) × ((slice_index_or xs place d).into.unsaid < 4096))

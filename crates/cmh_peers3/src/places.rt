@@ -1,7 +1,7 @@
 //! What happens at one end of the links with the peer at a place.
 
 ghost use Rattle.std.specs.Prelude.{◌≡◌, ◌<◌, ◌+◌, ◌^◌, length, IfErr, IfOk, OnErr, slice_index_or};
-ghost use Rattle.cmh_peers3.specs.Changes.{Acknowledges, ChangesInto, ChangesOut, DoesSafely, EndsAt, GivesSafely, IsClaimedAt, IsReceived, IsSyncedAt};
+ghost use Rattle.cmh_peers3.specs.Changes.{Acknowledges, ChangesInto, ChangesOut, DoesSafely, EndsAt, GivesSafely, IsClaimedAt, IsClosedAt, IsReceived, IsSyncedAt};
 ghost use Rattle.cmh_peers3.specs.declared.peer.Peer.{Peer as PeerType};
 ghost use Rattle.cmh_resume3.specs.Receiver.{Claims};
 
@@ -47,7 +47,7 @@ pub fn claim_at(
     ensures claims { IfOk result (λ answer.
         ChangesInto place (λ a b. Claims a line now answer b) peers.old.items peers.new.items) }
     ensures speaks { IfOk result (λ answer. answer.hello ≡ speaker) }
-    ensures closed { IfErr result (λ refusal. refusal ≡ Refusal.Closed) }
+    ensures closed { IfErr result (λ refusal. (refusal ≡ Refusal.Closed) × IsClosedAt place peers.old.items) }
     ensures same { OnErr result (peers.new.items ≡ peers.old.items) }
 {
     peers[place].into.claim(line, now, speaker)

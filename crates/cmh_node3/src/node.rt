@@ -1,0 +1,168 @@
+//! A station with its links.
+
+ghost use Rattle.std.specs.Prelude.{◌≡◌, IfOk, List, Option, map};
+ghost use Rattle.std.specs.List.Sorted.{IsStrictlyIncreasing};
+ghost use Rattle.cmh_journaled.specs.Keepers.{unsent};
+ghost use Rattle.cmh_journaled.specs.Steps.{HandedOver};
+ghost use Rattle.cmh_log3.specs.Files.{Held};
+ghost use Rattle.cmh_model3.specs.Entries.{Entry as Step};
+ghost use Rattle.cmh_node3.specs.Nodes.{HasStory, IsExact};
+ghost use Rattle.cmh_node3.specs.Steps.{BeginsAs, GivenSo};
+ghost use Rattle.cmh_peers3.specs.Peers.{met as met_by, others};
+ghost use Rattle.cmh_station3.specs.Opening.{Opened};
+ghost use Rattle.cmh_topology3.specs.Topology.{sites_of};
+
+use crate::sealed::Sealed;
+use crate::settling::give_all;
+use cmh_log3::SegmentFile;
+use cmh_model3::SiteId;
+use cmh_peers3::{Peer, others_of, peers_of};
+use cmh_station3::Station;
+use cmh_topology3::{Topology, World};
+use std::alloc::{AllocError, Global};
+use std::marker::Model;
+
+/// A site of edition 3: its station, and with each other site the two ends here of their links.
+///
+/// Between two calls each sender's end was given just what the journal sent to its site, all of it synced, and in the
+/// journal's order; and each receiver's end counts what the journal got from its site. But once the site is sealed for
+/// memory, a sender's end may lack the last of what was sent.
+#[derive(Drop)]
+pub struct Node<F: SegmentFile> {
+    pub(crate) alloc: Global,
+    pub(crate) world: World,
+    pub(crate) site: SiteId,
+    pub(crate) station: Station<F>,
+    /// Ascending by site.
+    pub(crate) peers: Vec<Peer>,
+    /// Their sites.
+    pub(crate) others: Vec<SiteId>,
+    pub(crate) sealed: Option<Sealed>,
+}
+
+impl<F: SegmentFile> Model for Node<F> {
+    ghost use Rattle.std.specs.Prelude.{List};
+    ghost use Rattle.cmh_model3.specs.Entries.{Entry as Step};
+    ghost use Rattle.cmh_node3.specs.Nodes as spec;
+
+    ghost Value = { spec.Node F };
+
+    ghost view = { λ n. record {
+      world = n.world;
+      site = n.site;
+      station = n.station;
+      peers = n.peers.items;
+      others = n.others.items;
+      sealed = n.sealed;
+    } };
+
+    ghost invariant = { λ n. (steps : List Step) × spec.IsExact F.told F.has_failed (record {
+      world = n.world;
+      site = n.site;
+      station = n.station;
+      peers = n.peers.items;
+      others = n.others.items;
+      sealed = n.sealed;
+    }) steps };
+}
+
+impl<F: SegmentFile> Node<F> {
+    /// A site that begins where its station was opened. No link of it is connected, none is closed, and nothing that it sent
+    /// is known to be acknowledged. Where memory is refused the station is given up.
+    pub fn new(
+        alloc: Global,
+        topology: &Topology,
+        site: SiteId,
+        station: Station<F>,
+    ) -> Result<Self, AllocError>
+        requires { (before : Option Held) × Opened F.told F.has_failed topology.now site before station }
+        ensures { IfOk result (BeginsAs F.told F.has_failed topology.now site station) }
+    {
+        let mut station = station;
+        match meet_all(alloc, topology, site, &mut station) {
+            Ok(met) => {
+                let Met {
+                    others,
+                    peers,
+                    sealed,
+                } = met;
+                Ok(Node {
+                    alloc,
+                    world: topology.world(),
+                    site,
+                    station,
+                    peers,
+                    others,
+                    sealed,
+                })
+            }
+            Err(AllocError) => Err(AllocError),
+        }
+    }
+
+    /// The station, to ask.
+    pub fn station(&self) -> &Station<F>
+        ensures { result.now ≡ self.now.station }
+    {
+        &self.station
+    }
+
+    /// The other sites, ascending, each with the ends of its links. They have just what the journal has.
+    pub fn peers(&self) -> &[Peer]
+        ensures value { result.now ≡ self.now.peers }
+        ensures exact { (steps : List Step) × IsExact F.told F.has_failed self.now steps }
+    {
+        &self.peers
+    }
+
+    /// Why the site has stopped for good.
+    pub fn sealed(&self) -> Option<Sealed>
+        ensures { result ≡ self.now.sealed }
+    {
+        self.sealed
+    }
+}
+
+/// The other sites, and the ends of their links.
+#[derive(Drop)]
+struct Met {
+    others: Vec<SiteId>,
+    peers: Vec<Peer>,
+    sealed: Option<Sealed>,
+}
+
+/// Hands over all that the station has, and meets the other sites by it. It stands apart, so that a failure here does not
+/// drop the station.
+fn meet_all<F: SegmentFile>(
+    alloc: Global,
+    topology: &Topology,
+    site: SiteId,
+    station: &mut Station<F>,
+) -> Result<Met, AllocError>
+    ensures others { IfOk result (λ met. met.others.items ≡ others site (sites_of topology.now)) }
+    ensures ascending { IfOk result (λ met. IsStrictlyIncreasing met.others.items) }
+    ensures handed { IfOk result (λ met. HandedOver unsent station.old station.old.kept.waiting station.new) }
+    ensures story { IfOk result (λ met. (steps : List Step) → HasStory F.told F.has_failed station.old steps
+        → HasStory F.told F.has_failed station.new steps) }
+    ensures given { IfOk result (λ met. GivenSo met.sealed station.old.kept.waiting
+        (map (met_by station.old.kept.waiting) met.others.items) met.peers.items) }
+{
+    let others = others_in(alloc, topology, site)?;
+    let handed = station.hand_over();
+    let mut peers = peers_of(alloc, &others, handed.as_slice())?;
+    let sealed = give_all(&mut peers, handed.as_slice());
+    Ok(Met {
+        others,
+        peers,
+        sealed,
+    })
+}
+
+/// The sites of the topology but this one.
+#[tactic(auto, using(crate::proofs::Others::others_ascend))]
+fn others_in(alloc: Global, topology: &Topology, site: SiteId) -> Result<Vec<SiteId>, AllocError>
+    ensures value { IfOk result (λ them. them.items ≡ others site (sites_of topology.now)) }
+    ensures ascending { IfOk result (λ them. IsStrictlyIncreasing them.items) }
+{
+    others_of(alloc, topology.sites(), site)
+}
