@@ -7,16 +7,18 @@ use Rattle.cmh_host.specs.declared.site_fault.SiteFault.{SiteFault}
 use Rattle.cmh_host.specs.declared.site_fault.SiteFault.TheVariants.{Site}
 use Rattle.cmh_site.specs.ClusterEndings.{ClusterEnds}
 use Rattle.cmh_site.specs.Descriptors.{StrictlyEnds}
-use Rattle.cmh_site.specs.Endings.{IsSiteFault, Served}
-use Rattle.cmh_commands.specs.FileFaults.{IsUnread, as_fault as of_file}
+use Rattle.cmh_inputs.specs.FileFaults.{IsUnread, as_fault as of_file}
+use Rattle.cmh_site.specs.Endings.{EndedEarly, IsSiteFault, Served}
 
 -- A site of a topology file ended, that read these bytes where they are told: at status 0 it was served to its end, which
--- was flushed; else a fault is named that has a cause.
+-- was flushed; else it was served up to some line or not at all, and a fault is named that has a cause.
 pub record SiteEnds {R W E : Type 0} (topology : List ℕ) (site : ℕ) (was read : Reading R) (old new : Writing W)
     (err_old err_new : Writing E) (status : ℕ) : Type 0 where
-  pub served : status ≡ 0 → IfSome was.left (λ lines. Served site lines old.written new.written)
+  pub served : status ≡ 0 → IfSome was.left (λ lines. Served topology site lines old.written new.written)
   pub flushed : status ≡ 0 → new.is_flushed ≡ true
   pub silent : status ≡ 0 → err_new ≡ err_old
+  pub early : status ≢ 0
+      → IfSome was.left (λ lines. EndedEarly topology site lines old.written new.written new.has_failed)
   pub fault : status ≢ 0 → NamesFault of_site (IsSiteFault topology site was.left read.has_failed new.has_failed) status err_old
       err_new
 

@@ -25,15 +25,16 @@ ghost use Rattle.cmh_site.specs.Descriptors.{StrictlyEnds};
 use clap::{ArgMatches, Error, error};
 use cmh_carriers::{Noted, Voice};
 use cmh_commands::{
-    AUDIT, BACKLOG, CLUSTER, DRAW, EDITION, EXPLAIN, FileFault, Help, JOURNAL, JOURNALS, Listener,
-    NEW_WORLD, NOTES, OUT, PAGE, PATIENCE, PLAY, PORT, QUIET, SERVE, SHOW, SITE, STRICT, TOPOLOGY,
-    audit, cluster_files_of, command, draw_or_page, explanation, play_into, play_page, read_file,
-    run_new_world, show,
+    AUDIT, BACKLOG, CLUSTER, DRAW, EDITION, EXPLAIN, Help, JOURNAL, JOURNALS, Listener, NEW_WORLD,
+    NOTES, OUT, PAGE, PATIENCE, PLAY, PORT, QUIET, SERVE, SHOW, SITE, STRICT, TOPOLOGY, audit,
+    cluster_files_of, command, draw_or_page, explanation, play_into, play_page, run_new_world,
+    show,
 };
 use cmh_console::{Ahead, Fault, Input, Output};
 use cmh_folder3::run_play3_into;
 use cmh_frames::SiteId;
 use cmh_host::{BacklogLimit, SiteStart, System};
+use cmh_inputs::{Disk, read_topology};
 use cmh_play::run_play;
 use cmh_play3::run_play3;
 use cmh_service::{ServiceStart, run_service};
@@ -277,13 +278,13 @@ where
     ensures reads_nothing { ReadsNoInput matches.now → input.new ≡ input.old }
 {
     if let Some(words) = matches.subcommand_matches(AUDIT) {
-        return audit(rt, words, out, err);
+        return audit(rt.alloc(), &Disk::new(rt), words, out, err);
     }
     if let Some(words) = matches.subcommand_matches(DRAW) {
-        return draw_or_page(rt, words, out, err);
+        return draw_or_page(rt.alloc(), &Disk::new(rt), words, out, err);
     }
     if let Some(words) = matches.subcommand_matches(SHOW) {
-        return show(rt, words, out, err);
+        return show(rt.alloc(), &Disk::new(rt), words, out, err);
     }
     if matches.subcommand_matches(NEW_WORLD).is_some() {
         return run_new_world(rt, out, err);
@@ -331,7 +332,7 @@ where
     ensures serves_some { ServesSome input.old input.new out.old out.new err.old err.new result }
 {
     let path = words.get_str(TOPOLOGY).unwrap_or("");
-    let topology = match read_file(rt, path, FileFault::Topology) {
+    let topology = match read_topology(rt.alloc(), &Disk::new(rt), path) {
         Ok(bytes) => bytes,
         Err(fault) => return Fault::from(fault).name_on(err),
     };
@@ -365,7 +366,7 @@ where
     ensures status { IsStatus result }
 {
     let path = words.get_str(TOPOLOGY).unwrap_or("");
-    let topology = match read_file(rt, path, FileFault::Topology) {
+    let topology = match read_topology(rt.alloc(), &Disk::new(rt), path) {
         Ok(bytes) => bytes,
         Err(fault) => return Fault::from(fault).name_on(err),
     };

@@ -1,5 +1,6 @@
 -- Pictures of files.
 use Rattle.std.specs.Prelude.{◌≡◌, ℕ, ◌<◌, ◌^◌, ◌⊎◌, ◌&&◌, if◌then◌else◌, List, Option, None, Some, is_none, unwrap_or}
+use Rattle.clap.specs.declared.parser.matches.Found.{Found}
 use Rattle.cmh_draw.specs.declared.picture.Kind.{Kind}
 use Rattle.cmh_console.specs.Device.{Writing}
 use Rattle.cmh_console.specs.Faults.{NamesFault}
@@ -8,8 +9,10 @@ use Rattle.cmh_draw3.specs.Draws as edition3
 use Rattle.cmh_picture.specs.Draws.{DrawEnds}
 use Rattle.cmh_picture.specs.declared.format.Format.{Format}
 use Rattle.cmh_picture.specs.declared.part.Part.{Part}
-use Rattle.cmh_commands.specs.Editions.{SaysSomeWorld}
-use Rattle.cmh_commands.specs.FileFaults.{IsUnread, as_fault}
+use Rattle.cmh_inputs.specs.Editions.{SaysSomeWorld}
+use Rattle.cmh_inputs.specs.FileFaults.{IsUnread, as_fault}
+use Rattle.cmh_inputs.specs.Stored.{Stored}
+use Rattle.cmh_commands.specs.Files.{EndsOver}
 use Rattle.cmh_commands.specs.Numbers.{TellsNumber}
 
 -- an option that is told is this column, or it is not told
@@ -27,6 +30,12 @@ abbrev pub DrawEndsByEdition : {W E : Type 0} → List ℕ → List (List ℕ) �
 DrawEndsByEdition topology files kind format part old new err_old err_new status =
     (SaysSomeWorld topology × edition3.DrawEnds topology files kind format part old new err_old err_new status)
     ⊎ (SaysNoWorld topology × DrawEnds topology files kind format part old new err_old err_new status)
+
+-- the files that are named were drawn
+abbrev pub DrawsNamed : {W E : Type 0} → Option Stored → Found → Kind → Format → Option Part → Writing W → Writing W → Writing E → Writing E → ℕ → Type 0
+DrawsNamed told found kind format part old new err_old err_new status =
+    EndsOver told found (λ topology files. DrawEndsByEdition topology files kind format part old new err_old err_new status)
+    old new err_old err_new status
 
 -- some files were drawn, or nothing is written and the fault of one that could not be read is named
 abbrev pub DrawsFiles : {W E : Type 0} → Kind → Format → Option Part → Writing W → Writing W → Writing E → Writing E → ℕ → Type 0

@@ -1,6 +1,5 @@
 pub mod Numbers
-pub mod FileFaults
-pub mod Editions
+pub mod Paths
 pub mod Files
 pub mod Drawing
 pub mod Playing

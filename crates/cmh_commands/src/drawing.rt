@@ -2,8 +2,8 @@
 
 ghost use Rattle.std.specs.Prelude.{◌≡◌, ◌<◌, ◌^◌, ℕ, MatchBool, Option, None, Some, codes, map};
 ghost use Rattle.clap.specs.Matches.{found_of, one_text};
-ghost use Rattle.cmh_commands.specs.Drawing.{DrawEndsByEdition, DrawsFiles, DrawsSome, TellsColumn, part_between};
-ghost use Rattle.cmh_commands.specs.Editions.{SaysSomeWorld};
+ghost use Rattle.cmh_inputs.specs.Editions.{SaysSomeWorld};
+ghost use Rattle.cmh_commands.specs.Drawing.{DrawEndsByEdition, DrawsFiles, DrawsNamed, DrawsSome, TellsColumn, part_between};
 ghost use Rattle.cmh_console.specs.TopologyFile3.{SaysNoWorld};
 ghost use Rattle.cmh_commands.specs.Numbers.{TellsNumber};
 ghost use Rattle.cmh_draw.specs.Kinds.{kind_word};
@@ -12,24 +12,32 @@ ghost use Rattle.cmh_console.specs.Status.{IsStatus};
 ghost use Rattle.cmh_picture.specs.Formats.{format_word};
 ghost use Rattle.cmh_picture.specs.declared.format.Format as formats;
 
-use crate::files::files_of;
+use crate::files::files_named;
 use crate::options::{FORMAT, FROM, KIND, TO};
 use clap::ArgMatches;
 use cmh_console::{Fault, Output};
 use cmh_draw3::run_draw3;
+use cmh_inputs::{AuditFiles, Inputs};
 use cmh_picture::{Drawing, Format, Kind, Part, run_draw};
 use std::alloc::Global;
 use std::io::Write;
-use std::rt::Files;
 
 /// Draws the journals that the words name.
-pub fn draw<R: AllocGlobal + Files, W: Write, E: Write>(
-    rt: &R,
+pub fn draw<N: Inputs, W: Write, E: Write>(
+    alloc: Global,
+    inputs: &N,
     words: &ArgMatches<'_>,
     out: &mut Output<W>,
     err: &mut Output<E>,
 ) -> u8
     ensures status { IsStatus result }
+    ensures draws_named { (kind : kinds.Kind) → (format : formats.Format) → (first last : Option ℕ)
+        → one_text (found_of words.now) (codes "kind") ≡ Some (kind_word kind)
+        → one_text (found_of words.now) (codes "format") ≡ Some (format_word format)
+        → TellsColumn (one_text (found_of words.now) (codes "from")) first
+        → TellsColumn (one_text (found_of words.now) (codes "to")) last
+        → DrawsNamed (N.holds inputs.now) (found_of words.now) kind format (part_between first last)
+        out.old out.new err.old err.new result }
     ensures draws { (kind : kinds.Kind) → (format : formats.Format) → (first last : Option ℕ)
         → one_text (found_of words.now) (codes "kind") ≡ Some (kind_word kind)
         → one_text (found_of words.now) (codes "format") ≡ Some (format_word format)
@@ -41,17 +49,8 @@ pub fn draw<R: AllocGlobal + Files, W: Write, E: Write>(
     let kind = kind_of(words);
     let format = format_of(words);
     let part = part_of(words);
-    match files_of(rt, words) {
-        Ok(files) => {
-            let drawing = Drawing {
-                topology: &files.topology,
-                journals: &files.journals,
-                kind,
-                format,
-                part,
-            };
-            draw_by_edition(rt.alloc(), files.is_edition3, &drawing, out, err)
-        }
+    match files_named(alloc, inputs, words) {
+        Ok(files) => draw_by_edition(alloc, &files, kind, format, part, out, err),
         Err(fault) => Fault::from(fault).name_on(err),
     }
 }
@@ -59,20 +58,30 @@ pub fn draw<R: AllocGlobal + Files, W: Write, E: Write>(
 /// Draws files whose topology says a world of edition 3, or none.
 fn draw_by_edition<W: Write, E: Write>(
     alloc: Global,
-    is_edition3: bool,
-    drawing: &Drawing<'_>,
+    files: &AuditFiles,
+    kind: Kind,
+    format: Format,
+    part: Option<Part>,
     out: &mut Output<W>,
     err: &mut Output<E>,
 ) -> u8
-    requires { MatchBool is_edition3 (SaysSomeWorld drawing.now.topology.now) (SaysNoWorld drawing.now.topology.now) }
+    requires { MatchBool files.now.is_edition3 (SaysSomeWorld files.now.topology.items)
+        (SaysNoWorld files.now.topology.items) }
     ensures status { IsStatus result }
-    ensures ends { DrawEndsByEdition drawing.now.topology.now (map (λ file. file.items) drawing.now.journals.now)
-        drawing.now.kind drawing.now.format drawing.now.part out.old out.new err.old err.new result }
+    ensures ends { DrawEndsByEdition files.now.topology.items (map (λ file. file.items) files.now.journals.items)
+        kind format part out.old out.new err.old err.new result }
 {
-    if is_edition3 {
-        return run_draw3(alloc, drawing, out, err);
+    let drawing = Drawing {
+        topology: &files.topology,
+        journals: &files.journals,
+        kind,
+        format,
+        part,
+    };
+    if files.is_edition3 {
+        return run_draw3(alloc, &drawing, out, err);
     }
-    run_draw(alloc, drawing, out, err)
+    run_draw(alloc, &drawing, out, err)
 }
 
 /// The kind of picture that the words ask for. The command line has a default, and takes no word that is none.

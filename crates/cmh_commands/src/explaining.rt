@@ -1,8 +1,6 @@
 //! A second line for people: what the line of a fault means here. It is worked out again from the words of the command
 //! line and from the files that they name, so it may find them changed. A file that is no regular one is not read again.
 
-use crate::file_fault::FileFault;
-use crate::files::{LONGEST_TOPOLOGY, read_file};
 use crate::options::{DECLARATIONS, JOURNAL, JOURNALS, OUT, PAGE, PORT, SCRIPT, SITE, TOPOLOGY};
 use crate::topology_trouble::{
     Limits, is_edition3, trouble_of_members, trouble_of_rows, trouble_of_world,
@@ -12,6 +10,7 @@ use cmh_console::{
     TopologyFile, Words, read_topology_file, read_topology_file_with_ports, read_topology_file3,
 };
 use cmh_frames::{Edition, SiteId, SiteRow, Topology, TopologyFault};
+use cmh_inputs::{Disk, LONGEST_TOPOLOGY, read_journal, read_topology};
 use cmh_journal::{JournalFault, read_stored};
 use cmh_topology3::Topology as Topology3;
 use serde_json::Value;
@@ -241,12 +240,20 @@ fn journal_at<'a>(words: &ArgMatches<'a>, place: Option<u16>) -> Option<&'a str>
     Some(*path)
 }
 
-/// What the file held, if it is a regular one that can be read once more.
-fn read_again<R: AllocGlobal + Files>(rt: &R, path: &str, fault: FileFault) -> Option<Vec<u8>> {
+/// What the topology file held, if it is a regular one that can be read once more.
+fn topology_again<R: AllocGlobal + Files>(rt: &R, path: &str) -> Option<Vec<u8>> {
     if !fs::metadata(rt, path).ok()?.is_file() {
         return None;
     }
-    read_file(rt, path, fault).ok()
+    read_topology(rt.alloc(), &Disk::new(rt), path).ok()
+}
+
+/// The same of a journal, which is at this place in the command, from 1.
+fn journal_again<R: AllocGlobal + Files>(rt: &R, path: &str, place: usize) -> Option<Vec<u8>> {
+    if !fs::metadata(rt, path).ok()?.is_file() {
+        return None;
+    }
+    read_journal(rt.alloc(), &Disk::new(rt), path, place).ok()
 }
 
 /// What a command does with a topology.
@@ -254,8 +261,6 @@ fn read_again<R: AllocGlobal + Files>(rt: &R, path: &str, fault: FileFault) -> O
 enum Task {
     /// It runs sites, which have ports.
     Serve,
-    /// It makes a page of journals of editions 1 and 2 alone.
-    Page,
     /// It tells the declarations of journals of edition 3 alone.
     Declarations,
     /// It audits or draws journals of any edition.
@@ -265,9 +270,6 @@ enum Task {
 fn task_of(words: &ArgMatches<'_>) -> Task {
     if words.get_str(JOURNAL).is_some() || words.get_str(SCRIPT).is_some() {
         return Task::Serve;
-    }
-    if words.get_flag(PAGE) {
-        return Task::Page;
     }
     if words.get_flag(DECLARATIONS) {
         return Task::Declarations;
@@ -283,7 +285,7 @@ fn explain_topology<R: AllocGlobal + Files>(
 ) -> Result<(), AllocError> {
     let path = words.get_str(TOPOLOGY).unwrap_or("");
     write!(text, "{path}: ")?;
-    match read_again(rt, path, FileFault::Topology) {
+    match topology_again(rt, path) {
         Some(bytes) => tell_topology(rt.alloc(), &bytes, task_of(words), text),
         None => {
             write!(text, "it is not read again to say more")?;
@@ -342,10 +344,6 @@ fn tell_edition3(
                 text,
                 "running sites have no edition 3 yet; `cmh play --edition 3` plays a script of it"
             )?;
-            return Ok(());
-        }
-        Task::Page => {
-            write!(text, "`draw` with --page has no edition 3 yet")?;
             return Ok(());
         }
         Task::Declarations | Task::Audit => {}
@@ -422,7 +420,7 @@ fn explain_set<R: AllocGlobal + Files>(
     let number = fault.number();
     let path = words.get_str(TOPOLOGY).unwrap_or("");
     let paths = words.get_strs(JOURNALS).unwrap_or(&[]);
-    let bytes = read_again(rt, path, FileFault::Topology).unwrap_or(Vec::new(rt.alloc()));
+    let bytes = topology_again(rt, path).unwrap_or(Vec::new(rt.alloc()));
     if read_topology_file3(rt.alloc(), &bytes).is_ok() {
         let trouble = trouble_of_segments(number);
         write!(text, "{trouble}")?;
@@ -463,7 +461,7 @@ fn heads_of<R: AllocGlobal + Files>(
 ) -> Result<Option<Vec<Head>>, AllocError> {
     let mut heads = Vec::new(rt.alloc());
     for (i, path) in paths.iter().enumerate() {
-        let Some(bytes) = read_again(rt, *path, FileFault::Journal(i + 1)) else {
+        let Some(bytes) = journal_again(rt, *path, i + 1) else {
             return Ok(None);
         };
         let Ok((journal, _)) = read_stored(&bytes) else {
@@ -538,7 +536,7 @@ fn explain_ports<R: AllocGlobal + Files>(
         None => write!(text, "of 127.0.0.1 one of these ports is taken:")?,
     }
     let path = words.get_str(TOPOLOGY).unwrap_or("");
-    let Some(bytes) = read_again(rt, path, FileFault::Topology) else {
+    let Some(bytes) = topology_again(rt, path) else {
         return Ok(());
     };
     match read_topology_file_with_ports(rt.alloc(), &bytes) {

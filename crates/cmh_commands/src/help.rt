@@ -245,8 +245,9 @@ that they sent or got. A picture of a run has at most 20000 lines, entries and f
 `fault picture`.
 
 With --page it writes a page in place of a picture: one HTML file that steps through the run in a browser, forward and
-back, with who waits for whom, what each controller knows and why each probe acted or was ignored. A page has at most
-20000 events; of more the fault is `fault page`.
+back, with who waits for whom, what each controller knows and why each probe acted or was ignored. Of edition 3 it has
+withdrawals, clocks and stamps, and what became of each declaration. A page has at most 20000 events; of more the fault
+is `fault page`.
 
 Statuses: 0 where a picture or a page was written, 1 where memory ran out, 2 for a command line that isn't understood, 3
 at a fault, which is named on standard error as in `cmh audit --help`.

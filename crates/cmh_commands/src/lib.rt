@@ -5,7 +5,6 @@
 mod auditing;
 mod drawing;
 mod explaining;
-mod file_fault;
 mod files;
 mod help;
 mod kept_files;
@@ -19,10 +18,7 @@ mod topology_trouble;
 pub use crate::auditing::{audit, show};
 pub use crate::drawing::draw;
 pub use crate::explaining::explanation;
-pub use crate::file_fault::FileFault;
-pub use crate::files::{
-    AuditFiles, ClusterFiles, cluster_files_of, files_of, journals_of, read_file,
-};
+pub use crate::files::{ClusterFiles, cluster_files_of};
 pub use crate::help::Help;
 pub use crate::listener::Listener;
 pub use crate::new_world::run_new_world;

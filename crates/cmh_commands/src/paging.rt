@@ -1,24 +1,28 @@
 //! Pages that step through a run: `draw --page` and `play --page`.
 
-ghost use Rattle.std.specs.Prelude.{◌≡◌, ℕ, Option, Some, codes};
+ghost use Rattle.std.specs.Prelude.{◌≡◌, ℕ, MatchBool, Option, Some, codes, map};
 ghost use Rattle.clap.specs.Matches.{found_of, one_text};
 ghost use Rattle.cmh_draw.specs.Kinds.{kind_word};
 ghost use Rattle.cmh_draw.specs.declared.picture.Kind as kinds;
 ghost use Rattle.cmh_console.specs.Status.{IsStatus};
+ghost use Rattle.cmh_console.specs.TopologyFile3.{SaysNoWorld};
 ghost use Rattle.cmh_picture.specs.Formats.{format_word};
 ghost use Rattle.cmh_picture.specs.declared.format.Format as formats;
-ghost use Rattle.cmh_commands.specs.Drawing.{DrawsFiles, DrawsSome, TellsColumn, part_between};
+ghost use Rattle.cmh_inputs.specs.Editions.{SaysSomeWorld};
+ghost use Rattle.cmh_commands.specs.Drawing.{DrawsFiles, DrawsNamed, DrawsSome, TellsColumn, part_between};
 ghost use Rattle.cmh_commands.specs.Files.{IsUnset};
-ghost use Rattle.cmh_commands.specs.Paging.{IsWritten, PagesFiles, PlaysToPage};
+ghost use Rattle.cmh_commands.specs.Paging.{IsWritten, PageEndsByEdition, PagesFiles, PagesNamed, PlaysToPage};
 ghost use Rattle.cmh_commands.specs.Playing.{PlaysScript};
 
 use crate::drawing::draw;
-use crate::files::files_of;
+use crate::files::files_named;
 use crate::kept_files::KeptFiles;
 use crate::options::PAGE;
 use clap::ArgMatches;
 use cmh_console::{Ahead, Fault, Input, Output};
+use cmh_inputs::{AuditFiles, Inputs};
 use cmh_page::{page_text, run_page};
+use cmh_page3::run_page3;
 use cmh_play::run_play_keeping;
 use std::alloc::Global;
 use std::fs;
@@ -27,13 +31,28 @@ use std::io::{BufRead, ErrorKind, Write};
 use std::rt::Files;
 
 /// Draws the journals that the words name, or writes a page of them where the words ask for one.
-pub fn draw_or_page<R: AllocGlobal + Files, W: Write, E: Write>(
-    rt: &R,
+pub fn draw_or_page<N: Inputs, W: Write, E: Write>(
+    alloc: Global,
+    inputs: &N,
     words: &ArgMatches<'_>,
     out: &mut Output<W>,
     err: &mut Output<E>,
 ) -> u8
     ensures status { IsStatus result }
+
+    // Where the inputs tell their files, these are drawn.
+    ensures draws_named { IsUnset (one_text (found_of words.now) (codes "page")) → (kind : kinds.Kind) → (format : formats.Format)
+        → (first last : Option ℕ)
+        → one_text (found_of words.now) (codes "kind") ≡ Some (kind_word kind)
+        → one_text (found_of words.now) (codes "format") ≡ Some (format_word format)
+        → TellsColumn (one_text (found_of words.now) (codes "from")) first
+        → TellsColumn (one_text (found_of words.now) (codes "to")) last
+        → DrawsNamed (N.holds inputs.now) (found_of words.now) kind format (part_between first last)
+        out.old out.new err.old err.new result }
+    ensures pages_named { one_text (found_of words.now) (codes "page") ≡ Some (codes "true")
+        → PagesNamed (N.holds inputs.now) (found_of words.now) out.old out.new err.old err.new result }
+
+    // Else some files are.
     ensures draws { IsUnset (one_text (found_of words.now) (codes "page")) → (kind : kinds.Kind) → (format : formats.Format)
         → (first last : Option ℕ)
         → one_text (found_of words.now) (codes "kind") ≡ Some (kind_word kind)
@@ -47,25 +66,46 @@ pub fn draw_or_page<R: AllocGlobal + Files, W: Write, E: Write>(
         → PagesFiles out.old out.new err.old err.new result }
 {
     if words.get_flag(PAGE) {
-        return page(rt, words, out, err);
+        return page(alloc, inputs, words, out, err);
     }
-    draw(rt, words, out, err)
+    draw(alloc, inputs, words, out, err)
 }
 
 /// Writes a page of the journals that the words name.
-fn page<R: AllocGlobal + Files, W: Write, E: Write>(
-    rt: &R,
+fn page<N: Inputs, W: Write, E: Write>(
+    alloc: Global,
+    inputs: &N,
     words: &ArgMatches<'_>,
     out: &mut Output<W>,
     err: &mut Output<E>,
 ) -> u8
     ensures status { IsStatus result }
+    ensures pages_named { PagesNamed (N.holds inputs.now) (found_of words.now) out.old out.new err.old err.new result }
     ensures pages { PagesFiles out.old out.new err.old err.new result }
 {
-    match files_of(rt, words) {
-        Ok(files) => run_page(rt.alloc(), &files.topology, &files.journals, out, err),
+    match files_named(alloc, inputs, words) {
+        Ok(files) => page_by_edition(alloc, &files, out, err),
         Err(fault) => Fault::from(fault).name_on(err),
     }
+}
+
+/// Writes a page of files whose topology says a world of edition 3, or none.
+fn page_by_edition<W: Write, E: Write>(
+    alloc: Global,
+    files: &AuditFiles,
+    out: &mut Output<W>,
+    err: &mut Output<E>,
+) -> u8
+    requires { MatchBool files.now.is_edition3 (SaysSomeWorld files.now.topology.items)
+        (SaysNoWorld files.now.topology.items) }
+    ensures status { IsStatus result }
+    ensures ends { PageEndsByEdition files.now.topology.items (map (λ file. file.items) files.now.journals.items)
+        out.old out.new err.old err.new result }
+{
+    if files.is_edition3 {
+        return run_page3(alloc, &files.topology, &files.journals, out, err);
+    }
+    run_page(alloc, &files.topology, &files.journals, out, err)
 }
 
 /// Plays a script, and once its answers are flushed writes a page of its run to the file at a path.

@@ -2,8 +2,8 @@
 use Rattle.std.specs.Prelude.{◌≤◌, ⊤}
 use Rattle.cmh_console.specs.declared.faults.Fault.{Fault}
 use Rattle.cmh_console.specs.declared.faults.Fault.TheVariants as lines
-use Rattle.cmh_commands.specs.declared.file_fault.FileFault.{FileFault}
-use Rattle.cmh_commands.specs.declared.file_fault.FileFault.TheVariants.{Topology, Script, Journal, Memory}
+use Rattle.cmh_inputs.specs.declared.file_fault.FileFault.{FileFault}
+use Rattle.cmh_inputs.specs.declared.file_fault.FileFault.TheVariants.{Topology, Script, Journal, Memory}
 
 -- the fault that is named
 abbrev pub as_fault : FileFault → Fault

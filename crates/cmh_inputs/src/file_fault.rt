@@ -1,8 +1,8 @@
 //! Why a file that the command line names is not read.
 
 ghost use Rattle.std.specs.Prelude.{◌≡◌};
-ghost use Rattle.cmh_commands.specs.FileFaults.{as_fault};
-ghost use Rattle.cmh_commands.specs.declared.file_fault.FileFault.TheVariants.{Memory};
+ghost use Rattle.cmh_inputs.specs.FileFaults.{as_fault};
+ghost use Rattle.cmh_inputs.specs.declared.file_fault.FileFault.TheVariants.{Memory};
 
 use cmh_console::Fault;
 use std::alloc::{AllocError, AllocFailed};

@@ -1,0 +1,3 @@
+mod FileLemmas
+mod ReadLemmas
+mod JournalLemmas

@@ -1,0 +1,5 @@
+pub mod Editions
+pub mod Stored
+pub mod Reading
+pub mod FileFaults
+pub mod Readings
