@@ -25,23 +25,26 @@ ghost use Rattle.cmh_site.specs.Descriptors.{StrictlyEnds};
 use clap::{ArgMatches, Error, error};
 use cmh_carriers::{Noted, Voice};
 use cmh_commands::{
-    AUDIT, BACKLOG, CLUSTER, DRAW, EDITION, EXPLAIN, Help, JOURNAL, JOURNALS, Listener, NEW_WORLD,
-    NOTES, OUT, PAGE, PATIENCE, PLAY, PORT, QUIET, SERVE, SHOW, SITE, STRICT, TOPOLOGY, audit,
-    cluster_files_of, command, draw_or_page, explanation, play_into, play_page, run_new_world,
-    show,
+    AUDIT, BACKLOG, CLUSTER, DRAW, EDITION, EXPLAIN, Help, JOURNAL, JOURNALS, Listener, NEW,
+    NEW_WORLD, NOTES, OUT, PAGE, PATIENCE, PLAY, PORT, QUIET, SERVE, SHOW, SITE, STRICT, TOPOLOGY,
+    audit, cluster_files_of, command, draw_or_page, explanation, play_into, play_page,
+    run_new_world, show,
 };
 use cmh_console::{Ahead, Fault, Input, Output};
+use cmh_disk3::Start;
 use cmh_folder3::run_play3_into;
 use cmh_frames::SiteId;
 use cmh_host::{BacklogLimit, SiteStart, System};
 use cmh_inputs::{Disk, read_topology};
 use cmh_play::run_play;
 use cmh_play3::run_play3;
+use cmh_serve3::{ServeStart, is_of_edition3, run_service3};
 use cmh_service::{ServiceStart, run_service};
 use cmh_site::{
     ClusterEnd, ClusterStart, Shortage, allowed_descriptors, run_cluster_counting,
     run_cluster_strictly, run_site_noting, shortage_of,
 };
+use std::alloc::AllocError;
 use std::fs::File;
 use std::io::{BufRead, BufReader, BufWriter, ErrorKind, IsTerminal, Write};
 use std::net::{Net, TcpListener, TcpStream};
@@ -374,6 +377,11 @@ where
         // Never so: the command line takes no other number.
         return Fault::Site.name_on(err);
     };
+    match is_of_edition3(rt.alloc(), &topology) {
+        Ok(true) => return serve_clients3(rt, words, &topology, own, out, err),
+        Ok(false) => {}
+        Err(AllocError) => return Fault::Memory.name_on(err),
+    }
     let start = ServiceStart {
         site: SiteStart {
             topology: &topology,
@@ -390,6 +398,38 @@ where
         Some(OnError { rt: *rt })
     };
     run_service(*rt, &start, out, err, voice)
+}
+
+/// Runs a site of edition 3 for clients.
+fn serve_clients3<R, W: Write, E: Write>(
+    rt: &R,
+    words: &ArgMatches<'_>,
+    topology: &[u8],
+    site: SiteId,
+    out: &mut Output<W>,
+    err: &mut Output<E>,
+) -> u8
+where
+    R: System + AllocGlobal + Files<File = File>,
+    ensures { IsStatus result }
+{
+    let start = ServeStart {
+        topology,
+        site,
+        journal: words.get_str(JOURNAL).unwrap_or(""),
+        start: beginning_of(words),
+        port: words.get_one(PORT).unwrap_or(0),
+    };
+    run_service3(rt, &start, out, err)
+}
+
+/// How a site of edition 3 begins.
+fn beginning_of(words: &ArgMatches<'_>) -> Start {
+    if words.get_flag(NEW) {
+        Start::New
+    } else {
+        Start::Again
+    }
 }
 
 /// Tells notes on standard error.

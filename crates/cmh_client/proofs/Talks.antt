@@ -3,7 +3,7 @@ use Rattle.std.proofs.Common.{◌≡◌, ℕ, zero, suc, ◌<◌, List, [], ◌�
 use Rattle.std.proofs.lemmas.List.{length-map, map-append}
 use Rattle.std.proofs.lemmas.List.Concat.{flat_map-append}
 use Rattle.std.specs.Io.BufRead.{drop_through, take_through}
-use Rattle.cmh_client.specs.Clients.{State, answers, carries, hears, skips, takes, tells, told_of, untold, watching}
+use Rattle.cmh_client.specs.Clients.{State, announces, answers, carries, hears, heeded, skips, takes, tells, told_more, told_of, untold, watching}
 use Rattle.cmh_client.specs.Lines.{BeginsWith, HasFeed}
 use Rattle.cmh_client.specs.Talks.{HasHad, Talk, Turn, answer, count_of, lines_of, news, news_of, turn_text}
 use Rattle.cmh_client.proofs.Feeds.{begins_more, begins_one_more, begins_past_one}
@@ -134,6 +134,24 @@ told_talk client talk line items had =
       waits = had.waits;
       text = said_more talk.said client.to_say (flat_map line more) talk.turns (map (λ item. news (line item)) more) had.text (text_all line more);
       told = news_counted line client.told talk.turns items had.told;
+    }
+
+announced_count : {T : Type 0} (line : T → List ℕ) (told : Option ℕ) (turns : List Turn) (items : List T) → length (news_of turns) ≡ count_of told
+    → length (news_of (turns ++ map (λ item. news (line item)) (heeded told items))) ≡ count_of (told_more told items)
+announced_count line None turns items is = ap length (news_told line turns [] ∙ append-nil (news_of turns)) ∙ is
+announced_count line (Some told) turns items is =
+    let both = length-append (news_of turns) (map line items) in
+    let each = length-map items line in
+    ap length (news_told line turns items) ∙ omega (arith, both, each, is)
+
+pub announced_talk : {T : Type 0} (client : State) (talk : Talk) (line : T → List ℕ) (items : List T) → HasHad client talk
+    → HasHad (announces line client items) (record talk { turns = talk.turns ++ map (λ item. news (line item)) (heeded client.told items) })
+announced_talk client talk line items had =
+    let more = heeded client.told items in record {
+      lines = subst (λ (ls : List (List ℕ)). BeginsWith talk.heard (ls ++ talk.waiting) talk.passed client.unread) (sym (lines_told line talk.turns more)) had.lines;
+      waits = had.waits;
+      text = said_more talk.said client.to_say (flat_map line more) talk.turns (map (λ item. news (line item)) more) had.text (text_all line more);
+      told = announced_count line client.told talk.turns items had.told;
     }
 
 pub sent_talk : (client : State) (talk : Talk) (count : ℕ) → HasHad client talk

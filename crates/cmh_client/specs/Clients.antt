@@ -44,6 +44,19 @@ told_of (Some told) items = Some (max told (length items))
 abbrev pub tells : {T : Type 0} → (T → List ℕ) → State → List T → State
 tells line client items = record client { to_say = client.to_say ++ flat_map line (untold client.told items); told = told_of client.told items }
 
+-- items where it watches, and else none
+abbrev pub heeded : {T : Type 0} → Option ℕ → List T → List T
+heeded None items = []
+heeded (Some told) items = items
+
+abbrev pub told_more : {T : Type 0} → Option ℕ → List T → Option ℕ
+told_more None items = None
+told_more (Some told) items = Some (told + length items)
+
+-- where it watches, it was told these items after those of before, each by its line
+abbrev pub announces : {T : Type 0} → (T → List ℕ) → State → List T → State
+announces line client items = record client { to_say = client.to_say ++ flat_map line (heeded client.told items); told = told_more client.told items }
+
 -- so many of the bytes in front were sent to it
 abbrev pub carries : State → ℕ → State
 carries client count = record client { to_say = drop count client.to_say }

@@ -1,7 +1,7 @@
 //! A client of a service, whatever carries its bytes.
 
 ghost use Rattle.std.specs.Prelude.{◌≡◌, ◌↔◌, ◌+◌, ◌-◌, ◌^◌, ◌<◌, ◌≤◌, true, false, length, is_some, IfSome, IsErr, IsTrue, OnOk, OnErr};
-ghost use Rattle.cmh_client.specs.Clients.{answers, carries, closes, fresh, hears, leaves, skips, takes, tells, watches};
+ghost use Rattle.cmh_client.specs.Clients.{announces, answers, carries, closes, fresh, hears, leaves, skips, takes, tells, watches};
 ghost use Rattle.cmh_client.specs.Lines.{HasFeed};
 ghost use Rattle.cmh_client.specs.Nexts.{IsNext};
 
@@ -238,6 +238,30 @@ impl Client {
             }
             self.told = Some(items.len());
         }
+        Ok(())
+    }
+
+    /// Tells it, if it watches, each of these items, whatever it was told before.
+    pub fn announce<T, L: Telling<T>>(&mut self, telling: &L, items: &[T]) -> Result<(), AllocError>
+        ensures told { OnOk result (self.new ≡ announces L.line self.old items.now) }
+        ensures closed { OnErr result (self.new ≡ closes self.old) }
+        ensures shut { self.old.is_closed ≡ true → IsErr result }
+    {
+        if self.is_closed {
+            return Err(AllocError);
+        }
+        let Some(told) = self.told else {
+            return Ok(());
+        };
+        let Some(now_told) = told.checked_add(items.len()) else {
+            self.is_closed = true;
+            return Err(AllocError);
+        };
+        if say_all(&mut self.draft, &mut self.queue, telling, items).is_err() {
+            self.is_closed = true;
+            return Err(AllocError);
+        }
+        self.told = Some(now_told);
         Ok(())
     }
 

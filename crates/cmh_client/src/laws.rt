@@ -2,7 +2,7 @@
 
 ghost use Rattle.std.specs.Prelude.{◌≡◌, ℕ, ◌<◌, List, [], ◌∷◌, ◌++◌, map, take, Some};
 ghost use Rattle.std.specs.Io.BufRead.{take_through};
-ghost use Rattle.cmh_client.specs.Clients.{State, answers, carries, closes, fresh, hears, leaves, skips, takes, tells, untold, watches};
+ghost use Rattle.cmh_client.specs.Clients.{State, announces, answers, carries, closes, fresh, hears, heeded, leaves, skips, takes, tells, untold, watches};
 ghost use Rattle.cmh_client.specs.Conversations.{IsServed, Serves};
 ghost use Rattle.cmh_client.specs.Lines.{HasFeed};
 ghost use Rattle.cmh_client.specs.Talks.{HasHad, Talk, answer, news, news_of, silence};
@@ -31,6 +31,9 @@ pub fn talk_law<T>()
     ensures told { (client : State) (talk : Talk) (line : T → List ℕ) (items : List T) → HasHad client talk
         → HasHad (tells line client items)
         (record talk { turns = talk.turns ++ map (λ item. news (line item)) (untold client.told items) }) }
+    ensures announced { (client : State) (talk : Talk) (line : T → List ℕ) (items : List T) → HasHad client talk
+        → HasHad (announces line client items)
+        (record talk { turns = talk.turns ++ map (λ item. news (line item)) (heeded client.told items) }) }
     ensures sent { (client : State) (talk : Talk) (count : ℕ) → HasHad client talk
         → HasHad (carries client count) (record talk { said = talk.said ++ take count client.to_say }) }
     // Nothing else changes what was said.

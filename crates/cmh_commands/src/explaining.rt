@@ -259,8 +259,10 @@ fn journal_again<R: AllocGlobal + Files>(rt: &R, path: &str, place: usize) -> Op
 /// What a command does with a topology.
 #[derive(Clone, Copy)]
 enum Task {
-    /// It runs sites, which have ports.
+    /// It runs a site, which has a port.
     Serve,
+    /// It runs sites of the editions 1 and 2 alone, which have ports.
+    Older,
     /// It tells the declarations of journals of edition 3 alone.
     Declarations,
     /// It audits or draws journals of any edition.
@@ -268,13 +270,21 @@ enum Task {
 }
 
 fn task_of(words: &ArgMatches<'_>) -> Task {
-    if words.get_str(JOURNAL).is_some() || words.get_str(SCRIPT).is_some() {
+    if words.get_str(PORT).is_some() {
         return Task::Serve;
+    }
+    if words.get_str(JOURNAL).is_some() || words.get_str(SCRIPT).is_some() {
+        return Task::Older;
     }
     if words.get_flag(DECLARATIONS) {
         return Task::Declarations;
     }
     Task::Audit
+}
+
+/// Whether the sites have ports.
+fn has_ports(task: Task) -> bool {
+    matches!(task, Task::Serve | Task::Older)
 }
 
 /// Of what a topology file holds.
@@ -317,7 +327,7 @@ fn tell_topology(
         )?;
         return Ok(());
     }
-    if let Some(trouble) = trouble_of_members(&value, matches!(task, Task::Serve)) {
+    if let Some(trouble) = trouble_of_members(&value, has_ports(task)) {
         write!(text, "{trouble}")?;
         return Ok(());
     }
@@ -338,17 +348,14 @@ fn tell_edition3(
     task: Task,
     text: &mut String,
 ) -> Result<(), AllocError> {
-    match task {
-        Task::Serve => {
-            write!(
-                text,
-                "running sites have no edition 3 yet; `cmh play --edition 3` plays a script of it"
-            )?;
-            return Ok(());
-        }
-        Task::Declarations | Task::Audit => {}
+    if matches!(task, Task::Older) {
+        write!(
+            text,
+            "`cmh site` and `cmh cluster` have no edition 3 yet; `cmh serve` runs sites of it"
+        )?;
+        return Ok(());
     }
-    if let Some(trouble) = trouble_of_world(value) {
+    if let Some(trouble) = trouble_of_world(value, has_ports(task)) {
         write!(text, "{trouble}")?;
         return Ok(());
     }
@@ -382,11 +389,8 @@ fn explain_journal(
     text: &mut String,
 ) -> Result<(), AllocError> {
     if let Some(path) = words.get_str(JOURNAL) {
-        write!(
-            text,
-            "{path}: it can't be made or locked here, is no regular file, or another site writes to it"
-        )?;
-        return Ok(());
+        write!(text, "{path}: ")?;
+        return tell_own_journal(fault.next_word().unwrap_or(b""), text);
     }
     match journal_at(words, fault.number()) {
         Some(path) => write!(text, "{path}: ")?,
@@ -399,6 +403,29 @@ fn explain_journal(
         Some(1) => write!(text, "{}", JournalFault::BadHeader)?,
         Some(2) => write!(text, "the bytes there are no entry")?,
         _ => write!(text, "{}", JournalFault::Full)?,
+    }
+    Ok(())
+}
+
+/// Of the journal of a site that was to run; in edition 3 it is a folder.
+fn tell_own_journal(word: &[u8], text: &mut String) -> Result<(), AllocError> {
+    match word {
+        b"damaged" => write!(
+            text,
+            "the newest segment in it has no whole entry there, and what stands there can't be the rest of an append; nothing was cut"
+        )?,
+        b"other" => write!(
+            text,
+            "the newest segment in it is of another site or world, or of a later epoch"
+        )?,
+        b"unlawful" => write!(
+            text,
+            "an entry of the newest segment in it is not what the rules make of its event"
+        )?,
+        _ => write!(
+            text,
+            "it can't be made or locked here, is no regular file, or another site writes to it; of edition 3 it is a folder, which needs --new where it has no journal, and must not have one with --new"
+        )?,
     }
     Ok(())
 }

@@ -74,6 +74,15 @@ clients are served at once. The connection of a client that leaves more than 1 M
 
 The site connects to the others by itself. It prints `listening` once it listens on both its ports. It ends at SIGTERM
 or SIGINT, and its journal can be audited at any time.
+
+Of a topology of edition 3 the journal is a folder. With --new the site begins a journal there, and without it it goes on
+with the one that is there; links that were cut resume. --patience, --backlog and --quiet mean nothing then. Lines besides:
+  ask J K..      also of a process that waits already
+  withdraw J K.. process J gives up these waits, or all of them where none is named
+  leaving J      `leaving J K..`: whom J has left and can't ask again yet
+  watch          also `! active J`, `! asked K J`, `! free J K`, `! link out S X` and `! link in S X`; a declaration is
+                 `! declared J at N`, its cycle stood at stop N
+A link is `open`, `down N` (N messages are kept for it), `refused N`, `resting` or `closed 4`.
 ";
 
 const CLUSTER_LINES: &str = "\
@@ -135,7 +144,7 @@ const NOTES: &str =
 const TOPOLOGY_FILE: &str = "\
 `fault json`: the topology file is no JSON, or lacks a member, as in {\"edition\":1,\"sites\":[{\"site\":1,\"processes\":[1]}]}.
 Of sites that run each also has a `port` of its own, 1 to 65535. With --explain a second line says where it is wrong.
-Running sites have editions 1 and 2: one of edition 3 is `fault json` for them.
+One of edition 3 also has a `world`, which `cmh new-world` draws. `cmh serve` alone runs sites of it.
 ";
 
 const SITE_STATUSES: &str = "\

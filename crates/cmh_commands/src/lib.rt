@@ -24,8 +24,8 @@ pub use crate::listener::Listener;
 pub use crate::new_world::run_new_world;
 pub use crate::options::{
     AUDIT, BACKLOG, CLUSTER, DECLARATIONS, DRAW, EDITION, EDITION_THREE, EXPLAIN, FORMAT, FROM,
-    JOURNAL, JOURNALS, KIND, NEW_WORLD, NOTES, OUT, PAGE, PATIENCE, PLAY, PORT, QUIET, RUN, SCRIPT,
-    SERVE, SHOW, SITE, STRICT, TO, TOPOLOGY, WHY, command,
+    JOURNAL, JOURNALS, KIND, NEW, NEW_WORLD, NOTES, OUT, PAGE, PATIENCE, PLAY, PORT, QUIET, RUN,
+    SCRIPT, SERVE, SHOW, SITE, STRICT, TO, TOPOLOGY, WHY, command,
 };
 pub use crate::paging::{draw_or_page, play_page};
 pub use crate::playing::play_into;

@@ -48,6 +48,8 @@ pub const PORT: &str = "port";
 
 pub const QUIET: &str = "quiet";
 
+pub const NEW: &str = "new";
+
 pub const KIND: &str = "kind";
 
 pub const FORMAT: &str = "format";
@@ -186,6 +188,7 @@ fn serve_command<'a>(alloc: Global, help: &'a Help) -> Result<Command<'a>, Error
         .arg(topology_arg(alloc))?
         .arg(site_arg(alloc))?
         .arg(journal_arg(alloc))?
+        .arg(new_arg(alloc))?
         .arg(port_arg(alloc))?
         .arg(serve_patience_arg(alloc))?
         .arg(backlog_arg(alloc))?
@@ -235,7 +238,7 @@ fn site_arg<'a>(alloc: Global) -> Arg<'a> {
 
 fn journal_arg<'a>(alloc: Global) -> Arg<'a> {
     path_arg(alloc, JOURNAL, "FILE").help(
-        "The journal that it writes; a file that stands there and isn't empty is kept as FILE.1, FILE.2 and so on",
+        "The journal that it writes; a file that stands there and isn't empty is kept as FILE.1, FILE.2 and so on. Of edition 3 the folder of its journal",
     )
 }
 
@@ -345,6 +348,16 @@ fn quiet_arg<'a>(alloc: Global) -> Arg<'a> {
     Arg::new(alloc, QUIET)
         .long(QUIET)
         .help("Tells no notes on standard error")
+        .action(ArgAction::SetTrue)
+}
+
+/// How a site of edition 3 begins.
+fn new_arg<'a>(alloc: Global) -> Arg<'a> {
+    Arg::new(alloc, NEW)
+        .long(NEW)
+        .help(
+            "Of edition 3: begins a new journal in a folder that has none; without it the site goes on with the journal there",
+        )
         .action(ArgAction::SetTrue)
 }
 

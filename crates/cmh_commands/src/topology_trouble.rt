@@ -69,12 +69,12 @@ pub fn trouble_of_members(value: &Value, has_ports: bool) -> Option<Trouble> {
     trouble_of_sites(value, has_ports)
 }
 
-/// The same of a topology file of edition 3, which has no ports.
-pub fn trouble_of_world(value: &Value) -> Option<Trouble> {
+/// The same of a topology file of edition 3.
+pub fn trouble_of_world(value: &Value, has_ports: bool) -> Option<Trouble> {
     if !has_world(value) {
         return Some(Trouble::World);
     }
-    trouble_of_sites(value, false)
+    trouble_of_sites(value, has_ports)
 }
 
 fn trouble_of_sites(value: &Value, has_ports: bool) -> Option<Trouble> {

@@ -57,7 +57,7 @@ module _ {File : Type 0} (told : File → Option Held) (has_failed : File → Bo
 
     exact_by : (t : Option Sealed) → length peers ≡ length (map (met more) others) → ((k : ℕ) (d e : Peer) → k < length (map (met more) others) → (get_or peers k e).site ≡ (get_or (map (met more) others) k d).site)
         → ((k : ℕ) → k < length others → (d : Peer) → Fits t more (get_or peers k d))
-        → IsExact told has_failed (record { world = world; site = site; station = after; peers = peers; others = others; sealed = t }) more
+        → IsExact told has_failed (record { world = world; site = site; station = after; peers = peers; others = others; sealed = t; last = [] }) more
     exact_by t same sites fits = record {
       story = later more story;
       none_waits = handed.kept.1;
@@ -68,7 +68,7 @@ module _ {File : Type 0} (told : File → Option Held) (has_failed : File → Bo
     }
 
     pub begins_exact : (t : Option Sealed) → GivenSo t more (map (met more) others) peers
-        → IsExact told has_failed (record { world = world; site = site; station = after; peers = peers; others = others; sealed = t }) more
+        → IsExact told has_failed (record { world = world; site = site; station = after; peers = peers; others = others; sealed = t; last = [] }) more
     begins_exact None given = exact_by None given.same_length (λ k d x inside. (given.each k d x inside).site) (λ k inside d.
         let within : k < length (map (met more) others) = omega (arith, inside, length-map others (met more)) in
         fits_whole more (get_or others k 0) (get_or (map (met more) others) k d) (get_or peers k d) (met_at more others k d inside) (given.each k d d within))
@@ -82,7 +82,7 @@ module _ {File : Type 0} (told : File → Option Held) (has_failed : File → Bo
       → Opened told has_failed t s before station → others ≡ others_but s (sites_of t) → IsStrictlyIncreasing others
       → HandedOver unsent station station.kept.waiting after → ((steps : List Step) → HasStory told has_failed station steps → HasStory told has_failed after steps)
       → GivenSo sealed station.kept.waiting (map (met station.kept.waiting) others) peers → world ≡ t.world
-      → BeginsAs told has_failed t s station (record { world = world; site = s; station = after; peers = peers; others = others; sealed = sealed })
+      → BeginsAs told has_failed t s station (record { world = world; site = s; station = after; peers = peers; others = others; sealed = sealed; last = [] })
   begins t s before station after others peers world sealed opened others_are rising handed later given world_is =
       let story : HasStory told has_failed station station.kept.waiting = subst (λ (l : List Step). HasStory told has_failed station l) (sym opened.waiting) opened.story in
       record {
@@ -90,6 +90,7 @@ module _ {File : Type 0} (told : File → Option Held) (has_failed : File → Bo
         site = refl;
         others_are = others_are;
         handed = handed;
+        none_last = refl;
         given = given;
         exact = begins_exact world s station after others peers story opened.is_open handed later rising sealed given;
       }

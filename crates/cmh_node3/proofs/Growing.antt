@@ -153,10 +153,10 @@ module _ {File : Type 0} (told : File → Option Held) (has_failed : File → Bo
     fits_now : (k : ℕ) → k < length n.peers → (d : Peer) → Fits None steps (get_or n.peers k d)
     fits_now k inside d = subst (λ (s : Option Sealed). Fits s steps (get_or n.peers k d)) open_is (e.fits k inside d)
 
-    exact_by : (t : Option Sealed) → length peers ≡ length mid → ((k : ℕ) (d e : Peer) → k < length mid → (get_or peers k e).site ≡ (get_or mid k d).site)
+    exact_by : (t : Option Sealed) (l : List Step) → length peers ≡ length mid → ((k : ℕ) (d e : Peer) → k < length mid → (get_or peers k e).site ≡ (get_or mid k d).site)
         → ((k : ℕ) → k < length mid → (d : Peer) → Fits t (steps ++ more) (get_or peers k d))
-        → IsExact told has_failed (record n { station = station; peers = peers; sealed = t }) (steps ++ more)
-    exact_by t same sites fits = record {
+        → IsExact told has_failed (record n { station = station; peers = peers; sealed = t; last = l }) (steps ++ more)
+    exact_by t l same sites fits = record {
       story = story;
       none_waits = none_waits;
       ascending = e.ascending;
@@ -165,17 +165,17 @@ module _ {File : Type 0} (told : File → Option Held) (has_failed : File → Bo
       is_open = λ _. works;
     }
 
-    pub exact_after : (t : Option Sealed) → GivenSo t more mid peers → IsExact told has_failed (record n { station = station; peers = peers; sealed = t }) (steps ++ more)
-    exact_after None given = exact_by None given.same_length (λ k d x inside. (given.each k d x inside).site) (λ k inside d.
+    pub exact_after : (t : Option Sealed) (l : List Step) → GivenSo t more mid peers → IsExact told has_failed (record n { station = station; peers = peers; sealed = t; last = l }) (steps ++ more)
+    exact_after None l given = exact_by None l given.same_length (λ k d x inside. (given.each k d x inside).site) (λ k inside d.
         let within : k < length n.peers = omega (arith, inside, counted.0) in
         let g = given.each k d d inside in
         grown_whole steps more (get_or n.peers k d) (get_or mid k d) (get_or peers k d) (fits_now k within d) (counted.1 k d d within) g.site g.into g.out)
-    exact_after (Some Memory) given = exact_by (Some Memory) given.same_length (λ k d x inside. (given.each k d x inside).site) (λ k inside d.
+    exact_after (Some Memory) l given = exact_by (Some Memory) l given.same_length (λ k d x inside. (given.each k d x inside).site) (λ k inside d.
         let within : k < length n.peers = omega (arith, inside, counted.0) in
         let g = given.each k d d inside in
         grown_part steps more (get_or n.peers k d) (get_or mid k d) (get_or peers k d) (fits_now k within d) (counted.1 k d d within) g.site g.into g.out.part g.out.begins g.out.after)
-    exact_after (Some Disk) given = absurd given
-    exact_after (Some (Mismatch peer mismatch)) given = absurd given
+    exact_after (Some Disk) l given = absurd given
+    exact_after (Some (Mismatch peer mismatch)) l given = absurd given
 
   -- the journal failed, or memory was refused: its station has the same story
   pub exact_still : (n : Node File) (steps : List Step) (station : Station told has_failed) (t : Option Sealed) → IsExact told has_failed n steps → n.sealed ≡ None

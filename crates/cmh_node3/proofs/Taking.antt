@@ -84,10 +84,10 @@ module _ {File : Type 0} (told : File → Option Held) (has_failed : File → Bo
 
   -- ---- where it does not
 
-  module _ (n : Node File) (events : List Event) (answers : Answers) (between after : Station told has_failed) (mid peers : List Peer) (t : Option Why)
+  module _ (n : Node File) (events : List Event) (answers : Answers) (between after : Station told has_failed) (mid peers : List Peer) (t : Option Why) (l : List Step)
       (open_is : n.sealed ≡ None) (stepped : SteppedAll (meaning_of site_of_machine) unsent (log_meaning told has_failed) n.station events answers between)
       (story : (es : List Step) → HasStory told has_failed n.station es → HasStory told has_failed between (es ++ entries_made told has_failed events answers))
-      (handed : HandedOver unsent between between.kept.waiting after) (later : (es : List Step) → HasStory told has_failed between es → HasStory told has_failed after es)
+      (last : l ≡ between.kept.waiting) (handed : HandedOver unsent between between.kept.waiting after) (later : (es : List Step) → HasStory told has_failed between es → HasStory told has_failed after es)
       (given : GivenSo t between.kept.waiting mid peers) where
     abbrev more : List Step
     more = entries_made told has_failed events answers
@@ -98,43 +98,47 @@ module _ {File : Type 0} (told : File → Option Held) (has_failed : File → Bo
     pub given_now : (steps : List Step) → IsExact told has_failed n steps → GivenSo t more mid peers
     given_now steps e = subst (λ (l : List Step). GivenSo t l mid peers) (waits_now steps e) given
 
-    pub exact_now : (steps : List Step) → IsExact told has_failed n steps → AreCounted more n.peers mid → IsExact told has_failed (record n { station = after; peers = peers; sealed = t }) (steps ++ more)
+    pub exact_now : (steps : List Step) → IsExact told has_failed n steps → AreCounted more n.peers mid → IsExact told has_failed (record n { station = after; peers = peers; sealed = t; last = l }) (steps ++ more)
     exact_now steps e counted =
         exact_after told has_failed n steps more mid peers after e open_is counted (later (steps ++ more) (story steps e.story)) handed.kept.1
-        (handed_open told has_failed between after handed ∙ still_open told has_failed n.station between more (e.is_open open_is) stepped.grew) t (given_now steps e)
+        (handed_open told has_failed between after handed ∙ still_open told has_failed n.station between more (e.is_open open_is) stepped.grew) t l (given_now steps e)
+
+    pub last_now : (steps : List Step) → IsExact told has_failed n steps → l ≡ more
+    last_now steps e = last ∙ waits_now steps e
 
     synced_in : (steps : List Step) → IsExact told has_failed n steps → (k : ℕ) (d : Peer) → k < length n.peers → (get_or n.peers k d).into.unsynced ≡ 0
     synced_in steps e k d inside = (e.fits k inside d).synced
 
   -- events of the site's own processes
-  pub steps_all : (n : Node File) (steps : List Step) (events : List Event) (answers : Answers) (between after : Station told has_failed) (peers : List Peer) (t : Option Why)
+  pub steps_all : (n : Node File) (steps : List Step) (events : List Event) (answers : Answers) (between after : Station told has_failed) (peers : List Peer) (t : Option Why) (l : List Step)
       → n.sealed ≡ None → SteppedAll (meaning_of site_of_machine) unsent (log_meaning told has_failed) n.station events answers between
       → ((es : List Step) → HasStory told has_failed n.station es → HasStory told has_failed between (es ++ entries_made told has_failed events answers))
-      → HandedOver unsent between between.kept.waiting after → ((es : List Step) → HasStory told has_failed between es → HasStory told has_failed after es)
+      → l ≡ between.kept.waiting → HandedOver unsent between between.kept.waiting after → ((es : List Step) → HasStory told has_failed between es → HasStory told has_failed after es)
       → GivenSo t between.kept.waiting n.peers peers
       → IsExact told has_failed n steps → AllByRecursion IsOwn events → (list_any is_ask events && list_any keeps_many n.peers) ≡ false
-      → StepsAll told has_failed n events answers (record n { station = after; peers = peers; sealed = t })
-  steps_all n steps events answers between after peers t open_is stepped story handed later given e own allowed = record {
+      → StepsAll told has_failed n events answers (record n { station = after; peers = peers; sealed = t; last = l })
+  steps_all n steps events answers between after peers t l open_is stepped story last handed later given e own allowed = record {
     was_open = open_is;
     allowed = allowed;
     station = record { between = between; stepped = stepped; handed = handed };
-    given = given_now n events answers between after n.peers peers t open_is stepped story handed later given steps e;
+    given = given_now n events answers between after n.peers peers t l open_is stepped story last handed later given steps e;
+    last = last_now n events answers between after n.peers peers t l open_is stepped story last handed later given steps e;
     rest = refl;
-    exact = λ es x. exact_now n events answers between after n.peers peers t open_is stepped story handed later given es x
-        (counted_own (entries_made told has_failed events answers) n.peers (synced_in n events answers between after n.peers peers t open_is stepped story handed later given es x) (λ a. own_receipts told has_failed a events answers own));
+    exact = λ es x. exact_now n events answers between after n.peers peers t l open_is stepped story last handed later given es x
+        (counted_own (entries_made told has_failed events answers) n.peers (synced_in n events answers between after n.peers peers t l open_is stepped story last handed later given es x) (λ a. own_receipts told has_failed a events answers own));
   }
 
   -- messages that came
-  pub takes : (n : Node File) (steps : List Step) (place line : ℕ) (messages : List Message) (now : ℕ) (taken : Taken) (answers : Answers) (between after : Station told has_failed) (mid peers : List Peer) (t : Option Why)
+  pub takes : (n : Node File) (steps : List Step) (place line : ℕ) (messages : List Message) (now : ℕ) (taken : Taken) (answers : Answers) (between after : Station told has_failed) (mid peers : List Peer) (t : Option Why) (l : List Step)
       → n.sealed ≡ None → (c : ChangesInto place (IsReceived (take taken.count messages) now taken.closed) n.peers mid)
       → SteppedAll (meaning_of site_of_machine) unsent (log_meaning told has_failed) n.station (take (length answers) (map (got_event c.peer.site) messages)) answers between
       → AreUntilRefused (map (got_event c.peer.site) messages) answers
       → ((es : List Step) → HasStory told has_failed n.station es → HasStory told has_failed between (es ++ entries_made told has_failed (take (length answers) (map (got_event c.peer.site) messages)) answers))
-      → HandedOver unsent between between.kept.waiting after → ((es : List Step) → HasStory told has_failed between es → HasStory told has_failed after es)
+      → l ≡ between.kept.waiting → HandedOver unsent between between.kept.waiting after → ((es : List Step) → HasStory told has_failed between es → HasStory told has_failed after es)
       → GivenSo t between.kept.waiting mid peers
       → IsExact told has_failed n steps → c.peer.into.claim ≡ Some line → taken.count ≡ accepted answers → taken.closed ≡ list_any is_unlawful answers
-      → Takes told has_failed place line messages now n taken (record n { station = after; peers = peers; sealed = t })
-  takes n steps place line messages now taken answers between after mid peers t open_is c stepped refused story handed later given e claimed count closed =
+      → Takes told has_failed place line messages now n taken (record n { station = after; peers = peers; sealed = t; last = l })
+  takes n steps place line messages now taken answers between after mid peers t l open_is c stepped refused story last handed later given e claimed count closed =
       let from = c.peer.site in
       let events : List Event = take (length answers) (map (got_event from) messages) in
       let more : List Step = entries_made told has_failed events answers in
@@ -148,29 +152,30 @@ module _ {File : Type 0} (told : File → Option Held) (has_failed : File → Bo
         until = refused;
         count = count;
         closed = closed;
-        given = given_now n events answers between after mid peers t open_is stepped story handed later given steps e;
+        given = given_now n events answers between after mid peers t l open_is stepped story last handed later given steps e;
+        last = last_now n events answers between after mid peers t l open_is stepped story last handed later given steps e;
         rest = refl;
-        exact = λ es x. exact_now n events answers between after mid peers t open_is stepped story handed later given es x
+        exact = λ es x. exact_now n events answers between after mid peers t l open_is stepped story last handed later given es x
             (subst (λ (l : List Peer). AreCounted more n.peers l) (sym (c.after ∙ ap (λ (r : Receiver). slice_set n.peers place (record c.peer { into = r })) c.changes))
             (counted_at more n.peers n.others place c.peer (take taken.count messages) now taken.closed x.ascending x.sites c.there
-            (synced_in n events answers between after mid peers t open_is stepped story handed later given es x)
+            (synced_in n events answers between after mid peers t l open_is stepped story last handed later given es x)
             (receipts_here told has_failed from messages answers (until told has_failed (map (got_event from) messages) answers refused) ∙ ap (λ (k : ℕ). take k messages) (sym count))
             (λ a far. receipts_elsewhere told has_failed a from messages (length answers) answers far)));
       }
 
   -- the same of events that are these messages
   pub takes_by : (n : Node File) (steps : List Step) (place line : ℕ) (messages first : List Message) (now : ℕ) (taken : Taken) (events : List Event) (from : ℕ) (answers : Answers) (between after : Station told has_failed)
-      (mid peers : List Peer) (t : Option Why)
+      (mid peers : List Peer) (t : Option Why) (l : List Step)
       → n.sealed ≡ None → (c : ChangesInto place (IsReceived first now taken.closed) n.peers mid)
       → SteppedAll (meaning_of site_of_machine) unsent (log_meaning told has_failed) n.station (take (length answers) events) answers between
       → AreUntilRefused events answers
       → ((es : List Step) → HasStory told has_failed n.station es → HasStory told has_failed between (es ++ entries_made told has_failed (take (length answers) events) answers))
-      → HandedOver unsent between between.kept.waiting after → ((es : List Step) → HasStory told has_failed between es → HasStory told has_failed after es)
+      → l ≡ between.kept.waiting → HandedOver unsent between between.kept.waiting after → ((es : List Step) → HasStory told has_failed between es → HasStory told has_failed after es)
       → GivenSo t between.kept.waiting mid peers
       → IsExact told has_failed n steps → IsClaimant n.peers place line (Some from) → taken.count ≡ accepted answers → taken.closed ≡ list_any is_unlawful answers
       → events ≡ map (got_event from) messages → first ≡ take taken.count messages
-      → Takes told has_failed place line messages now n taken (record n { station = after; peers = peers; sealed = t })
-  takes_by n steps place line messages first now taken events from answers between after mid peers t open_is c stepped refused story handed later given e claimed count closed are front =
+      → Takes told has_failed place line messages now n taken (record n { station = after; peers = peers; sealed = t; last = l })
+  takes_by n steps place line messages first now taken events from answers between after mid peers t l open_is c stepped refused story last handed later given e claimed count closed are front =
       let here = get_or_from_slice_get n.peers place c.peer c.peer c.there in
       let whose = claimed c.peer in
       let site : c.peer.site ≡ from = ap (λ (p : Peer). p.site) (sym here) ∙ whose.0 in
@@ -183,11 +188,11 @@ module _ {File : Type 0} (told : File → Option Held) (has_failed : File → Bo
         changes = c.changes ∙ ap (λ (ms : List Message). received ms now taken.closed c.peer.into) front;
         after = c.after;
       } in
-      takes n steps place line messages now taken answers between after mid peers t open_is d
+      takes n steps place line messages now taken answers between after mid peers t l open_is d
       (subst (λ (l : List Event). SteppedAll (meaning_of site_of_machine) unsent (log_meaning told has_failed) n.station (take (length answers) l) answers between) all stepped)
       (subst (λ (l : List Event). AreUntilRefused l answers) all refused)
       (subst (λ (l : List Event). (es : List Step) → HasStory told has_failed n.station es → HasStory told has_failed between (es ++ entries_made told has_failed (take (length answers) l) answers)) all story)
-      handed later given e has count closed
+      last handed later given e has count closed
 
   -- all that is got can be counted
   pub can_count : (n : Node File) (steps : List Step) (place line : ℕ) (messages first : List Message) (count : ℕ) (events : List Event) (from : ℕ) (answers : Answers) (between : Station told has_failed) (d : Peer) → IsExact told has_failed n steps

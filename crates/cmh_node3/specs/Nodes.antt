@@ -21,7 +21,7 @@ use Rattle.cmh_node3.specs.declared.sealed.Sealed.{Sealed}
 use Rattle.cmh_node3.specs.declared.sealed.Sealed.TheVariants.{Memory}
 
 -- The number of its world and its own; its station; the other sites, ascending, each with the two ends here of its links;
--- and why it has stopped for good.
+-- why it has stopped for good; and the entries that the last call added that took events.
 pub record Node (File : Type 0) : Type 0 where
   pub world : List ℕ
   pub site : ℕ
@@ -29,6 +29,12 @@ pub record Node (File : Type 0) : Type 0 where
   pub peers : List Peer
   pub others : List ℕ
   pub sealed : Option Sealed
+  pub last : List Step
+
+-- none before any call took events
+abbrev pub kept_last : Option (List Step) → List Step
+kept_last None = []
+kept_last (Some steps) = steps
 
 -- the peer at a place
 abbrev pub AtPlace : {File : Type 0} → Node File → ℕ → (Peer → Type 0) → Type 0

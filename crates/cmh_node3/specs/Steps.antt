@@ -105,6 +105,7 @@ module _ {File : Type 0} (told : File → Option Held) (has_failed : File → Bo
     pub site : n.site ≡ s
     pub others_are : n.others ≡ others s (sites_of t)
     pub handed : HandedOver unsent station station.kept.waiting n.station
+    pub none_last : n.last ≡ []
     pub given : GivenSo n.sealed station.kept.waiting (map (met station.kept.waiting) n.others) n.peers
     pub exact : IsExact told has_failed n station.kept.waiting
 
@@ -116,7 +117,8 @@ module _ {File : Type 0} (told : File → Option Held) (has_failed : File → Bo
     pub allowed : (list_any is_ask events && list_any keeps_many a.peers) ≡ false
     pub station : StationSteps a.station events answers b.station
     pub given : GivenSo b.sealed (entries_made events answers) a.peers b.peers
-    pub rest : b ≡ record a { station = b.station; peers = b.peers; sealed = b.sealed }
+    pub last : b.last ≡ entries_made events answers
+    pub rest : b ≡ record a { station = b.station; peers = b.peers; sealed = b.sealed; last = b.last }
     pub exact : (steps : List Step) → IsExact told has_failed a steps
         → IsExact told has_failed b (steps ++ entries_made events answers)
 
@@ -161,7 +163,8 @@ module _ {File : Type 0} (told : File → Option Held) (has_failed : File → Bo
     pub closed : taken.closed ≡ list_any is_unlawful answers
     pub given : GivenSo b.sealed (entries_made (take (length answers) (map (got_event at_end.peer.site) messages)) answers)
         between b.peers
-    pub rest : b ≡ record a { station = b.station; peers = b.peers; sealed = b.sealed }
+    pub last : b.last ≡ entries_made (take (length answers) (map (got_event at_end.peer.site) messages)) answers
+    pub rest : b ≡ record a { station = b.station; peers = b.peers; sealed = b.sealed; last = b.last }
     pub exact : (steps : List Step) → IsExact told has_failed a steps → IsExact told has_failed b
         (steps ++ entries_made (take (length answers) (map (got_event at_end.peer.site) messages)) answers)
 

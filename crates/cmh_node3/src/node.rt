@@ -14,8 +14,10 @@ ghost use Rattle.cmh_topology3.specs.Topology.{sites_of};
 
 use crate::sealed::Sealed;
 use crate::settling::give_all;
+use cmh_controller3::Controller;
+use cmh_journaled::Handed;
 use cmh_log3::SegmentFile;
-use cmh_model3::SiteId;
+use cmh_model3::{Entry, Event, Message, SiteId};
 use cmh_peers3::{Peer, others_of, peers_of};
 use cmh_station3::Station;
 use cmh_topology3::{Topology, World};
@@ -38,6 +40,8 @@ pub struct Node<F: SegmentFile> {
     /// Their sites.
     pub(crate) others: Vec<SiteId>,
     pub(crate) sealed: Option<Sealed>,
+    /// The entries of the last call that took events; `None` before any.
+    pub(crate) last: Option<Handed<Event, Message>>,
 }
 
 impl<F: SegmentFile> Model for Node<F> {
@@ -54,6 +58,7 @@ impl<F: SegmentFile> Model for Node<F> {
       peers = n.peers.items;
       others = n.others.items;
       sealed = n.sealed;
+      last = spec.kept_last n.last;
     } };
 
     ghost invariant = { λ n. (steps : List Step) × spec.IsExact F.told F.has_failed (record {
@@ -63,6 +68,7 @@ impl<F: SegmentFile> Model for Node<F> {
       peers = n.peers.items;
       others = n.others.items;
       sealed = n.sealed;
+      last = spec.kept_last n.last;
     }) steps };
 }
 
@@ -94,6 +100,7 @@ impl<F: SegmentFile> Node<F> {
                     peers,
                     others,
                     sealed,
+                    last: None,
                 })
             }
             Err(AllocError) => Err(AllocError),
@@ -105,6 +112,31 @@ impl<F: SegmentFile> Node<F> {
         ensures { result.now ≡ self.now.station }
     {
         &self.station
+    }
+
+    /// The number of the site.
+    pub fn site(&self) -> SiteId
+        ensures { result ≡ self.now.site }
+    {
+        self.site
+    }
+
+    /// The site's controller, to ask.
+    pub fn controller(&self) -> &Controller
+        ensures { result.now ≡ self.now.station.machine.controller }
+    {
+        self.station.machine().controller()
+    }
+
+    /// The entries that the last call of `step_all` or `take` added that took events; none before any. A call that took
+    /// none leaves them.
+    pub fn last(&self) -> &[Entry<Event, Message>]
+        ensures { result.now ≡ self.now.last }
+    {
+        match &self.last {
+            Some(entries) => entries.as_slice(),
+            None => &[],
+        }
     }
 
     /// The other sites, ascending, each with the ends of its links. They have just what the journal has.

@@ -117,7 +117,9 @@ impl<F: SegmentFile> Node<F> {
                 let taken = taken_by(&answers);
                 let first = first_of(messages, taken.count);
                 receive_at(&mut self.peers, place, line, first, now, taken.closed);
-                self.sealed = settle(&mut self.station, &mut self.peers);
+                let settled = settle(&mut self.station, &mut self.peers);
+                self.sealed = settled.sealed;
+                self.last = Some(settled.last);
                 Ok(taken)
             }
             Err(refusal) => {

@@ -10,7 +10,7 @@ ghost use Rattle.cmh_node3.specs.Steps.{GivenSo};
 
 use crate::sealed::Sealed;
 use cmh_controller3::Refusal as RuleRefusal;
-use cmh_journaled::Refusal;
+use cmh_journaled::{Handed, Refusal};
 use cmh_log3::SegmentFile;
 use cmh_model3::{Entry, Event, Message};
 use cmh_peers3::{Peer, queue_all};
@@ -46,18 +46,27 @@ pub(crate) fn sealed_by_fault(fault: StepFault) -> Option<Sealed>
     }
 }
 
-/// Hands over what waits, all of it synced, and gives it to the sender's ends. Answers whether the site is sealed by it.
-pub(crate) fn settle<F: SegmentFile>(
-    station: &mut Station<F>,
-    peers: &mut Vec<Peer>,
-) -> Option<Sealed>
+/// What was handed over.
+#[derive(Drop)]
+pub(crate) struct Settled {
+    /// How the site is sealed by it.
+    pub sealed: Option<Sealed>,
+    pub last: Handed<Event, Message>,
+}
+
+/// Hands over what waits, all of it synced, and gives it to the sender's ends.
+pub(crate) fn settle<F: SegmentFile>(station: &mut Station<F>, peers: &mut Vec<Peer>) -> Settled
+    ensures last { result.last ≡ station.old.kept.waiting }
     ensures handed { HandedOver unsent station.old station.old.kept.waiting station.new }
     ensures story { (steps : List Step) → HasStory F.told F.has_failed station.old steps
         → HasStory F.told F.has_failed station.new steps }
-    ensures given { GivenSo result station.old.kept.waiting peers.old.items peers.new.items }
+    ensures given { GivenSo result.sealed station.old.kept.waiting peers.old.items peers.new.items }
 {
     let handed = station.hand_over();
-    give_all(peers, handed.as_slice())
+    Settled {
+        sealed: give_all(peers, handed.as_slice()),
+        last: handed,
+    }
 }
 
 /// Gives the sender's ends what entries sent. Answers whether the site is sealed by it.

@@ -49,7 +49,9 @@ impl<F: SegmentFile> Node<F> {
         }
         match self.station.step_all(events) {
             Ok(answers) => {
-                self.sealed = settle(&mut self.station, &mut self.peers);
+                let settled = settle(&mut self.station, &mut self.peers);
+                self.sealed = settled.sealed;
+                self.last = Some(settled.last);
                 Ok(answers)
             }
             Err(refusal) => {

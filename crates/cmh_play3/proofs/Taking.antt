@@ -1,5 +1,5 @@
 -- A site takes an event: what is held is played still.
-use Rattle.std.proofs.Common.{◌≡◌, ℕ, zero, suc, ◌<◌, ◌==◌, Bool, true, List, [], ◌∷◌, ◌++◌, length, get_or, drop, if◌then◌else◌, Option, refl, sym, ap, subst, ◌∙◌, arith}
+use Rattle.std.proofs.Common.{◌≡◌, ℕ, zero, suc, ◌+◌, ◌<◌, ◌==◌, Bool, true, List, [], ◌∷◌, ◌++◌, length, map, get_or, drop, if◌then◌else◌, Option, refl, sym, ap, subst, ◌∙◌, arith}
 use Rattle.std.proofs.Math.ListN.{set}
 use Rattle.std.proofs.Math.Path.{fun_ext}
 use Rattle.std.specs.List.{list_any}
@@ -21,7 +21,9 @@ use Rattle.cmh_model3.specs.Runs as runs
 use Rattle.cmh_model3.specs.Runs.{IsBeginningOf, IsRun, state_of}
 use Rattle.cmh_model3.proofs.Extends.{accepted_extends}
 use Rattle.cmh_model3.proofs.Runs.{one_step}
+use Rattle.cmh_report3.specs.Kept.{without_sent}
 use Rattle.cmh_report3.specs.Reports.{StandEach}
+use Rattle.cmh_report3.specs.Transit.{kept, sent_in}
 use Rattle.cmh_topology3.specs.Topology.{Topology, is_site, site_of, sites_of}
 use Rattle.cmh_play3.specs.Held.{StandAfter}
 use Rattle.cmh_play3.specs.World.{World, Steps}
@@ -46,6 +48,30 @@ stand_each t es cs stand = record {
   states = stand.states;
   of_world = stand.of_world;
 }
+
+-- ---- what is kept of one entry more
+
+bare_push : (es : List WorldEvent) (e : WorldEvent) → map without_sent (es ++ e ∷ []) ≡ map without_sent es ++ without_sent e ∷ []
+bare_push [] e = refl
+bare_push (d ∷ es) e = ap (λ (xs : List WorldEvent). without_sent d ∷ xs) (bare_push es e)
+
+pub nothing_kept : (held : List WorldEvent) → held ≡ [] → map without_sent held ≡ []
+nothing_kept held none = ap (λ (es : List WorldEvent). map without_sent es) none
+
+pub kept_more : (held es : List WorldEvent) (x e : WorldEvent) → without_sent x ≡ without_sent e → map without_sent held ≡ map without_sent es
+    → map without_sent (held ++ x ∷ []) ≡ map without_sent (es ++ e ∷ [])
+kept_more held es x e one all =
+    bare_push held x ∙ ap (λ (xs : List WorldEvent). xs ++ without_sent x ∷ []) all ∙ ap (λ (y : WorldEvent). map without_sent es ++ y ∷ []) one
+    ∙ sym (bare_push es e)
+
+sent_push : (es : List WorldEvent) (e : WorldEvent) → sent_in (es ++ e ∷ []) ≡ sent_in es + length e.entry.sent
+sent_push [] e = omega arith
+sent_push (d ∷ es) e = let rest = sent_push es e in omega (arith, rest)
+
+pub sent_more : (es : List WorldEvent) (e : WorldEvent) (n : ℕ) → n ≡ kept (sent_in es) → kept (n + length e.entry.sent) ≡ kept (sent_in (es ++ e ∷ []))
+sent_more es e n so_far = let push = sent_push es e in omega (arith, so_far, push)
+
+-- ---- a controller at its place
 
 long : (cs : List control.Controller) → length (sites_in cs) ≡ length cs
 long [] = refl

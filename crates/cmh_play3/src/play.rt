@@ -1,12 +1,13 @@
 //! The command `play --edition 3`: all sites of a world in memory, driven by a script.
 
-ghost use Rattle.std.specs.Prelude.{◌≡◌, ◌≢◌, ◌⊎◌, ℕ, [], false, true, IfOk, IfErr, IfSome, MatchOption, OnOk, OnErr};
+ghost use Rattle.std.specs.Prelude.{◌≡◌, ◌≢◌, ◌⊎◌, ℕ, List, [], false, true, IfOk, IfErr, IfSome, MatchOption, OnOk, OnErr};
 ghost use Rattle.std.specs.Io.KnownBytes.{Keeps};
 ghost use Rattle.cmh_console.specs.Dialogue.{IsDialogueFault, line_of};
 ghost use Rattle.cmh_console.specs.Faults.{NamesFault};
 ghost use Rattle.cmh_console.specs.Status.{IsStatus};
-ghost use Rattle.cmh_play3.specs.Held.{LeadsTo, IsPlayed, IsShown, shown, world_of};
-ghost use Rattle.cmh_play3.specs.Inner.Shown.{GetsNothing, IsNewHeld, LeadsOn};
+ghost use Rattle.cmh_model3.specs.Entries as model;
+ghost use Rattle.cmh_play3.specs.Held.{IsPlayed, IsShown, Leads, LeadsTo, ShowsSome, shown};
+ghost use Rattle.cmh_play3.specs.Inner.Shown.{GetsNothing, IsHeld, IsNewHeld, LeadsOn};
 ghost use Rattle.cmh_play3.specs.Play.{Answered, IsWorldOf, PlayedTo, Replies, as_fault, status_after};
 ghost use Rattle.cmh_play3.specs.World.{CarriesOut};
 ghost use Rattle.cmh_script3.specs.Script.{Says};
@@ -69,9 +70,8 @@ pub fn play_script<R: BufRead + Ahead, W: Write>(
 ) -> Result<PlayState, DialogueFault>
     ensures answers { IfSome input.old.left (λ bytes. Answered bytes out.old.written
         out.new.written out.new.has_failed (status_after result)) }
-    ensures played { IfOk result (λ state. IfSome input.old.left (λ bytes. PlayedTo bytes out.old.written
-        out.new.written (shown state))) }
-    ensures held { IfOk result IsShown }
+    ensures played { IfOk result (λ state. ShowsSome state (λ last. IfSome input.old.left (λ bytes.
+        PlayedTo bytes out.old.written out.new.written last))) }
     ensures fault { IfErr result (IsDialogueFault input.old.left input.new.has_failed out.new.has_failed) }
     ensures flushed { OnOk result (out.new.is_flushed ≡ true) }
     ensures unfailed { OnOk result (out.new.has_failed ≡ out.old.has_failed) }
@@ -96,9 +96,8 @@ fn answer_all<R: BufRead + Ahead, W: Write>(
     requires { IsNewHeld state.old }
     ensures answers { IfSome input.old.left (λ bytes. Answered bytes out.old.written
         out.new.written out.new.has_failed 1) }
-    ensures all { OnOk result (IfSome input.old.left (λ bytes. PlayedTo bytes out.old.written
-        out.new.written (shown state.new))) }
-    ensures held { OnOk result (IsShown state.new) }
+    ensures all { OnOk result (ShowsSome state.new (λ last. IfSome input.old.left (λ bytes.
+        PlayedTo bytes out.old.written out.new.written last))) }
     ensures unfailed { OnOk result (out.new.has_failed ≡ out.old.has_failed) }
     ensures fault { IfErr result (IsDialogueFault input.old.left input.new.has_failed out.new.has_failed) }
 {
@@ -148,9 +147,8 @@ impl PlayState {
     /// The world that is played; where there was no command, one in which nothing has happened yet. The only error is out
     /// of memory.
     pub fn into_world(self, alloc: Global) -> Result<Playground, AllocError>
-        requires { IsShown self }
-        ensures played { IfOk result IsPlayed }
-        ensures world { IfOk result (λ held. IsWorldOf (shown self) (world_of held)) }
+        ensures { IfOk result (λ held. (events : List model.WorldEvent) → IsShown events self
+            → LeadsTo held (IsWorldOf (shown self events))) }
     {
         match self {
             PlayState::Played(world) => Ok(world),
@@ -160,9 +158,9 @@ impl PlayState {
 
     /// What a line does, and its reply.
     fn answer(&mut self, alloc: Global, line: Line) -> Result<Reply, AllocError>
-        requires shown { IsShown self.old }
+        requires shown { IsHeld self.old }
         requires own { GetsNothing line }
-        ensures { IfOk result (λ reply. LeadsOn self.new (λ new. Replies (shown self.old) new line reply)) }
+        ensures { IfOk result (λ reply. LeadsOn (λ old new. Replies old new line reply) self.old self.new) }
     {
         match line {
             Line::Silent => Ok(Reply::Silent),
@@ -175,7 +173,7 @@ impl PlayState {
 
     /// The edition is named while no site is.
     fn edition(&self) -> Reply
-        ensures { Replies (shown self.now) (shown self.now) Line.Edition result }
+        ensures { LeadsOn (λ old new. Replies old new Line.Edition result) self.now self.now }
     {
         match self {
             PlayState::Named(draft) => {
@@ -190,8 +188,8 @@ impl PlayState {
     }
 
     fn add(&mut self, row: SiteRow) -> Result<Reply, AllocError>
-        requires { IsShown self.old }
-        ensures { IfOk result (λ reply. LeadsOn self.new (λ new. Replies (shown self.old) new (Line.Site row) reply)) }
+        requires { IsHeld self.old }
+        ensures { IfOk result (λ reply. LeadsOn (λ old new. Replies old new (Line.Site row) reply) self.old self.new) }
     {
         match self {
             PlayState::Named(draft) => match draft.add(row)? {
@@ -204,9 +202,9 @@ impl PlayState {
 
     /// The first command makes the world of the sites that were named.
     fn command(&mut self, alloc: Global, command: Command) -> Result<Reply, AllocError>
-        requires shown { IsShown self.old }
+        requires shown { IsHeld self.old }
         requires own { GetsNothing (Line.Command command) }
-        ensures { IfOk result (λ reply. LeadsOn self.new (λ new. Replies (shown self.old) new (Line.Command command) reply)) }
+        ensures { IfOk result (λ reply. LeadsOn (λ old new. Replies old new (Line.Command command) reply) self.old self.new) }
     {
         match self {
             PlayState::Played(world) => carry_out(alloc, world, command),
@@ -223,7 +221,7 @@ impl PlayState {
 fn carry_out(alloc: Global, world: &mut Playground, command: Command) -> Result<Reply, AllocError>
     requires played { IsPlayed world.old }
     requires own { GetsNothing (Line.Command command) }
-    ensures { IfOk result (λ reply. LeadsTo world.new (λ new. CarriesOut (world_of world.old) new command reply)) }
+    ensures { IfOk result (λ reply. Leads (λ old new. CarriesOut old new command reply) world.old world.new) }
 {
     match command {
         Command::Act { process, event } => world.act(process, event),

@@ -1,11 +1,12 @@
 //! A world that is played: the controllers of all its sites, the links between them, and all that happened.
 
-ghost use Rattle.std.specs.Prelude.{◌≡◌, ◌++◌, ◌<◌, ℕ, [], false, true, drop, if◌then◌else◌, ◌==◌, length, slice_index, IfOk, OnOk};
+ghost use Rattle.std.specs.Prelude.{◌≡◌, ◌++◌, ◌<◌, ℕ, List, [], false, true, drop, if◌then◌else◌, ◌==◌, length, slice_index, IfOk, OnOk};
 ghost use Rattle.std.specs.List.Sorted.{IsStrictlyIncreasing};
 ghost use Rattle.cmh_controller3.specs.Steps.{process_in};
 ghost use Rattle.cmh_model3.specs.Journals.{frames_to, message_from};
+ghost use Rattle.cmh_model3.specs.Entries as model;
 ghost use Rattle.cmh_model3.specs.Laws as laws;
-ghost use Rattle.cmh_play3.specs.Held.{IsPlayed, LeadsTo, world_of};
+ghost use Rattle.cmh_play3.specs.Held.{IsPlayed, Leads, Shows, world_of};
 ghost use Rattle.cmh_play3.specs.Inner.Stepped.{IsNextAt, IsStep};
 ghost use Rattle.cmh_play3.specs.Inner.Fresh.{AreFresh};
 ghost use Rattle.cmh_play3.specs.Links.{is_cut, under_way};
@@ -15,20 +16,26 @@ ghost use Rattle.cmh_topology3.specs.Topology.{is_site, sites_of};
 
 use crate::links::Links;
 use crate::reply::{Done, Reply};
-use cmh_controller3::{Controller, Declaration, Outcome, Refusal};
-use cmh_model3::{Entry, Event, Message, ProcId, SiteId, Targets, WorldEvent};
+use cmh_controller3::{Controller, Declaration, Refusal};
+use cmh_model3::{Entry, Event, Message, ProcId, Sendings, SiteId, Targets, WorldEvent};
 use cmh_report3::Report;
 use cmh_topology3::Topology;
 use std::alloc::{AllocError, Global};
 
-/// A world that is played: the controllers of its sites, in the order of the topology, what all of them did, in one order,
-/// and the links between the sites.
+/// A world that is played: the controllers of its sites, in the order of the topology, what happened to them, in one order,
+/// and the links between the sites. What an event sent is on the links alone, so that it takes memory as long as it waits.
 #[derive(Debug, Drop)]
 pub struct Playground {
     topology: Topology,
     controllers: Vec<Controller>,
+
+    /// Without what they sent.
     events: Vec<WorldEvent<Event, Message>>,
+
+    /// How many messages they sent, counted up to 2^64 - 1.
+    sent: u64,
     links: Links,
+    alloc: Global,
 }
 
 /// What came of an event.
@@ -41,16 +48,17 @@ enum Step {
 impl Playground {
     /// A world in which nothing has happened yet.
     pub fn new(alloc: Global, topology: &Topology) -> Result<Playground, AllocError>
-        ensures played { IfOk result IsPlayed }
+        ensures played { IfOk result (Shows []) }
         ensures topology { IfOk result (λ held. held.topology ≡ topology.now) }
-        ensures events { IfOk result (λ held. held.events.items ≡ []) }
         ensures uncut { IfOk result (λ held. (a b : ℕ) → is_cut held.links a b ≡ false) }
     {
         Ok(Playground {
             topology: topology.copy(alloc)?,
             controllers: new_controllers(alloc, topology)?,
             events: Vec::new(alloc),
+            sent: 0,
             links: Links::new(alloc),
+            alloc,
         })
     }
 
@@ -60,7 +68,7 @@ impl Playground {
         &self.topology
     }
 
-    /// All that happened, in one order.
+    /// All that happened, in one order, without what was sent.
     pub fn events(&self) -> &[WorldEvent<Event, Message>]
         ensures { result.now ≡ self.now.events.items }
     {
@@ -72,8 +80,8 @@ impl Playground {
     pub fn act(&mut self, process: ProcId, event: Event) -> Result<Reply, AllocError>
         requires played { IsPlayed self.old }
         requires own { (a : ℕ) → message_from a event ≡ [] }
-        ensures { IfOk result (λ reply. LeadsTo self.new
-            (λ new. CarriesOut (world_of self.old) new (command.Act process event) reply)) }
+        ensures { IfOk result (λ reply. Leads (λ old new. CarriesOut old new (command.Act process event) reply)
+            self.old self.new) }
     {
         let Some(site) = self.topology.home(process) else {
             return Ok(Reply::Refused(Refusal::UnknownProcess));
@@ -87,8 +95,8 @@ impl Playground {
     /// Gives up all waits of a process, as its controller keeps them. An error is as in `act`.
     pub fn withdraw_all(&mut self, alloc: Global, process: ProcId) -> Result<Reply, AllocError>
         requires { IsPlayed self.old }
-        ensures { IfOk result (λ reply. LeadsTo self.new
-            (λ new. CarriesOut (world_of self.old) new (command.WithdrawAll process) reply)) }
+        ensures { IfOk result (λ reply. Leads (λ old new. CarriesOut old new (command.WithdrawAll process) reply)
+            self.old self.new) }
     {
         let Some(site) = self.topology.home(process) else {
             return Ok(Reply::Refused(Refusal::UnknownProcess));
@@ -108,8 +116,8 @@ impl Playground {
     /// Hands over the oldest message of a link. Where the receiver refuses it, it stays there. An error is as in `act`.
     pub fn deliver(&mut self, from: SiteId, to: SiteId) -> Result<Reply, AllocError>
         requires { IsPlayed self.old }
-        ensures { IfOk result (λ reply. LeadsTo self.new
-            (λ new. CarriesOut (world_of self.old) new (command.Deliver from to) reply)) }
+        ensures { IfOk result (λ reply. Leads (λ old new. CarriesOut old new (command.Deliver from to) reply)
+            self.old self.new) }
     {
         if !is_link(&self.topology, from, to) {
             return Ok(Reply::BadLink);
@@ -129,8 +137,8 @@ impl Playground {
     /// Cuts a link: what is under way on it, and what is sent on it later, never comes.
     pub fn cut(&mut self, from: SiteId, to: SiteId) -> Result<Reply, AllocError>
         requires { IsPlayed self.old }
-        ensures { IfOk result (λ reply. LeadsTo self.new
-            (λ new. CarriesOut (world_of self.old) new (command.Cut from to) reply)) }
+        ensures { IfOk result (λ reply. Leads (λ old new. CarriesOut old new (command.Cut from to) reply)
+            self.old self.new) }
     {
         if !is_link(&self.topology, from, to) {
             return Ok(Reply::BadLink);
@@ -145,31 +153,34 @@ impl Playground {
     /// The report on the world as it stands.
     pub fn report(&self, alloc: Global) -> Result<Reply, AllocError>
         requires { IsPlayed self.now }
-        ensures { IfOk result (λ reply.
-            CarriesOut (world_of self.now) (world_of self.now) command.Report reply) }
+        ensures { IfOk result (λ reply. Leads (λ old new. CarriesOut old new command.Report reply) self.now self.now) }
     {
-        let report = Report::new(alloc, &self.topology, &self.controllers, &self.events)?;
+        let report = Report::of_kept(alloc, &self.controllers, &self.events, self.sent)?;
         Ok(Reply::Report(Box::new(alloc, report)?))
     }
 
-    /// Gives an event to a site's controller, puts what it sends on the site's links, and adds the entry to what happened.
+    /// Gives an event to a site's controller, puts what it sends on the site's links, and adds the rest of the entry to what
+    /// happened.
     fn step(&mut self, site: SiteId, event: Event) -> Result<Step, AllocError>
         requires played { IsPlayed self.old }
         requires site { is_site self.old.topology site ≡ true }
-        requires next { IsNextAt (world_of self.old) site event }
-        ensures { IfOk result (λ step. LeadsTo self.new
-            (λ new. IsStep (world_of self.old) new site event step)) }
+        requires next { (events : List model.WorldEvent) → Shows events self.old
+            → IsNextAt (world_of self.old events) site event }
+        ensures { IfOk result (λ step. Leads (λ old new. IsStep old new site event step) self.old self.new) }
     {
         let place = place_of(&self.topology, site);
         match self.controllers[place].step(&event) {
             Ok(outcome) => {
+                let sent = outcome.sent.as_slice();
                 let done = Done {
-                    sent: outcome.sent.as_slice().len(),
+                    sent: sent.len(),
                     declared: outcome.declared,
                 };
-                send_all(&mut self.links, site, outcome.sent.as_slice())?;
+                send_all(&mut self.links, site, sent)?;
                 receive(&mut self.links, site, &event);
-                self.events.push(entry_at(site, event, outcome))?;
+                self.sent = self.sent.saturating_add(sent.len() as u64);
+                let entry = bare_entry(self.alloc, site, event, &outcome.declared);
+                self.events.push(entry)?;
                 Ok(Step::Taken(done))
             }
             Err(refusal) => Ok(Step::Refused(refusal)),
@@ -184,16 +195,21 @@ fn is_link(topology: &Topology, from: SiteId, to: SiteId) -> bool
     from != to && topology.has_site(from) && topology.has_site(to)
 }
 
-fn entry_at(site: SiteId, event: Event, outcome: Outcome) -> WorldEvent<Event, Message>
-    ensures { result ≡ laws.entry_at site event outcome.sent (process_in outcome.declared) }
+/// An entry without what it sent.
+fn bare_entry(
+    alloc: Global,
+    site: SiteId,
+    event: Event,
+    declared: &Option<Declaration>,
+) -> WorldEvent<Event, Message>
+    ensures { result ≡ laws.entry_at site event [] (process_in declared.now) }
 {
-    let declared = process_of(&outcome.declared);
     WorldEvent {
         site,
         entry: Entry {
             event,
-            sent: outcome.sent,
-            declared,
+            sent: Sendings::new(Vec::new(alloc)),
+            declared: process_of(declared),
         },
     }
 }

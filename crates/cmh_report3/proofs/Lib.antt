@@ -11,3 +11,4 @@ pub mod Ended
 pub mod Newest
 pub mod Told
 pub mod Declaring
+pub mod Keeping

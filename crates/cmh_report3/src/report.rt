@@ -1,20 +1,23 @@
 //! The report on a world.
 
-ghost use Rattle.std.specs.Prelude.{◌≡◌, ℕ, IfOk, map};
+ghost use Rattle.std.specs.Prelude.{◌≡◌, ℕ, List, IfOk, map};
 ghost use Rattle.std.specs.List.{AllByRecursion, list_any};
 ghost use Rattle.std.specs.List.Sorted.{IsStrictlyIncreasing};
 ghost use Rattle.cmh_controller3.specs.Controller as control;
+ghost use Rattle.cmh_model3.specs.Entries as model;
 ghost use Rattle.cmh_model3.specs.Lists.{in_list};
 ghost use Rattle.cmh_report3.specs.declared.cycle.Deadlock as cycle;
 ghost use Rattle.cmh_report3.specs.Inner.ClockTables.{FitClocks};
 ghost use Rattle.cmh_model3.specs.Runs.{IsRun};
+ghost use Rattle.cmh_report3.specs.Kept.{IsKeptOf, IsKeptOfSome};
 ghost use Rattle.cmh_report3.specs.Reports.{IsTold, Reports, StandEach};
+ghost use Rattle.cmh_topology3.specs.Topology as topology;
 ghost use Rattle.cmh_topology3.specs.Topology.{site_of};
 
 use crate::cycle::{Deadlock, deadlock_of};
 use crate::declared::{declared_by, leaving_by};
 use crate::stop::waits_of;
-use crate::totals::in_transit;
+use crate::totals::{got_in, sent_in};
 use cmh_controller3::Controller;
 use cmh_model3::{Event, Message, ProcId, WorldEvent};
 use cmh_topology3::Topology;
@@ -49,9 +52,24 @@ impl Report {
         requires stand { StandEach topology.now events.now controllers.now }
         ensures { IfOk result (Reports (site_of topology.now) events.now) }
     {
+        Report::of_kept(alloc, controllers, events, sent_in(events))
+    }
+
+    /// The same, where nobody keeps what the entries sent, but how many messages that was, counted up to 2^64 - 1. What the
+    /// events say that they sent is not looked at.
+    pub fn of_kept(
+        alloc: Global,
+        controllers: &[Controller],
+        events: &[WorldEvent<Event, Message>],
+        sent: u64,
+    ) -> Result<Report, AllocError>
+        requires { IsKeptOfSome controllers.now events.now sent }
+        ensures { IfOk result (λ report. (t : topology.Topology) (run : List model.WorldEvent)
+            → IsKeptOf t run controllers.now events.now sent → Reports (site_of t) run report) }
+    {
         Ok(Report {
             events: events.len(),
-            in_transit: in_transit(events),
+            in_transit: sent.saturating_sub(got_in(events)),
             waits: waits_of(alloc, events)?.pairs(alloc)?,
             leaving: leaving_by(alloc, controllers)?.pairs(alloc)?,
             declared: declared_of(alloc, controllers, events)?,

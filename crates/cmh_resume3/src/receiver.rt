@@ -1,6 +1,6 @@
 //! The receiver's end of a link.
 
-ghost use Rattle.std.specs.Prelude.{◌≡◌, ◌≢◌, ◌+◌, ◌-◌, ◌^◌, ◌<◌, ◌≤◌, ◌⊎◌, ◌↔◌, Contains, true, false, Some, IsSome, IsTrue, OnOk, OnErr, IfOk, IfErr};
+ghost use Rattle.std.specs.Prelude.{◌≡◌, ◌≢◌, ◌+◌, ◌-◌, ◌^◌, ◌<◌, ◌≤◌, ◌⊎◌, ◌↔◌, Contains, true, false, Some, IsSome, is_some, IsTrue, OnOk, OnErr, IfOk, IfErr};
 ghost use Rattle.cmh_resume3.specs.Receiver.{Claims, IsFit, IsUnfit, IsUntaken, all_synced, closed_off, heard_at, opened, rested, said, synced_of, with_message};
 
 use cmh_hello3::{Acknowledgement, Answer, Hello, Refusal};
@@ -132,6 +132,20 @@ impl ReceiverEnd {
             Some(claimed) => claimed == line,
             None => false,
         }
+    }
+
+    /// Whether some connection has the claim.
+    pub fn is_open(&self) -> bool
+        ensures { result ≡ is_some self.now.claim }
+    {
+        self.claim.is_some()
+    }
+
+    /// Whether the rules refused one of its messages, so that it is closed for good.
+    pub fn is_closed(&self) -> bool
+        ensures { result ≡ self.now.closed }
+    {
+        self.closed
     }
 
     /// A message came on a connection, the rules accept it, and its entry is written.

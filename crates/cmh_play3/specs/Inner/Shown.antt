@@ -1,5 +1,6 @@
 -- What a line does to the state of a script that is held.
-use Rattle.std.specs.Prelude.{◌≡◌, ℕ, [], ⊤}
+use Rattle.std.specs.Prelude.{◌≡◌, ℕ, List, [], ⊤}
+use Rattle.cmh_model3.specs.Entries.{WorldEvent}
 use Rattle.cmh_model3.specs.Journals.{message_from}
 use Rattle.cmh_script3.specs.declared.script.Command.TheVariants.{Act}
 use Rattle.cmh_script3.specs.declared.script.Line.{Line}
@@ -13,10 +14,19 @@ use Rattle.cmh_play3.specs.declared.play.PlayState.TheVariants.{Named as HeldNam
 abbrev pub IsNewHeld : HeldState → Type 0
 IsNewHeld held = held ≡ HeldNamed []
 
--- it does this, and what is held is played still
-pub record LeadsOn (new : HeldState) (Done : PlayState → Type 0) : Type 0 where
-  pub held : IsShown new
-  pub done : Done (shown new)
+-- it shows some state
+abbrev pub IsHeld : HeldState → Type 0
+IsHeld held = (events : List WorldEvent) × IsShown events held
+
+-- it shows a state of which this holds
+pub record LeadsOnTo (new : HeldState) (Done : PlayState → Type 0) : Type 0 where
+  pub events : List WorldEvent
+  pub held : IsShown events new
+  pub done : Done (shown new events)
+
+-- of each state that was shown one is shown that is related to it
+abbrev pub LeadsOn : (PlayState → PlayState → Type 0) → HeldState → HeldState → Type 0
+LeadsOn Related old new = (events : List WorldEvent) → IsShown events old → LeadsOnTo new (Related (shown old events))
 
 -- by no line of a script a site gets a message
 abbrev pub GetsNothing : Line → Type 0

@@ -1,7 +1,7 @@
 use Rattle.std.proofs.Common.{[], refl}
 use Rattle.cmh_client.specs.Clients.{closes, leaves}
 use Rattle.cmh_client.specs.Lines.{none}
-use Rattle.cmh_client.proofs.Talks.{answered_talk, heard_talk, same_talk, sent_talk, skipped_talk, told_talk, took_talk, watches_talk}
+use Rattle.cmh_client.proofs.Talks.{announced_talk, answered_talk, heard_talk, same_talk, sent_talk, skipped_talk, told_talk, took_talk, watches_talk}
 use Rattle.cmh_client.proofs.laws.talk_law.Goals as goal
 
 pub returns-clause-fresh : goal.returns-clause-fresh
@@ -21,6 +21,9 @@ returns-clause-answered g c = answered_talk
 
 pub returns-clause-told : goal.returns-clause-told
 returns-clause-told g c = told_talk
+
+pub returns-clause-announced : goal.returns-clause-announced
+returns-clause-announced g c = announced_talk
 
 pub returns-clause-sent : goal.returns-clause-sent
 returns-clause-sent g c = sent_talk

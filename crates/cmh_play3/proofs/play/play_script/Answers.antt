@@ -17,7 +17,9 @@ returns-in_err-flushed-clause-answers g c =
     c.flush-flushed.ensures.ok c.flush-flushed.ensures.err)
 
 pub returns-clause-played : goal.returns-clause-played
-returns-clause-played g c = all_flushed _ _ _ _ _ c.in_ok-played.ensures.all c.flush-flushed.ensures.bytes
+returns-clause-played g c =
+    let all = c.in_ok-played.ensures.all in
+    record { events = all.events; shows = all.shows; holds = all_flushed _ _ _ _ _ all.holds c.flush-flushed.ensures.bytes }
 
 pub returns-clause-answers : goal.returns-clause-answers
-returns-clause-answers g c = all_answered _ _ _ c.args.out.now.has_failed _ (returns-clause-played g c)
+returns-clause-answers g c = all_answered _ _ _ c.args.out.now.has_failed _ (returns-clause-played g c).holds

@@ -3,7 +3,7 @@ use Rattle.std.proofs.lemmas.Option.{get_or_from_slice_get}
 use Rattle.cmh_peers3.specs.Changes.{ChangesOut, DoesSafely}
 use Rattle.cmh_peers3.specs.declared.peer.Peer.{Peer}
 use Rattle.cmh_node3.specs.Changes.{sealed_by}
-use Rattle.cmh_node3.specs.Nodes.{Node}
+use Rattle.cmh_node3.specs.Nodes.{Node, kept_last}
 use Rattle.cmh_node3.proofs.Places.{out_exact, seals_after}
 use Rattle.cmh_node3.proofs.node.Node.happen.Goals as goal
 
@@ -12,7 +12,7 @@ invariant_of-self g c =
     let told = g.F.SegmentFile.told in
     let failed = g.F.SegmentFile.has_failed in
     let s = c.self.inside in
-    let n : Node g.row.F.Denot = record { world = s.world; site = s.site; station = s.station; peers = s.peers.items; others = s.others.items; sealed = s.sealed } in
+    let n : Node g.row.F.Denot = record { world = s.world; site = s.site; station = s.station; peers = s.peers.items; others = s.others.items; sealed = s.sealed; last = kept_last s.last } in
     let steps = c.self.invariant.0 in (
       steps,
       out_exact told failed n steps c.args.place (DoesSafely c.args.what.now c.new.result c.args.now c.happen_at-action.result) c.happen_at-action.new.peers.items c.sealed_after-self-inside.result c.self.invariant.1 c.happen_at-action.ensures
@@ -24,7 +24,7 @@ returns-clause-exact g c =
     let told = g.F.SegmentFile.told in
     let failed = g.F.SegmentFile.has_failed in
     let s = c.self.inside in
-    let n : Node g.row.F.Denot = record { world = s.world; site = s.site; station = s.station; peers = s.peers.items; others = s.others.items; sealed = s.sealed } in
+    let n : Node g.row.F.Denot = record { world = s.world; site = s.site; station = s.station; peers = s.peers.items; others = s.others.items; sealed = s.sealed; last = kept_last s.last } in
     rw (← c.self.view_is) (λ steps exact.
     out_exact told failed n steps c.args.place (DoesSafely c.args.what.now c.new.result c.args.now c.happen_at-action.result) c.happen_at-action.new.peers.items c.sealed_after-self-inside.result exact c.happen_at-action.ensures
     (λ a b d. d.stands) (seals_after s.sealed c.sealed_after-self-inside.result _ c.happen_at-action.result c.in-None.is c.sealed_after-self-inside.ensures))

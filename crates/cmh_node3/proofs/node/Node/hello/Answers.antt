@@ -5,7 +5,7 @@ use Rattle.cmh_hello3.specs.declared.hello.Hello.{Hello}
 use Rattle.cmh_resume3.specs.Receiver.{Claims, IsFit}
 use Rattle.cmh_peers3.specs.Peers.{IsPlaceOf}
 use Rattle.cmh_peers3.specs.declared.peer.Peer.{Peer}
-use Rattle.cmh_node3.specs.Nodes.{IsExact, Node}
+use Rattle.cmh_node3.specs.Nodes.{IsExact, Node, kept_last}
 use Rattle.cmh_node3.proofs.Places.{claims_same, into_exact, none_missed}
 use Rattle.cmh_node3.proofs.node.Node.hello.Goals as goal
 
@@ -29,7 +29,7 @@ invariant_of-self-2 g c =
     let told = g.F.SegmentFile.told in
     let works = g.F.SegmentFile.has_failed in
     let s = c.self.inside in
-    let n : Node g.row.F.Denot = record { world = s.world; site = s.site; station = s.station; peers = s.peers.items; others = s.others.items; sealed = s.sealed } in
+    let n : Node g.row.F.Denot = record { world = s.world; site = s.site; station = s.station; peers = s.peers.items; others = s.others.items; sealed = s.sealed; last = kept_last s.last } in
     let steps = c.self.invariant.0 in (
       steps,
       into_exact told works n steps c.in-Some-place_of.place (λ a b. Claims a c.args.line c.args.now c.in-Ok-claim_at.answer b) c.claim_at.new.peers.items c.self.invariant.1 c.in-Ok-claim_at.ensures.claims
@@ -41,7 +41,7 @@ invariant_of-self g c =
     let told = g.F.SegmentFile.told in
     let works = g.F.SegmentFile.has_failed in
     let s = c.self.inside in
-    let n : Node g.row.F.Denot = record { world = s.world; site = s.site; station = s.station; peers = s.peers.items; others = s.others.items; sealed = s.sealed } in
+    let n : Node g.row.F.Denot = record { world = s.world; site = s.site; station = s.station; peers = s.peers.items; others = s.others.items; sealed = s.sealed; last = kept_last s.last } in
     let steps = c.self.invariant.0 in
     (steps, subst (λ (l : List Peer). IsExact told works (record n { peers = l }) steps) (sym c.in-Err-claim_at.ensures.same) c.self.invariant.1)
 
@@ -50,7 +50,7 @@ returns-clause-ok g c =
     let told = g.F.SegmentFile.told in
     let works = g.F.SegmentFile.has_failed in
     let s = c.self.inside in
-    let n : Node g.row.F.Denot = record { world = s.world; site = s.site; station = s.station; peers = s.peers.items; others = s.others.items; sealed = s.sealed } in
+    let n : Node g.row.F.Denot = record { world = s.world; site = s.site; station = s.station; peers = s.peers.items; others = s.others.items; sealed = s.sealed; last = kept_last s.last } in
     let steps = c.self.invariant.0 in
     let place = c.in-Some-place_of.place in
     let into = c.in-Ok-claim_at.ensures.claims in
@@ -70,7 +70,7 @@ returns-clause-exact g c =
     let told = g.F.SegmentFile.told in
     let works = g.F.SegmentFile.has_failed in
     let s = c.self.inside in
-    let n : Node g.row.F.Denot = record { world = s.world; site = s.site; station = s.station; peers = s.peers.items; others = s.others.items; sealed = s.sealed } in
+    let n : Node g.row.F.Denot = record { world = s.world; site = s.site; station = s.station; peers = s.peers.items; others = s.others.items; sealed = s.sealed; last = kept_last s.last } in
     rw (← c.self.view_is) (λ steps exact.
     into_exact told works n steps c.in-Some-place_of.place (λ a b. Claims a c.args.line c.args.now c.in-Ok-claim_at.answer b) c.claim_at.new.peers.items exact c.in-Ok-claim_at.ensures.claims
     (claims_same c.args.line c.args.now c.in-Ok-claim_at.answer))

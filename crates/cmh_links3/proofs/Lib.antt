@@ -1,0 +1,5 @@
+pub mod Hearing
+pub mod Growing
+pub mod Places
+pub mod Giving
+pub mod Taking

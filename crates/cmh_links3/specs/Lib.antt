@@ -1,0 +1,5 @@
+pub mod Connections
+pub mod Growing
+pub mod Hearing
+pub mod Listening
+pub mod Speaking

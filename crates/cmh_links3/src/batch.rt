@@ -1,0 +1,43 @@
+//! The messages in front of what was heard.
+
+ghost use Rattle.std.specs.Prelude.{◌≡◌, IfOk};
+ghost use Rattle.cmh_links3.specs.Hearing.{IsBatch};
+
+use cmh_hello3::{Item, ItemFront, decode_item};
+use cmh_model3::Message;
+use std::alloc::{AllocError, Global};
+
+/// How many messages are taken at once.
+const MOST_TAKEN: usize = 64;
+
+/// Messages, and how many bytes spell them.
+#[derive(Drop)]
+pub(crate) struct Batch {
+    pub(crate) messages: Vec<Message>,
+    pub(crate) len: usize,
+}
+
+/// The messages in front of the bytes, at most 64, up to one of a later epoch.
+#[tactic(auto, using(crate::proofs::Hearing::batch_more))]
+pub(crate) fn batch_of(alloc: Global, bytes: &[u8]) -> Result<Batch, AllocError>
+    ensures { IfOk result (λ batch. IsBatch bytes.now batch.len batch.messages.items) }
+{
+    let mut messages = Vec::new(alloc);
+    let mut len = 0;
+    for _count in 0..MOST_TAKEN {
+        let (_, rest) = bytes.split_at(len);
+        match decode_item(rest) {
+            ItemFront::Whole(Item::Message(message), count) if !is_of_later_epoch(&message) => {
+                messages.push(message)?;
+                len += count;
+            }
+            _ => return Ok(Batch { messages, len }),
+        }
+    }
+    Ok(Batch { messages, len })
+}
+
+/// Whether a message is of a later epoch than the site's, which is 0: it can't be taken.
+fn is_of_later_epoch(message: &Message) -> bool {
+    message.clock.get() > u64::from(u32::MAX)
+}

@@ -1,0 +1,10 @@
+//! What becomes of a connection.
+
+/// What becomes of a connection.
+#[derive(Clone, Copy, Debug, PartialEq, Eq)]
+pub enum Onward {
+    /// It goes on.
+    Open,
+    /// It is closed, once what is still to be written was tried to be written.
+    Close,
+}

@@ -1,0 +1,23 @@
+//! A running site of edition 3: one thread that waits for its links, its clients and the time, and gives what comes to the
+//! site. It starts again on its journal, and its links resume.
+#![tactic(auto)]
+
+mod arrivals;
+mod batch;
+mod calls;
+mod guests;
+mod hub;
+mod opening;
+mod ports;
+mod replying;
+mod serve_fault;
+mod serving;
+mod setting;
+mod socket;
+mod stepping;
+mod talker;
+mod telling;
+
+pub use crate::serve_fault::ServeFault;
+pub use crate::serving::{ServeStart, run_service3};
+pub use crate::setting::is_of_edition3;
