@@ -1,18 +1,22 @@
 """A client of running sites of cmh, for Python 3.10 and later: `Site.run` starts a `cmh site` and speaks by its pipes,
-`Site.at` connects to a site that serves TCP. Both take the lines of docs/formats.md, from one thread at a time.
+`Site.at` connects to a site that serves TCP. `Site3.at` connects to one of edition 3, and again after it was started again.
+All take the lines of docs/formats.md, from one thread at a time.
 """
 from __future__ import annotations
 
 import os
 import socket
 import time
-from collections.abc import Iterable, Iterator
+from collections import deque
+from collections.abc import Callable, Iterable, Iterator
 from contextlib import suppress
+from dataclasses import dataclass
 from selectors import EVENT_READ, PollSelector
 from subprocess import PIPE, Popen
 
 REFUSALS = {1: 'unknown process', 2: 'not here', 3: 'bad targets', 4: 'blocked', 5: 'not blocked', 6: 'not owed',
-            7: 'already declared', 8: 'unlawful', 9: 'sealed', 10: 'disk', 11: 'out of memory', 12: 'journal full'}
+            7: 'already declared', 8: 'unlawful', 9: 'sealed', 10: 'disk', 11: 'out of memory', 12: 'journal full',
+            13: 'behind', 14: 'leaving', 15: 'already waits', 16: 'not waiting', 17: 'clock spent'}
 
 
 class Ended(Exception):
@@ -22,6 +26,14 @@ class Ended(Exception):
 class Timeout(Ended):
     """No answer came within `patience` seconds. The site is given up, since a late answer would be taken for the next
     one: a child is killed, and a connection closed."""
+
+
+class InDoubt(Ended):
+    """An event has no answer: the connection ended before it, or it did not come in time. It may have taken place, or still do
+    so. `became` asks its site."""
+    def __init__(self, line: str, why: str):
+        super().__init__(f'no answer to {line!r}: {why}')
+        self.line = line
 
 
 class BadLine(Exception):
@@ -168,6 +180,177 @@ class Site:
         if not self.owner.stderr.closed:
             self.fault = self.owner.communicate()[1].decode().strip()
         return self.fault or f'ended with status {self.owner.returncode}'
+
+
+@dataclass(frozen=True)
+class Happening:
+    """What a site of edition 3 tells by itself. `kind` says how to read the numbers:
+
+    `declared` i n   i lay on a cycle at stop n      `active` j    j waits for nobody any more, by a reply
+    `declared` i     the same, of before it watched
+    `asked` k j      j has asked k, who may reply    `free` j k    j gave k up, and may ask it again
+    `link` S         `way` is 'out' or 'in', `state` as in `links`
+    `back`           the connection was lost and is there again: what happened meanwhile is not told, so look"""
+    kind: str
+    numbers: tuple[int, ...] = ()
+    way: str = ''
+    state: str = ''
+
+    @classmethod
+    def of(cls, line: str) -> Happening:
+        """Of a line that begins with `! `."""
+        _, kind, *words = line.split()
+        if kind == 'link':
+            return cls(kind, (int(words[1]),), words[0], ' '.join(words[2:]))
+        return cls(kind, tuple(int(word) for word in words if word != 'at'))
+
+
+class Site3(Site):
+    """A site of edition 3 that serves. Where its connection ends it connects again, for `again` seconds, and a question is asked
+    again. An event that has no answer is `InDoubt`; once that is raised, the next call connects again."""
+
+    def __init__(self, port: int, host: str = '127.0.0.1', patience: float | None = None, again: float = 60.0):
+        self._address, self.again = (host, port), again
+        self._told: deque[Happening] = deque()
+        self._watches = False
+        connection = self._dial()
+        super().__init__(connection, connection.fileno(), connection.fileno(), patience)
+
+    @classmethod
+    def at(cls, port: int, host: str = '127.0.0.1', patience: float | None = None, again: float = 60.0) -> Site3:
+        return cls(port, host, patience, again)
+
+    def _dial(self) -> socket.socket:
+        connection = socket.create_connection(self._address, timeout=5)
+        connection.settimeout(None)
+        connection.setsockopt(socket.IPPROTO_TCP, socket.TCP_NODELAY, 1)
+        return connection
+
+    def receive(self) -> str:
+        """The next answer. What the site tells by itself is kept for `happenings`."""
+        while (line := super().receive()).startswith('! '):
+            self._told.append(Happening.of(line))
+        return line
+
+    def connect_again(self) -> None:
+        """A new connection, once the site is there."""
+        end, pause = time.monotonic() + self.again, 0.02
+        while True:
+            try:
+                self._rest, self.owner = b'', self._dial()
+                self._readable = self._writable = self.owner.fileno()
+                if self._watches:
+                    Site.call(self, 'watch')
+                    self._told.append(Happening('back'))
+                return
+            except (OSError, Ended) as why:
+                if time.monotonic() + pause > end:
+                    raise Ended(f'the site is not there again within {self.again:g} seconds ({why})') from None
+            time.sleep(pause)
+            pause = min(0.5, 2 * pause)
+
+    def _again(self, call: Callable):
+        """What a question answers, on a new connection where the old one ended. A timeout is the caller's."""
+        while True:
+            try:
+                return call()
+            except Timeout:
+                raise
+            except Ended:
+                self.connect_again()
+
+    def call(self, *words: object) -> str:
+        """The answer to a line of these words."""
+        line = ' '.join(map(str, words))
+        if line.split()[:1] not in (['ask'], ['start'], ['reply'], ['withdraw']):
+            return self._again(lambda: Site.call(self, line))
+        if self._is_lost():
+            self.connect_again()
+        try:
+            return Site.call(self, line)
+        except Ended as why:
+            raise InDoubt(line, str(why)) from None
+
+    def _is_lost(self) -> bool:
+        """Whether the connection has ended; what was told meanwhile is read."""
+        with suppress(OSError, ValueError), PollSelector() as ready:
+            ready.register(self._readable, EVENT_READ)
+            while ready.select(0):
+                piece = os.read(self._readable, 65536)
+                if not piece:
+                    return True
+                self._rest += piece
+            return False
+        return True
+
+    def became(self, line: str) -> bool | None:
+        """Whether an event in doubt took place, as far as `waits`, `owed` and `leaving` tell; None where they don't. The
+        journal, `cmh show DIR`, has all that did."""
+        verb, process, *others = line.split()
+        named = {int(word) for word in others}
+        if verb == 'ask':                       # what isn't waited for may have been granted since
+            return True if named <= set(self.waits(int(process))) else None
+        if verb == 'reply':                     # where it is not owed any more, it was granted or given up
+            return not named & set(self.owed(int(process)))
+        if verb == 'withdraw':
+            waits = set(self.waits(int(process)))
+            if waits & named or (waits and not named):
+                return False
+            return True if named & set(self.leaving(int(process))) else None
+        return None
+
+    def withdraw(self, process: int, holders: Iterable[int] = ()) -> None:
+        """The process gives up its waits for these, or all of its waits."""
+        self._words('withdraw', process, *sorted(set(holders)))
+
+    def status(self) -> dict[str, int | bool]:
+        """The figures of the site: `entries`, `declared`, `clients`, `out`, `in`, `kept` messages and `sealed`; where it is
+        sealed by another site, which `site`, and by what `mismatch`."""
+        return super().status()
+
+    def leaving(self, process: int) -> list[int]:
+        """Whom the process gave up, and can't ask again yet: `free` tells when."""
+        return [int(word) for word in self._words('leaving', process)[2:]]
+
+    def declared(self) -> list[int]:
+        """Who is declared now, ascending."""
+        return [int(word) for word in self._words('declared')[3:]]
+
+    def links(self) -> dict[tuple[str, int], str]:
+        """The state of each link, as `open` or `down 3`."""
+        return self._again(super().links)
+
+    def watch(self) -> None:
+        """Has the site tell what happens from now on; the declarations of before come first."""
+        if not self._watches:
+            self._words('watch')
+            self._watches = True
+
+    def happenings(self, patience: float | None = None) -> Iterator[Happening]:
+        """What happens, as it comes; other calls may stand between. Where nothing comes within `patience` seconds it ends,
+        and may be called again."""
+        self.watch()
+        while True:
+            if not self._told and not self._hear(patience):
+                return
+            yield self._told.popleft()
+
+    def _hear(self, patience: float | None) -> bool:
+        """Whether a line came in time, or a new connection."""
+        try:
+            if b'\n' not in self._rest:
+                with PollSelector() as ready:
+                    ready.register(self._readable, EVENT_READ)
+                    if not ready.select(patience):
+                        return False
+            self._told.append(Happening.of(self._next_line(self.patience)))
+        except (Ended, OSError, ValueError):
+            self.connect_again()
+        return True
+
+    def close(self) -> None:
+        """Ends this connection alone."""
+        self._give_back()
 
 
 def targets(asker: int, holders: Iterable[int]) -> list[int]:
