@@ -1,0 +1,4 @@
+pub mod Worlds
+pub mod Chains
+pub mod Laws
+pub mod Splits
