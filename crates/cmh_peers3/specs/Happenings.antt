@@ -68,8 +68,8 @@ abbrev pub DoesEnd : Sender → ℕ → Sender → Action → Type 0
 DoesEnd s now n action = (n ≡ with_state s (ended_state now s.state)) × (action ≡ Rest)
 
 abbrev pub DoesPass : Sender → ℕ → Sender → Action → Type 0
-DoesPass s now n action = (n ≡ with_state s (state_by now s.state (task_of s.acked now s.state)))
-    × (action ≡ action_by (task_of s.acked now s.state))
+DoesPass s now n action = (n ≡ with_state s (state_by now s.state (task_of now s.state)))
+    × (action ≡ action_by (task_of now s.state))
 
 abbrev pub Does : Sender → Happening → ℕ → ℕ → Sender → Action → Type 0
 Does s Dialled epoch now n action = DoesDial s now n action

@@ -51,7 +51,7 @@ pub data Moment (l n : Link) : Type 0 where
       → n ≡ record l { out = out; line = at_one l.line c (with_frame m (l.line c)) } → Moment l n
   SenderEnded : (now : ℕ) → n ≡ record l { out = with_state l.out (ended_state now l.out.state) } → Moment l n
   SenderTurned : (now : ℕ) → n ≡ record l { out = with_state l.out (noted_state now l.out.state) } → Moment l n
-  SenderTicked : (now : ℕ) → n ≡ record l { out = with_state l.out (state_by now l.out.state (task_of l.out.acked now l.out.state)) } → Moment l n
+  SenderTicked : (now : ℕ) → n ≡ record l { out = with_state l.out (state_by now l.out.state (task_of now l.out.state)) } → Moment l n
   -- ---- the receiver's site
   -- it reads a hello between two batches, and answers or refuses
   Claimed : (c now : ℕ) (a : Answer) (into : Receiver) → (l.line c).hello ≡ true → l.into.unsynced ≡ 0 → Claims l.into c now a into

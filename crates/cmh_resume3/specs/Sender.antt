@@ -1,5 +1,5 @@
 -- The sender's end of a link, and what each call makes of it. Times are milliseconds.
-use Rattle.std.specs.Prelude.{◌≡◌, ◌≢◌, ℕ, ◌+◌, ◌-◌, ◌*◌, ◌<◌, ◌≤◌, ◌==◌, ◌&&◌, if◌then◌else◌, nat_le, nat_lt, min, max, List, [], ◌∷◌, ◌++◌, length, take, drop, slice_get, Option, None, Some}
+use Rattle.std.specs.Prelude.{◌≡◌, ◌≢◌, ℕ, ◌+◌, ◌-◌, ◌*◌, ◌<◌, ◌≤◌, ◌==◌, if◌then◌else◌, nat_le, min, max, List, [], ◌∷◌, ◌++◌, length, take, drop, slice_get, Option, None, Some}
 use Rattle.cmh_model3.specs.declared.frame.Message.{Message}
 use Rattle.cmh_wire3.specs.Mark.{mark_of, mark_on}
 use Rattle.cmh_wire3.specs.Wire.{spelled}
@@ -149,13 +149,14 @@ GivesNext s now n None = (n ≡ s) × (IsRunning s.state → next_of s.state ≡
 -- ---- what time brings
 
 -- What is to be done in a state at this time: dial where the pause is over; end a connection whose answer did not come in
--- 10 s, or on which an acknowledgement is due and none came for 15 s; write a note where nothing was written for 5 s.
-abbrev pub task_of : ℕ → ℕ → State → Task
-task_of acked now (Down since pause) = if nat_le pause (now - since) then Dial else Rest
-task_of acked now (Asked since pause) = if nat_le 10000 (now - since) then End else Rest
-task_of acked now (Running next spoke heard) =
-    if nat_lt acked next && nat_le 15000 (now - heard) then End else (if nat_le 5000 (now - spoke) then Note else Rest)
-task_of acked now state = Rest
+-- 10 s, or on which no acknowledgement came for 15 s, since notes are acknowledged too; write a note where nothing was
+-- written for 5 s.
+abbrev pub task_of : ℕ → State → Task
+task_of now (Down since pause) = if nat_le pause (now - since) then Dial else Rest
+task_of now (Asked since pause) = if nat_le 10000 (now - since) then End else Rest
+task_of now (Running next spoke heard) =
+    if nat_le 15000 (now - heard) then End else (if nat_le 5000 (now - spoke) then Note else Rest)
+task_of now state = Rest
 
 -- what becomes of the state by it
 abbrev pub state_by : ℕ → State → Task → State

@@ -1,6 +1,6 @@
 //! The sender's end of a link.
 
-ghost use Rattle.std.specs.Prelude.{◌≡◌, ◌++◌, ◌∷◌, [], ◌<◌, ◌≤◌, ◌+◌, ◌^◌, ◌&&◌, if◌then◌else◌, nat_le, length, take, drop, IsTrue, ◌↔◌, OnErr, OnOk, Err};
+ghost use Rattle.std.specs.Prelude.{◌≡◌, ◌++◌, ◌∷◌, [], ◌<◌, ◌≤◌, ◌+◌, ◌^◌, if◌then◌else◌, nat_le, length, take, drop, IsTrue, ◌↔◌, OnErr, OnOk, Err};
 ghost use Rattle.cmh_wire3.specs.Mark.{mark_on};
 ghost use Rattle.cmh_wire3.specs.Wire.{spelled};
 ghost use Rattle.cmh_resume3.specs.Within.{IsWithin};
@@ -73,7 +73,7 @@ const LONGEST_PAUSE: u64 = 1000;
 /// How long an answer is waited for.
 const ANSWER_WAIT: u64 = 10_000;
 
-/// How long an acknowledgement is waited for that is due.
+/// How long an acknowledgement is waited for. Notes are acknowledged too, so one is due at least this often.
 const ACKNOWLEDGEMENT_WAIT: u64 = 15_000;
 
 /// How long nothing is written before a note is.
@@ -284,10 +284,10 @@ impl SenderEnd {
 
     /// What is to be done at this time.
     pub fn tick(&mut self, now: u64) -> Task
-        ensures task { result ≡ task_of self.old.acked now self.old.state }
+        ensures task { result ≡ task_of now self.old.state }
         ensures after { self.new ≡ with_state self.old (state_by now self.old.state result) }
     {
-        let task = next_task(self.acked, now, self.state);
+        let task = next_task(now, self.state);
         match task {
             Task::Rest | Task::Dial => {}
             Task::End => self.state = after_end(now, self.state),
@@ -347,14 +347,13 @@ fn after_note(now: u64, state: State) -> State
 }
 
 /// What is to be done in a state at this time.
-fn next_task(acked: u64, now: u64, state: State) -> Task
-    ensures { result ≡ task_of acked now state }
+fn next_task(now: u64, state: State) -> Task
+    ensures { result ≡ task_of now state }
 {
     match state {
         State::Down { since, pause } if pause <= now.saturating_sub(since) => Task::Dial,
         State::Asked { since, .. } if ANSWER_WAIT <= now.saturating_sub(since) => Task::End,
-        State::Running { next, spoke, heard } => running_task(
-            acked < next,
+        State::Running { spoke, heard, .. } => running_task(
             now.saturating_sub(spoke),
             now.saturating_sub(heard),
         ),
@@ -362,11 +361,11 @@ fn next_task(acked: u64, now: u64, state: State) -> Task
     }
 }
 
-/// The same of a connection on which an acknowledgement is due or not, by how long ago something was written and heard.
-fn running_task(due: bool, written: u64, heard: u64) -> Task
-    ensures { result ≡ (if due && nat_le 15000 heard then Task.End else (if nat_le 5000 written then Task.Note else Task.Rest)) }
+/// The same of a connection, by how long ago something was written and heard.
+fn running_task(written: u64, heard: u64) -> Task
+    ensures { result ≡ (if nat_le 15000 heard then Task.End else (if nat_le 5000 written then Task.Note else Task.Rest)) }
 {
-    if due && ACKNOWLEDGEMENT_WAIT <= heard {
+    if ACKNOWLEDGEMENT_WAIT <= heard {
         Task::End
     } else if SILENCE <= written {
         Task::Note
