@@ -1,4 +1,5 @@
 pub mod Held
 pub mod Rows
 pub mod Findings
+pub mod Copies
 pub mod Inner

@@ -5,6 +5,7 @@ ghost use Rattle.std.specs.List.Sorted.{IsStrictlyIncreasing};
 ghost use Rattle.cmh_model3.specs.Lists.{IsAscending, in_list, is_nonempty, set_at, with_each, without, without_all};
 ghost use Rattle.cmh_model3.specs.State.{counts, passes};
 ghost use Rattle.cmh_waits3.specs.Held.{ended, is_member, nothing_held, row_in, since_of, state_of, waits_of};
+ghost use Rattle.cmh_waits3.specs.Copies.{FitsSite};
 ghost use Rattle.cmh_waits3.specs.Rows.{since_in, targets_of};
 ghost use Rattle.cmh_waits3.specs.Inner.Away.{IsAway};
 ghost use Rattle.cmh_waits3.specs.Inner.Steps.{DoAllCount, has_place};
@@ -15,6 +16,7 @@ use crate::member_table::MemberTable;
 use crate::place_set::PlaceSet;
 use crate::summary::Summary;
 use crate::wait_list::WaitList;
+use crate::wait_row::WaitRow;
 use crate::youngest::Youngest;
 use cmh_model3::{ProcId, Stamp};
 use std::alloc::{AllocError, Global};
@@ -211,18 +213,55 @@ impl SiteWaits {
         }
     }
 
-    /// Another record of the same waits.
-    pub fn copy(&self, alloc: Global) -> Result<Self, AllocError>
-        ensures { IfOk result (λ other. other ≡ self.now) }
+    /// Whether the process still waits for some process once its waits for these have ended.
+    pub fn stays_blocked(&self, asker: ProcId, targets: &[ProcId]) -> bool
+        ensures { result ≡ is_nonempty (without_all (waits_of self.now asker) targets.now) }
     {
-        Ok(SiteWaits {
-            members: self.members.copy(alloc)?,
-            rows: WaitList::copy_all(alloc, &self.rows)?,
-            away: WaitList::copy_all(alloc, &self.away)?,
-            summaries: self.summaries.to_vec(alloc)?,
-            leaving: self.leaving,
-            youngest: self.youngest,
+        self.waits_of(asker)
+            .iter()
+            .any(|wait| !targets.contains(&wait.target))
+    }
+
+    /// A copy of what is kept of the waits of a process.
+    pub fn row_copy(&self, alloc: Global, asker: ProcId) -> Result<WaitRow, AllocError>
+        requires member { is_member self.now asker ≡ true }
+        ensures waits { IfOk result (λ row. targets_of row.waits ≡ waits_of self.now asker) }
+        ensures since { IfOk result (λ row. (k : ℕ) → since_in row.waits k ≡ since_of self.now asker k) }
+        ensures fits { IfOk result (FitsSite (is_member self.now)) }
+    {
+        let _ = self.members.as_slice();
+        let Some(place) = self.members.place_of(asker) else {
+            unreachable!();
+        };
+        Ok(WaitRow {
+            waits: self.rows[place].copy(alloc)?,
+            away: self.away[place].copy(alloc)?,
+            summary: self.summaries[place],
         })
+    }
+
+    /// From now on the process waits as the copy says, which was made at this site. It takes no memory.
+    pub fn put_row(&mut self, asker: ProcId, row: WaitRow)
+        requires member { is_member self.old asker ≡ true }
+        requires fits { FitsSite (is_member self.old) row }
+        ensures members { self.new.members ≡ self.old.members }
+        ensures waits { waits_of self.new ≡ set_at (waits_of self.old) asker (targets_of row.waits) }
+        ensures since { since_of self.new ≡ set_at (since_of self.old) asker (since_in row.waits) }
+    {
+        let _ = self.members.as_slice();
+        let Some(place) = self.members.place_of(asker) else {
+            unreachable!();
+        };
+        let WaitRow {
+            waits,
+            away,
+            summary,
+        } = row;
+        self.leaving = self.leaving.with_if(place, !away.as_slice().is_empty());
+        self.youngest = self.youngest.with(summary.latest, asker);
+        self.summaries[place] = summary;
+        self.rows[place] = waits;
+        self.away[place] = away;
     }
 
     /// The place of a process of the site: how many of its processes stand before it.
