@@ -4,3 +4,4 @@ pub mod Looks
 pub mod Marks
 pub mod Leading
 pub mod Processes
+pub mod SecondHalves
