@@ -134,13 +134,13 @@ module _ (c : Controller) (rows : Rows) where
   waits_row_back : (j : ℕ) (ks : List ℕ) (w : State) → HoldsWaits c j ks rows → IsWoken j ks w → rows_back home s rows w ≡ m
   waits_row_back j ks w holds woken =
       let left = without_all (m.waits j) ks in
-      let waits : set_at w.waits j (targets_of holds.row.waits) ≡ m.waits =
-      ap (λ (f : ℕ → List ℕ). set_at f j (targets_of holds.row.waits)) woken.waits ∙ set_back m.waits j left (targets_of holds.row.waits) holds.waits in
+      let waits : set_at w.waits j (targets_of holds.row) ≡ m.waits =
+      ap (λ (f : ℕ → List ℕ). set_at f j (targets_of holds.row)) woken.waits ∙ set_back m.waits j left (targets_of holds.row) (ap targets_of holds.waits) in
       subst (λ (r : Rows). rows_back home s r w ≡ m) (sym holds.are)
       (state_is _ m waits
-      (ap (λ (f : ℕ → ℕ → ℕ). set_at f j (since_in holds.row.waits)) woken.stamped ∙ set_back m.since j woken.since (since_in holds.row.waits) (fun_ext holds.since))
+      (ap (λ (f : ℕ → ℕ → ℕ). set_at f j (since_in holds.row)) woken.stamped ∙ set_back m.since j woken.since (since_in holds.row) (ap since_in holds.waits))
       woken.leaving
-      (owed_waits home s c.kept.waits c.kept.owed (set_at w.waits j (targets_of holds.row.waits)) w.owed waits woken.owed)
+      (owed_waits home s c.kept.waits c.kept.owed (set_at w.waits j (targets_of holds.row)) w.owed waits woken.owed)
       (forgotten_marks m.marks w.marks j left holds.forgotten woken.marks (of_marks holds.forgotten holds.forgets))
       (forgotten_flags m.declared w.declared j left holds.forgotten woken.declared (of_flags holds.forgotten holds.forgets))
       refl woken.stamp)

@@ -10,7 +10,7 @@ use Rattle.cmh_model3.specs.Rules.{Accepts, declared_after}
 use Rattle.cmh_waits3.specs.Held.{Held, since_of, waits_of}
 use Rattle.cmh_controller3.specs.declared.outcome.Declaration.{Declaration}
 use Rattle.cmh_controller3.specs.declared.prepared.Before.{Before}
-use Rattle.cmh_controller3.specs.WaysBack.{StandsBetween}
+use Rattle.cmh_controller3.specs.Inner.Between.{StandsBetween}
 use Rattle.cmh_controller3.specs.declared.mark_row.Mark.{Mark}
 use Rattle.cmh_controller3.specs.Controller.{Controller, Kept, home_of, state_kept, state_of}
 use Rattle.cmh_controller3.specs.Inner.Kept.{IsKept}

@@ -10,9 +10,10 @@ use Rattle.cmh_model3.specs.Rules.{Accepts, Sends, after, targets_away}
 use Rattle.cmh_model3.specs.State.{State}
 use Rattle.cmh_topology3.specs.Topology.{Topology, site_of}
 use Rattle.cmh_controller3.specs.Controller.{Controller, home_of, state_of}
+use Rattle.cmh_controller3.specs.Inner.Between.{StandsBetween}
 use Rattle.cmh_controller3.specs.Inner.SecondHalves.{CanEnd, PutsBack, ended_state}
 use Rattle.cmh_controller3.specs.Steps.{Prepares, Remembers, prepared_state, process_in}
-use Rattle.cmh_controller3.specs.WaysBack.{FitsRows, IsAfter, LeadsBack, StandsBetween, rows_back}
+use Rattle.cmh_controller3.specs.WaysBack.{FitsRows, IsAfter, LeadsBack, rows_back}
 use Rattle.cmh_controller3.specs.declared.prepared.Before.{Before}
 use Rattle.cmh_controller3.specs.declared.prepared.Prepared.{Prepared}
 use Rattle.cmh_controller3.specs.declared.way_back.WayBack.{WayBack}

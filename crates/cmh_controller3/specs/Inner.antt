@@ -5,3 +5,4 @@ pub mod Marks
 pub mod Leading
 pub mod Processes
 pub mod SecondHalves
+pub mod Between

@@ -6,27 +6,24 @@ use Rattle.cmh_model3.specs.Laws.{JournalFacts}
 use Rattle.cmh_model3.specs.Lists.{in_list, set_at}
 use Rattle.cmh_model3.specs.Rules.{Sends, after}
 use Rattle.cmh_model3.specs.State.{State}
-use Rattle.cmh_waits3.specs.Copies.{FitsSite}
 use Rattle.cmh_waits3.specs.Rows.{since_in, targets_of}
-use Rattle.cmh_waits3.specs.declared.wait_row.WaitRow.{WaitRow}
+use Rattle.cmh_waits3.specs.declared.wait.Wait.{Wait}
 use Rattle.cmh_controller3.specs.Controller.{Controller, home_of, state_of}
 use Rattle.cmh_controller3.specs.Steps.{CanTake, Remembers, prepared_state, process_in}
 use Rattle.cmh_controller3.specs.Tables.{stamp_in}
-use Rattle.cmh_controller3.specs.declared.outcome.Declaration.{Declaration}
-use Rattle.cmh_controller3.specs.declared.prepared.Before.{Before}
 use Rattle.cmh_controller3.specs.declared.rows.Forgotten.{Forgotten}
 use Rattle.cmh_controller3.specs.declared.rows.Rows.{Rows}
 use Rattle.cmh_controller3.specs.declared.way_back.WayBack.{WayBack}
 
 -- ---- a state in which the rows of a process are put back
 
-abbrev pub waits_back : (ℕ → List ℕ) → ℕ → Option WaitRow → ℕ → List ℕ
+abbrev pub waits_back : (ℕ → List ℕ) → ℕ → Option (List Wait) → ℕ → List ℕ
 waits_back f p None = f
-waits_back f p (Some row) = set_at f p (targets_of row.waits)
+waits_back f p (Some row) = set_at f p (targets_of row)
 
-abbrev pub since_back : (ℕ → ℕ → ℕ) → ℕ → Option WaitRow → ℕ → ℕ → ℕ
+abbrev pub since_back : (ℕ → ℕ → ℕ) → ℕ → Option (List Wait) → ℕ → ℕ → ℕ
 since_back f p None = f
-since_back f p (Some row) = set_at f p (since_in row.waits)
+since_back f p (Some row) = set_at f p (since_in row)
 
 abbrev pub pairs_back : (ℕ → ℕ → Bool) → ℕ → Option (List ℕ) → ℕ → ℕ → Bool
 pairs_back f p None = f
@@ -58,23 +55,13 @@ rows_back home s rows w = record {
 
 -- the rows are of a process of the site, and whom it owes a reply are known processes of other sites
 pub record FitsRows (home : ℕ → ℕ) (s : ℕ) (rows : Rows) : Type 0 where
-  pub waits : IfSome rows.waits (λ row. (home rows.process ≡ s) × FitsSite (λ p. home p == s) row)
+  pub waits : IfSome rows.waits (λ row. home rows.process ≡ s)
   pub forgotten : IfSome rows.forgotten (λ forgotten. home rows.process ≡ s)
   pub leaving : IfSome rows.leaving (λ row. home rows.process ≡ s)
   pub owed : IfSome rows.owed (λ row. (home rows.process ≡ s)
       × ((j : ℕ) → in_list row j ≡ true → (home j ≢ 0) × (home j ≢ s)))
 
 -- ---- from after a step to before it
-
--- The controller stands between the halves of a step. What it takes to go back from there is remembered.
-pub record StandsBetween (old : Controller) (event : Event) (kept : Before) (declared : Option Declaration) (new : Controller) : Type 0 where
-  pub accepted : CanTake old event
-  pub sends : (sent : List (ℕ × Message)) × Sends (home_of old) old.site (state_of old) event sent (process_in declared)
-  pub topology : new.topology ≡ old.topology
-  pub site : new.site ≡ old.site
-  pub state : state_of new ≡ prepared_state (home_of old) old.site (state_of old) event (process_in declared)
-  pub facts : JournalFacts (home_of old) old.site (state_of old)
-  pub before : Remembers (state_of old) event kept
 
 -- the controller stands where an event has led at which this process was declared
 pub record IsAfter (old : Controller) (event : Event) (declared : Option ℕ) (new : Controller) : Type 0 where

@@ -2,7 +2,6 @@
 
 ghost use Rattle.std.specs.Prelude.{◌≡◌, ◌<◌, true, length, IfOk, IfSome};
 ghost use Rattle.cmh_model3.specs.Laws.{JournalFacts};
-ghost use Rattle.cmh_waits3.specs.Copies.{FitsSite};
 ghost use Rattle.cmh_waits3.specs.Held.{is_member, since_of, waits_of};
 ghost use Rattle.cmh_controller3.specs.Controller.{home_of, state_of};
 ghost use Rattle.cmh_controller3.specs.Inner.SecondHalves.{CanEnd, HoldsClock, HoldsLeaving, HoldsOwed, HoldsWaits, PutsBack};
@@ -176,7 +175,7 @@ impl Controller {
 
 /// Puts the waits of a process back, if they were changed.
 fn put_waits(waits: &mut SiteWaits, process: ProcId, row: Option<WaitRow>)
-    requires { IfSome row (λ row. (is_member waits.old process ≡ true) × FitsSite (is_member waits.old) row) }
+    requires { IfSome row (λ row. is_member waits.old process ≡ true) }
     ensures members { waits.new.members ≡ waits.old.members }
     ensures waits { waits_of waits.new ≡ waits_back (waits_of waits.old) process row }
     ensures since { since_of waits.new ≡ since_back (since_of waits.old) process row }

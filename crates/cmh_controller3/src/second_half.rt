@@ -6,7 +6,7 @@ ghost use Rattle.cmh_controller3.specs.Controller as spec;
 ghost use Rattle.cmh_controller3.specs.Controller.{home_of, state_of};
 ghost use Rattle.cmh_controller3.specs.Inner.Leading.{Leads};
 ghost use Rattle.cmh_controller3.specs.Steps.{CanTake, IsBackAt};
-ghost use Rattle.cmh_controller3.specs.WaysBack.{StandsBetween};
+ghost use Rattle.cmh_controller3.specs.Inner.Between.{StandsBetween};
 ghost use Rattle.cmh_controller3.specs.declared.outcome.Declaration as outcome;
 
 use crate::changes::{forget, later, undeclare};

@@ -1,9 +1,7 @@
 -- Ascending lists of numbers.
-use Rattle.std.proofs.Common.{◌≡◌, ℕ, suc, zero, ◌+◌, ◌<◌, Bool, true, false, ◌||◌, ◌==◌, List, [], ◌∷◌, length, get_or, slice_index, take, refl, sym, ap, ◌∙◌, subst, inl, inr, arith, true≢false}
+use Rattle.std.proofs.Common.{◌≡◌, ℕ, suc, zero, ◌<◌, Bool, true, false, ◌||◌, ◌==◌, List, [], ◌∷◌, length, get_or, take, refl, sym, ap, ◌∙◌, inl, inr, arith, true≢false}
 use Rattle.std.specs.List.{AllByRecursion}
-use Rattle.std.specs.List.Sorted.{IsStrictlyIncreasing}
 use Rattle.std.proofs.lemmas.Bool.{eq-eqb, ne_eqb, cases_eq}
-use Rattle.std.proofs.lemmas.List.Kept.{AllPairs-from_increasing}
 use Rattle.cmh_model3.specs.Lists.{IsAscending, in_list}
 use Rattle.cmh_model3.proofs.Counts.{not_after}
 
@@ -76,18 +74,3 @@ not_before (x ∷ xs) (suc i) up inside =
     at_above x [] i above inside = absurd (omega (arith, inside))
     at_above x (y ∷ ys) zero above inside = above.0
     at_above x (y ∷ ys) (suc i) above inside = at_above x ys i above.1 (omega (arith, inside))
-
--- and so are two that rise
-increasing_tail : (x : ℕ) (xs : List ℕ) → IsStrictlyIncreasing (x ∷ xs) → IsStrictlyIncreasing xs
-increasing_tail x xs up = λ k h. let e : suc k + 1 ≡ suc (k + 1) = omega arith in subst (λ m. slice_index xs k < slice_index (x ∷ xs) m) e (up (suc k) (omega arith))
-
-increasing_ascends : (xs : List ℕ) → IsStrictlyIncreasing xs → IsAscending xs
-increasing_ascends [] up = tt
-increasing_ascends (x ∷ xs) up = (above xs (λ j below. AllPairs-from_increasing (x ∷ xs) up 0 (suc j) 0 (omega arith) (omega (arith, below))), increasing_ascends xs (increasing_tail x xs up))
-  where
-    above : (ys : List ℕ) → ((j : ℕ) → j < length ys → x < get_or ys j 0) → AllByRecursion (λ y. x < y) ys
-    above [] h = tt
-    above (y ∷ ys) h = (h 0 (omega arith), above ys (λ j below. h (suc j) (omega (arith, below))))
-
-pub same_increasing : (xs ys : List ℕ) → IsStrictlyIncreasing xs → IsStrictlyIncreasing ys → ((k : ℕ) → in_list xs k ≡ in_list ys k) → xs ≡ ys
-same_increasing xs ys a b same = same_ascending xs ys (increasing_ascends xs a) (increasing_ascends ys b) same

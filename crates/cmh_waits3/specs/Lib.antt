@@ -1,5 +1,4 @@
 pub mod Held
 pub mod Rows
 pub mod Findings
-pub mod Copies
 pub mod Inner

@@ -5,7 +5,6 @@ ghost use Rattle.std.specs.List.Sorted.{IsStrictlyIncreasing};
 ghost use Rattle.cmh_model3.specs.Lists.{IsAscending, in_list, is_nonempty, set_at, with_each, without, without_all};
 ghost use Rattle.cmh_model3.specs.State.{counts, passes};
 ghost use Rattle.cmh_waits3.specs.Held.{ended, is_member, nothing_held, row_in, since_of, state_of, waits_of};
-ghost use Rattle.cmh_waits3.specs.Copies.{FitsSite};
 ghost use Rattle.cmh_waits3.specs.Rows.{since_in, targets_of};
 ghost use Rattle.cmh_waits3.specs.Inner.Away.{IsAway};
 ghost use Rattle.cmh_waits3.specs.Inner.Steps.{DoAllCount, has_place};
@@ -222,41 +221,32 @@ impl SiteWaits {
             .any(|wait| !targets.contains(&wait.target))
     }
 
-    /// A copy of what is kept of the waits of a process.
+    /// A copy of the waits of a process.
     pub fn row_copy(&self, alloc: Global, asker: ProcId) -> Result<WaitRow, AllocError>
-        requires member { is_member self.now asker ≡ true }
-        ensures waits { IfOk result (λ row. targets_of row.waits ≡ waits_of self.now asker) }
-        ensures since { IfOk result (λ row. (k : ℕ) → since_in row.waits k ≡ since_of self.now asker k) }
-        ensures fits { IfOk result (FitsSite (is_member self.now)) }
+        requires { is_member self.now asker ≡ true }
+        ensures { IfOk result (λ row. row ≡ row_in self.now.members self.now.rows asker) }
     {
-        let _ = self.members.as_slice();
         let Some(place) = self.members.place_of(asker) else {
             unreachable!();
         };
-        Ok(WaitRow {
-            waits: self.rows[place].copy(alloc)?,
-            away: self.away[place].copy(alloc)?,
-            summary: self.summaries[place],
-        })
+        WaitRow::of(alloc, &self.rows[place])
     }
 
-    /// From now on the process waits as the copy says, which was made at this site. It takes no memory.
+    /// From now on the process waits as the copy says. It takes no memory.
     pub fn put_row(&mut self, asker: ProcId, row: WaitRow)
-        requires member { is_member self.old asker ≡ true }
-        requires fits { FitsSite (is_member self.old) row }
+        requires { is_member self.old asker ≡ true }
         ensures members { self.new.members ≡ self.old.members }
-        ensures waits { waits_of self.new ≡ set_at (waits_of self.old) asker (targets_of row.waits) }
-        ensures since { since_of self.new ≡ set_at (since_of self.old) asker (since_in row.waits) }
+        ensures waits { waits_of self.new ≡ set_at (waits_of self.old) asker (targets_of row) }
+        ensures since { since_of self.new ≡ set_at (since_of self.old) asker (since_in row) }
     {
-        let _ = self.members.as_slice();
+        let members = self.members.as_slice();
         let Some(place) = self.members.place_of(asker) else {
             unreachable!();
         };
-        let WaitRow {
-            waits,
-            away,
-            summary,
-        } = row;
+        let WaitRow { waits, spare } = row;
+        let mut away = spare;
+        away.remove_all(members);
+        let summary = Summary::of_waits(&self.members, waits.as_slice());
         self.leaving = self.leaving.with_if(place, !away.as_slice().is_empty());
         self.youngest = self.youngest.with(summary.latest, asker);
         self.summaries[place] = summary;

@@ -6,9 +6,8 @@ use Rattle.cmh_model3.specs.declared.frame.Frame.TheVariants.{Request, Reply as 
 use Rattle.cmh_model3.specs.Lists.{in_list, is_nonempty, without_all}
 use Rattle.cmh_model3.specs.Rules.{after, targets_away}
 use Rattle.cmh_model3.specs.State.{State}
-use Rattle.cmh_waits3.specs.Held.{since_of, waits_of}
-use Rattle.cmh_waits3.specs.Rows.{since_in, targets_of}
-use Rattle.cmh_waits3.specs.declared.wait_row.WaitRow.{WaitRow}
+use Rattle.cmh_waits3.specs.Held.{row_in, waits_of}
+use Rattle.cmh_waits3.specs.declared.wait.Wait.{Wait}
 use Rattle.cmh_controller3.specs.Controller.{Controller, home_of, state_of}
 use Rattle.cmh_controller3.specs.Steps.{CanTake}
 use Rattle.cmh_controller3.specs.Tables.{flags_of, marks_of, pairs_of, stamp_in}
@@ -49,7 +48,7 @@ pub record PutsBack (c : Controller) (event : Event) (rows : Rows) : Type 0 wher
 
 -- its waits, and what it forgets where none is left without those for these
 pub record HoldsWaits (c : Controller) (j : ℕ) (ks : List ℕ) (rows : Rows) : Type 0 where
-  pub row : WaitRow
+  pub row : List Wait
   pub forgotten : Option Forgotten
   pub are : rows ≡ record {
     process = j;
@@ -60,8 +59,7 @@ pub record HoldsWaits (c : Controller) (j : ℕ) (ks : List ℕ) (rows : Rows) :
     owed = None;
   }
   pub fits : FitsRows (home_of c) c.site rows
-  pub waits : targets_of row.waits ≡ waits_of c.kept.waits j
-  pub since : (k : ℕ) → since_in row.waits k ≡ since_of c.kept.waits j k
+  pub waits : row ≡ row_in c.kept.waits.members c.kept.waits.rows j
   pub forgets : MatchOption forgotten (is_nonempty (without_all (waits_of c.kept.waits j) ks) ≡ true)
       (λ f. ((i : ℕ) → stamp_in f.marks i ≡ marks_of c.kept.marks j i) × (f.declared ≡ flags_of c.kept.declared j))
 

@@ -5,7 +5,7 @@ use Rattle.cmh_model3.specs.declared.event.Event.TheVariants.{Ask}
 use Rattle.cmh_model3.specs.Lists.{set_at}
 use Rattle.cmh_waits3.specs.Held.{Held}
 use Rattle.cmh_controller3.specs.Controller.{Controller}
-use Rattle.cmh_controller3.specs.WaysBack.{StandsBetween}
+use Rattle.cmh_controller3.specs.Inner.Between.{StandsBetween}
 use Rattle.cmh_controller3.specs.Tables.{flags_of, stamps_of}
 use Rattle.cmh_controller3.specs.contracts.controller.Controller.{the_view}
 use Rattle.cmh_controller3.proofs.Halves.{here_too}

@@ -1,7 +1,7 @@
 use Rattle.std.proofs.Common.{subst}
 use Rattle.cmh_model3.specs.declared.event.Event.TheVariants.{Got}
 use Rattle.cmh_model3.specs.declared.frame.Frame.{Frame}
-use Rattle.cmh_controller3.specs.WaysBack.{StandsBetween}
+use Rattle.cmh_controller3.specs.Inner.Between.{StandsBetween}
 use Rattle.cmh_controller3.proofs.controller.Controller.forget_frame.Goals as goal
 
 pub returns-in-Probe : goal.returns-in-Probe

@@ -2,7 +2,7 @@ use Rattle.std.proofs.Common.{sym, subst}
 use Rattle.cmh_model3.specs.declared.event.Event.TheVariants.{Got}
 use Rattle.cmh_model3.specs.declared.frame.Frame.TheVariants.{Request}
 use Rattle.cmh_controller3.specs.Controller.{Controller}
-use Rattle.cmh_controller3.specs.WaysBack.{StandsBetween}
+use Rattle.cmh_controller3.specs.Inner.Between.{StandsBetween}
 use Rattle.cmh_controller3.specs.contracts.controller.Controller.{the_view}
 use Rattle.cmh_controller3.proofs.TakenBack.{request_back}
 use Rattle.cmh_controller3.proofs.controller.Controller.forget_request.Goals as goal

@@ -1,6 +1,6 @@
 use Rattle.std.proofs.Common.{subst}
 use Rattle.cmh_model3.specs.declared.event.Event.{Event}
-use Rattle.cmh_controller3.specs.WaysBack.{StandsBetween}
+use Rattle.cmh_controller3.specs.Inner.Between.{StandsBetween}
 use Rattle.cmh_controller3.proofs.controller.Controller.give_up.Goals as goal
 
 pub returns-in-Withdraw : goal.returns-in-Withdraw
