@@ -9,6 +9,7 @@ use Rattle.cmh_model3.specs.State.{State, waits_for, with_waits}
 use Rattle.cmh_model3.specs.Rules.{after, declared_after, probe_acts, targets_away, targets_here}
 use Rattle.cmh_model3.proofs.Counts.{and_no, in_minus, in_with, without_other, without_same}
 use Rattle.cmh_waits3.specs.Held.{Held, since_of, waits_of}
+use Rattle.cmh_controller3.specs.declared.mark_row.Mark.{Mark}
 use Rattle.cmh_controller3.specs.Controller.{Kept, owed_of, state_kept}
 use Rattle.cmh_controller3.specs.Tables.{flags_of, marks_of, pairs_of, stamps_of}
 
@@ -124,13 +125,13 @@ module _ (home : ℕ → ℕ) (s : ℕ) (v : Kept) where
       ∙ ap (λ z. finish (if z then marked else before) (max v.clock c)) (sym none)
 
   -- The waits of j are now these. Where there are none its marks and its declaration are forgotten.
-  pub record Woken (j : ℕ) (ks : List ℕ) (waits : Held) (marks : List (List ℕ)) (declared : List Bool) : Type 0 where
+  pub record Woken (j : ℕ) (ks : List ℕ) (waits : Held) (marks : List (List Mark)) (declared : List Bool) : Type 0 where
     pub set : waits_of waits ≡ set_at (waits_of v.waits) j ks
     pub stamped : since_of waits ≡ set_at (since_of v.waits) j (λ q. if in_list ks q then since_of v.waits j q else 0)
     pub marked : marks_of marks ≡ (if is_nonempty ks then marks_of v.marks else set_at (marks_of v.marks) j (λ i. 0))
     pub flagged : flags_of declared ≡ (if is_nonempty ks then flags_of v.declared else set_at (flags_of v.declared) j false)
 
-  pub woken : (j : ℕ) (ks : List ℕ) (waits : Held) (marks : List (List ℕ)) (declared : List Bool) (blocked : Bool)
+  pub woken : (j : ℕ) (ks : List ℕ) (waits : Held) (marks : List (List Mark)) (declared : List Bool) (blocked : Bool)
       → waits_of waits ≡ set_at (waits_of v.waits) j ks → since_of waits ≡ set_at (since_of v.waits) j (λ q. if in_list ks q then since_of v.waits j q else 0)
       → blocked ≡ is_nonempty (waits_of waits j)
       → marks_of marks ≡ (if blocked then marks_of v.marks else set_at (marks_of v.marks) j (λ i. 0))
@@ -148,7 +149,7 @@ module _ (home : ℕ → ℕ) (s : ℕ) (v : Kept) where
   none_other : (k j x y : ℕ) → y ≢ j → ((x == k) && (y == j)) ≡ false
   none_other k j x y n = ap (λ z. (x == k) && z) (ne_eqb y j n) ∙ and_no (x == k)
 
-  pub after_reply_here : (k j : ℕ) (waits : Held) (marks : List (List ℕ)) (declared : List Bool) → home j ≡ s → Woken j (without (waits_of v.waits j) k) waits marks declared
+  pub after_reply_here : (k j : ℕ) (waits : Held) (marks : List (List Mark)) (declared : List Bool) → home j ≡ s → Woken j (without (waits_of v.waits j) k) waits marks declared
       → state_kept home s (record v { waits = waits; marks = marks; declared = declared }) ≡ after home s before (Reply k j) None
   after_reply_here k j waits marks declared at w =
       let answered : State = record before { owed = set_pair before.owed k j false } in
@@ -168,7 +169,7 @@ module _ (home : ℕ → ℕ) (s : ℕ) (v : Kept) where
             ∙ sym (ap (λ z. not (z && (j == j)) && ((home x == s) && in_list (waits_of v.waits j) x)) (ne_eqb x k n))
       ]
 
-  pub after_got_reply : (a c k j : ℕ) (waits : Held) (marks : List (List ℕ)) (declared : List Bool) → home j ≡ s → home k ≢ s → waits_for before j k ≡ true
+  pub after_got_reply : (a c k j : ℕ) (waits : Held) (marks : List (List Mark)) (declared : List Bool) → home j ≡ s → home k ≢ s → waits_for before j k ≡ true
       → Woken j (without (waits_of v.waits j) k) waits marks declared
       → state_kept home s (record v { waits = waits; marks = marks; declared = declared; clock = max v.clock c }) ≡ after home s before (Got a c (Reply_frame k j)) None
   after_got_reply a c k j waits marks declared at far waited w =
@@ -185,7 +186,7 @@ module _ (home : ℕ → ℕ) (s : ℕ) (v : Kept) where
         | inr n ↦ ap (λ z. (home x == s) && z) (without_other (waits_of v.waits j) k x (λ e. n (sym e)))
       ]
 
-  pub after_withdraw : (j : ℕ) (ks : List ℕ) (waits : Held) (leaving marks : List (List ℕ)) (declared : List Bool) (row : List ℕ) → home j ≡ s
+  pub after_withdraw : (j : ℕ) (ks : List ℕ) (waits : Held) (leaving : List (List ℕ)) (marks : List (List Mark)) (declared : List Bool) (row : List ℕ) → home j ≡ s
       → ((k : ℕ) → in_list row k ≡ ((not (home k == s) && in_list ks k) || pairs_of v.leaving j k)) → pairs_of leaving ≡ set_at (pairs_of v.leaving) j (in_list row)
       → Woken j (without_all (waits_of v.waits j) ks) waits marks declared
       → state_kept home s (record v { waits = waits; leaving = leaving; marks = marks; declared = declared }) ≡ after home s before (Withdraw j ks) None
@@ -256,7 +257,7 @@ module _ (home : ℕ → ℕ) (s : ℕ) (v : Kept) where
       go true is owed = kept_is home s _ _ set since refl owed refl (is ∙ fun_ext (again true (flags_of v.declared))) refl stamped
       go false is owed = kept_is home s _ _ set since refl owed refl is refl stamped
 
-  pub after_probe : (a c i n j k : ℕ) (marks : List (List ℕ)) (declared : List Bool) (d : Option ℕ) → probe_acts before i n j k ≡ true
+  pub after_probe : (a c i n j k : ℕ) (marks : List (List Mark)) (declared : List Bool) (d : Option ℕ) → probe_acts before i n j k ≡ true
       → marks_of marks ≡ set_at (marks_of v.marks) k (set_at (marks_of v.marks k) i n) → flags_of declared ≡ declared_after (flags_of v.declared) d
       → state_kept home s (record v { marks = marks; declared = declared; clock = max v.clock c }) ≡ after home s before (Got a c (Probe i n j k)) d
   after_probe a c i n j k marks declared d acts put flags =

@@ -14,6 +14,7 @@ use Rattle.cmh_model3.proofs.Ascending.{each_ascends, without_all_ascends}
 use Rattle.cmh_model3.proofs.Counts.{and_no, in_minus, in_with}
 use Rattle.cmh_waits3.specs.Held.{Held, since_of, waits_of}
 use Rattle.cmh_waits3.proofs.Lists.{same_ascending}
+use Rattle.cmh_controller3.specs.declared.mark_row.Mark.{Mark}
 use Rattle.cmh_controller3.specs.Controller.{Kept, state_kept}
 use Rattle.cmh_controller3.specs.Inner.Kept.{HasRoom, IsKept}
 use Rattle.cmh_controller3.specs.Steps.{prepared_state}
@@ -38,13 +39,13 @@ back_kept home s v mid new kept facts is large askers = record {
 
 -- ---- a value that was set, and set back
 
-set_back : {X : Type 0} (f : ℕ → X) (a : ℕ) (x y : X) → y ≡ f a → set_at (set_at f a x) a y ≡ f
+pub set_back : {X : Type 0} (f : ℕ → X) (a : ℕ) (x y : X) → y ≡ f a → set_at (set_at f a x) a y ≡ f
 set_back f a x y is = fun_ext λ p. elim (cases_eq p a) [
   | inl e ↦ ap (λ z. if z then y else (if z then x else f p)) (eq-eqb p a e) ∙ is ∙ ap f (sym e)
   | inr n ↦ ap (λ z. if z then y else (if z then x else f p)) (ne_eqb p a n)
 ]
 
-set_same : {X : Type 0} (f : ℕ → X) (a : ℕ) (y : X) → y ≡ f a → set_at f a y ≡ f
+pub set_same : {X : Type 0} (f : ℕ → X) (a : ℕ) (y : X) → y ≡ f a → set_at f a y ≡ f
 set_same f a y is = fun_ext λ p. elim (cases_eq p a) [
   | inl e ↦ ap (λ z. if z then y else f p) (eq-eqb p a e) ∙ is ∙ ap f (sym e)
   | inr n ↦ ap (λ z. if z then y else f p) (ne_eqb p a n)
@@ -132,7 +133,7 @@ module _ (home : ℕ → ℕ) (s : ℕ) (v : State) (facts : JournalFacts home s
       (owed_set home s mid.waits mid.owed owed k j false away row ∙ ap (λ (w : State). set_pair w.owed k j false) is ∙ pair_back v.owed k j free)
       (ap (λ (w : State). w.marks) is) (ap (λ (w : State). w.declared) is) earlier (ap (λ (w : State). w.stamp) is)
 
-  pub back_probe : (a n i m j k : ℕ) (d : Option ℕ) (marks : List (List ℕ)) (declared : List Bool) (clock mark : ℕ) → state_kept home s mid ≡ after home s v (Got a n (Probe i m j k)) d
+  pub back_probe : (a n i m j k : ℕ) (d : Option ℕ) (marks : List (List Mark)) (declared : List Bool) (clock mark : ℕ) → state_kept home s mid ≡ after home s v (Got a n (Probe i m j k)) d
       → marks_of marks ≡ set_at (marks_of mid.marks) k (set_at (marks_of mid.marks k) i mark) → mark ≡ v.marks k i
       → (flags_of mid.declared ≡ declared_after v.declared d → flags_of declared ≡ v.declared) → clock ≡ v.clock
       → state_kept home s (record mid { marks = marks; declared = declared; clock = clock }) ≡ v

@@ -105,6 +105,10 @@ row_holds home s j ks rows left k = go (not (home k == s) && in_list ks k) (λ h
     go true h = h refl
     go false h = refl
 
+-- what holds of the site before holds of it there
+pub here_too : (old mid : Controller) → mid.topology ≡ old.topology → mid.site ≡ old.site → (P : (ℕ → ℕ) → ℕ → Type 0) → P (home_of old) old.site → P (home_of mid) mid.site
+here_too old mid topology site P h = subst (λ (x : ℕ). P (home_of mid) x) (sym site) (subst (λ (t : Topology). P (site_of t) old.site) (sym topology) h)
+
 module _ (old : Controller) (event : Event) (p : Prepared) (mid : Controller) (prepares : Prepares old event p mid) where
   abbrev who : Option ℕ
   who = process_in p.outcome.declared
@@ -118,10 +122,6 @@ module _ (old : Controller) (event : Event) (p : Prepared) (mid : Controller) (p
       let there = subst (λ (t : Topology). P (site_of t) old.site between) (sym prepares.topology) h in
       let here = subst (λ (x : ℕ). P (home_of mid) x between) (sym prepares.site) there in
       subst (λ (v : State). P (home_of mid) mid.site v) (sym prepares.state) here
-
-  -- and what holds of the state before and of the site holds there
-  pub of_old : (P : (ℕ → ℕ) → ℕ → Type 0) → P (home_of old) old.site → P (home_of mid) mid.site
-  of_old P h = subst (λ (x : ℕ). P (home_of mid) x) (sym prepares.site) (subst (λ (t : Topology). P (site_of t) old.site) (sym prepares.topology) h)
 
   pub carried : (new : Controller) → after (home_of old) old.site between event None ≡ after (home_of old) old.site (state_of old) event who → Leads mid event new → Steps old event p.outcome new
   carried new same leads = record {

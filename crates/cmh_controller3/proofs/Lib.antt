@@ -14,3 +14,6 @@ pub mod Listing
 pub mod Halves
 pub mod Back
 pub mod TakenBack
+pub mod RowsBack
+pub mod PutRows
+pub mod WaysBack

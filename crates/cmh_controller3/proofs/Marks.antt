@@ -1,237 +1,196 @@
--- The places of origins in a table of marks.
-use Rattle.std.proofs.Common.{◌≡◌, ◌≢◌, ℕ, ◌+◌, ◌<◌, ◌≤◌, ◌==◌, Bool, if◌then◌else◌, List, [], length, map, min, replicate, get_or, refl, sym, ap, ◌∙◌, subst, inl, inr, arith}
-use Rattle.std.proofs.Math.ListN.{set, get_or-map as get_or-map_at}
-use Rattle.std.proofs.Math.Path.{fun_ext}
-use Rattle.std.proofs.Math.Seq.{map-set_same}
-use Rattle.std.proofs.lemmas.Bool.{cases_eq, cases_lt, eq-eqb, ne_eqb}
-use Rattle.std.proofs.lemmas.List.{get_or-map, get_or_past, get_or-replicate, get_or-set_same, get_or-set_other, length-map, length-replicate, length-set, map-set}
-use Rattle.std.proofs.lemmas.List.Elements.{All-from_get_or}
-use Rattle.std.proofs.lemmas.List.Sums.{sum_by-le}
-use Rattle.cmh_model3.specs.Lists.{set_at}
-use Rattle.cmh_controller3.specs.Inner.Marks.{ArePlaced, by_origin, placed}
-use Rattle.cmh_controller3.specs.Tables.{marks_of}
-use Rattle.cmh_controller3.proofs.Tables.{marks_put}
+-- The marks of a process.
+use Rattle.std.proofs.Common.{◌≡◌, ℕ, zero, suc, ◌<◌, ◌≤◌, ◌==◌, false, if◌then◌else◌, List, [], ◌∷◌, ◌++◌, length, get_or, take, drop, Result, Ok, Err, IfOk, IfErr, refl, sym, ap, ◌∙◌, subst, inl, inr, arith}
+use Rattle.std.specs.List.{AllByRecursion, insert}
+use Rattle.std.specs.List.Sorted.{IsBinarySearchResult, IsNonDecreasingBy, IsSearchInRange}
+use Rattle.std.specs.Ordering.{nat_cmp, ordering_index}
+use Rattle.std.proofs.Math.ListN.{set}
+use Rattle.std.proofs.lemmas.Bool.{cases_eq, eq-eqb, ne_eqb}
+use Rattle.std.proofs.lemmas.Bool.Decides.{nat_tests}
+use Rattle.std.proofs.lemmas.Cmp.{ranked}
+use Rattle.std.proofs.lemmas.List.{take-append-drop}
+use Rattle.cmh_model3.specs.Lists.{IsAscending}
+use Rattle.cmh_controller3.specs.declared.mark_row.Mark.{Mark}
+use Rattle.cmh_controller3.specs.Inner.Marks.{IsPlaceFor, origins_of}
+use Rattle.cmh_controller3.specs.Tables.{stamp_in}
 
--- there are no more places than numbers
-pub placed_few : (places : List ℕ) → placed places ≤ length places
-placed_few places = let most = sum_by-le (λ p. min p 1) 1 places (All-from_get_or (λ p. min p 1 ≤ 1) places 0 (λ i below. omega arith)) in omega (arith, most)
+-- ---- where a binary search ends
 
--- ---- what is read
+abbrev no_mark : Mark
+no_mark = record { origin = 0; stamp = 0 }
 
-module _ (rows : List (List ℕ)) (places : List ℕ) (none : (k : ℕ) → get_or (get_or rows k []) 0 0 ≡ 0) where
-  -- the mark of an origin stands at its place
-  pub seen : (k i : ℕ) → marks_of (map (by_origin places) rows) k i ≡ get_or (get_or rows k []) (get_or places i 0) 0
-  seen k i = elim (cases_lt k (length rows)) [
-    | inl inside ↦
-        ap (λ (r : List ℕ). get_or r i 0) (get_or-map (by_origin places) rows k [] [] inside)
-        ∙ sym (ap (λ z. get_or (by_origin places (get_or rows k [])) i z) (none k))
-        ∙ get_or-map_at (λ p. get_or (get_or rows k []) p 0) places i 0
-    | inr past ↦
-        ap (λ (r : List ℕ). get_or r i 0) (get_or_past (map (by_origin places) rows) k [] (subst (λ n. n ≤ k) (sym (length-map rows (by_origin places))) past))
-        ∙ get_or_past [] i 0 (omega arith) ∙ sym (get_or_past [] (get_or places i 0) 0 (omega arith))
-        ∙ sym (ap (λ (r : List ℕ). get_or r (get_or places i 0) 0) (get_or_past rows k [] past))
-  ]
+abbrev origin_at : List Mark → ℕ → Mark → ℕ
+origin_at ms i d = (get_or ms i d).origin
 
--- ---- a row that shows the same marks
+above_at : (x : ℕ) (ms : List Mark) (i : ℕ) (d : Mark) → AllByRecursion (λ k. x < k) (origins_of ms) → i < length ms → x < origin_at ms i d
+above_at x [] i d above inside = absurd (omega (arith, inside))
+above_at x (m ∷ ms) zero d above inside = above.0
+above_at x (m ∷ ms) (suc i) d above inside = above_at x ms i d above.1 (omega (arith, inside))
 
-module _ (rows : List (List ℕ)) (places : List ℕ) (count k : ℕ) (row : List ℕ) (same : (p : ℕ) → get_or row p 0 ≡ get_or (get_or rows k []) p 0) where
-  pub same_marks : map (by_origin places) (set rows k row) ≡ map (by_origin places) rows
-  same_marks = map-set_same (by_origin places) rows k row [] (ap (λ (f : ℕ → ℕ). map f places) (fun_ext same))
+rising : (ms : List Mark) (i j : ℕ) (d : Mark) → IsAscending (origins_of ms) → i < j → j < length ms → origin_at ms i d < origin_at ms j d
+rising [] i j d up less inside = absurd (omega (arith, inside))
+rising (m ∷ ms) i zero d up less inside = absurd (omega (arith, less))
+rising (m ∷ ms) zero (suc j) d up less inside = above_at m.origin ms j d up.0 (omega (arith, inside))
+rising (m ∷ ms) (suc i) (suc j) d up less inside = rising ms i j d up.1 (omega (arith, less)) (omega (arith, inside))
 
-  same_at : k < length rows → (a p : ℕ) → get_or (get_or (set rows k row) a []) p 0 ≡ get_or (get_or rows a []) p 0
-  same_at inside a p = elim (cases_eq a k) [
-    | inl e ↦ ap (λ b. get_or (get_or (set rows k row) b []) p 0) e ∙ ap (λ (r : List ℕ). get_or r p 0) (get_or-set_same rows k row [] inside)
-        ∙ same p ∙ sym (ap (λ b. get_or (get_or rows b []) p 0) e)
-    | inr n ↦ ap (λ (r : List ℕ). get_or r p 0) (get_or-set_other rows k a row [] n)
-  ]
+all_before : (t : ℕ) (ms : List Mark) (i : ℕ) → i ≤ length ms → ((j : ℕ) → j < i → origin_at ms j no_mark < t) → AllByRecursion (λ k. k < t) (origins_of (take i ms))
+all_before t ms zero within each = tt
+all_before t [] (suc i) within each = absurd (omega (arith, within))
+all_before t (m ∷ ms) (suc i) within each = (each 0 (omega arith), all_before t ms i (omega (arith, within)) (λ j l. each (suc j) (omega (arith, l))))
 
-  pub same_placed : k < length rows → ArePlaced rows places count → ArePlaced (set rows k row) places count
-  same_placed inside are = record {
-    counted = are.counted;
-    few = are.few;
-    within = are.within;
-    apart = are.apart;
-    none = λ a. same_at inside a 0 ∙ are.none a;
-    free = λ a p past. same_at inside a p ∙ are.free a p past;
+all_after : (t : ℕ) (ms : List Mark) (i : ℕ) → i ≤ length ms → ((j : ℕ) → i ≤ j → j < length ms → t < origin_at ms j no_mark) → AllByRecursion (λ k. t < k) (origins_of (drop i ms))
+all_after t [] zero within each = tt
+all_after t [] (suc i) within each = absurd (omega (arith, within))
+all_after t (m ∷ ms) zero within each = (each 0 (omega arith) (omega arith), all_after t ms zero (omega arith) (λ j low l. each (suc j) (omega arith) (omega (arith, l))))
+all_after t (m ∷ ms) (suc i) within each = all_after t ms i (omega (arith, within)) (λ j low l. each (suc j) (omega (arith, low)) (omega (arith, l)))
+
+origins_at : (ms : List Mark) (i : ℕ) → i < length ms → get_or (origins_of ms) i 0 ≡ origin_at ms i no_mark
+origins_at [] i inside = absurd (omega (arith, inside))
+origins_at (m ∷ ms) zero inside = refl
+origins_at (m ∷ ms) (suc i) inside = origins_at ms i (omega (arith, inside))
+
+-- a place of the origin, or the place where it would stand
+pub record IsSearched (ms : List Mark) (t : ℕ) (r : Result ℕ ℕ) : Type 0 where
+  pub at : IfOk r (λ i. (i < length ms) × (get_or (origins_of ms) i 0 ≡ t))
+  pub before : IfErr r (λ i. (i ≤ length ms) × IsPlaceFor t i ms)
+
+module _ (ms : List Mark) (up : IsAscending (origins_of ms)) (t : ℕ) where
+  rises : IsNonDecreasingBy (λ m. ordering_index (nat_cmp m.origin t)) ms
+  rises i j d le inside =
+      let keys_rise : origin_at ms i d ≤ origin_at ms j d = elim (cases_eq i j) [
+        | inl e ↦ let same = ap (λ k. origin_at ms k d) e in omega (arith, same)
+        | inr n ↦ let less = rising ms i j d up (omega (arith, n, le)) inside in omega (arith, less)
+      ] in
+      grind (arith, nat_tests)
+
+  pub searched : (r : Result ℕ ℕ) → IsSearchInRange r (length ms) → IsBinarySearchResult (λ m. nat_cmp m.origin t) ms r → IsSearched ms t r
+  searched (Ok i) within equal = record { at = (within, origins_at ms i within ∙ ranked _ t _ (sym (equal no_mark))); before = tt }
+  searched (Err i) within parted = record {
+    at = tt;
+    before = (
+      within,
+      record {
+        below = all_before t ms i within (λ j l. ranked _ t _ (sym ((parted rises).0 j no_mark (omega arith) l)));
+        above = all_after t ms i within (λ j low l. ranked _ t _ (sym ((parted rises).1 j no_mark low l)));
+      },
+    );
   }
+
+-- ---- what stands there
+
+-- what is not the first
+first_other : (x : ℕ) (ms : List Mark) (i t : ℕ) → AllByRecursion (λ k. x < k) (origins_of ms) → i < length ms → get_or (origins_of ms) i 0 ≡ t → (x == t) ≡ false
+first_other x ms i t above inside is =
+    let low = above_at x ms i no_mark above inside in
+    let same = origins_at ms i inside in
+    ne_eqb x t (λ e. absurd (omega (arith, low, same, is, e)))
+
+pub found : (ms : List Mark) (i t : ℕ) (d : Mark) → IsAscending (origins_of ms) → i < length ms → get_or (origins_of ms) i 0 ≡ t → stamp_in ms t ≡ (get_or ms i d).stamp
+found [] i t d up inside is = absurd (omega (arith, inside))
+found (m ∷ ms) zero t d up inside is = ap (λ b. if b then m.stamp else stamp_in ms t) (eq-eqb m.origin t is)
+found (m ∷ ms) (suc i) t d up inside is =
+    let within : i < length ms = omega (arith, inside) in
+    ap (λ b. if b then m.stamp else stamp_in ms t) (first_other m.origin ms i t up.0 within is) ∙ found ms i t d up.1 within is
+
+pub not_found : (ms : List Mark) (i t : ℕ) → IsPlaceFor t i ms → stamp_in ms t ≡ 0
+not_found ms i t place = go ms i place.below place.above
+  where
+    all_above : (ms : List Mark) → AllByRecursion (λ k. t < k) (origins_of ms) → stamp_in ms t ≡ 0
+    all_above [] above = refl
+    all_above (m ∷ ms) above =
+        let low = above.0 in
+        ap (λ b. if b then m.stamp else stamp_in ms t) (ne_eqb m.origin t (λ e. absurd (omega (arith, e, low)))) ∙ all_above ms above.1
+
+    go : (ms : List Mark) (i : ℕ) → AllByRecursion (λ k. k < t) (origins_of (take i ms)) → AllByRecursion (λ k. t < k) (origins_of (drop i ms)) → stamp_in ms t ≡ 0
+    go [] i below above = refl
+    go (m ∷ ms) zero below above = all_above (m ∷ ms) above
+    go (m ∷ ms) (suc i) below above =
+        let low = below.0 in
+        ap (λ b. if b then m.stamp else stamp_in ms t) (ne_eqb m.origin t (λ e. absurd (omega (arith, e, low)))) ∙ go ms i below.1 above
 
 -- ---- a mark that is put
 
-module _ (rows : List (List ℕ)) (places : List ℕ) (count k i stamp : ℕ) (row : List ℕ) (inside : k < length rows) (are : ArePlaced rows places count)
-    (put : (p : ℕ) → get_or row p 0 ≡ (if p == get_or places i 0 then stamp else get_or (get_or rows k []) p 0)) (some : get_or places i 0 ≡ 0 → stamp ≡ 0) where
-  at_place : (p : ℕ) → p ≡ get_or places i 0 → get_or row p 0 ≡ stamp
-  at_place p e = put p ∙ ap (λ z. if z then stamp else get_or (get_or rows k []) p 0) (eq-eqb p (get_or places i 0) e)
+-- the marks are as before, but for that of the origin
+pub record IsMarked (t s : ℕ) (old new : List Mark) : Type 0 where
+  pub ascending : IsAscending (origins_of new)
+  pub stamps : (q : ℕ) → stamp_in new q ≡ if q == t then s else stamp_in old q
 
-  elsewhere : (p : ℕ) → p ≢ get_or places i 0 → get_or row p 0 ≡ get_or (get_or rows k []) p 0
-  elsewhere p n = put p ∙ ap (λ z. if z then stamp else get_or (get_or rows k []) p 0) (ne_eqb p (get_or places i 0) n)
+module _ (t s : ℕ) where
+  abbrev one : Mark
+  one = record { origin = t; stamp = s }
 
-  row_none : get_or row 0 0 ≡ 0
-  row_none = elim (cases_eq 0 (get_or places i 0)) [
-    | inl e ↦ at_place 0 e ∙ some (sym e)
-    | inr n ↦ elsewhere 0 n ∙ are.none k
+  -- a first one
+  first_is : (ms old : List Mark) (q : ℕ) → ((q == t) ≡ false → stamp_in ms q ≡ stamp_in old q) → stamp_in (one ∷ ms) q ≡ if q == t then s else stamp_in old q
+  first_is ms old q same = elim (cases_eq t q) [
+    | inl e ↦ ap (λ b. if b then s else stamp_in ms q) (eq-eqb t q e) ∙ sym (ap (λ b. if b then s else stamp_in old q) (eq-eqb q t (sym e)))
+    | inr n ↦
+        let other = ne_eqb q t (λ e. n (sym e)) in
+        ap (λ b. if b then s else stamp_in ms q) (ne_eqb t q n) ∙ same other ∙ sym (ap (λ b. if b then s else stamp_in old q) other)
   ]
 
-  row_free : (p : ℕ) → count < p → get_or row p 0 ≡ 0
-  row_free p past = elsewhere p (λ e. omega (arith, are.within i, past, e)) ∙ are.free k p past
-
-  rows_at : (p : ℕ) → get_or row p 0 ≡ 0 → ((a : ℕ) → get_or (get_or rows a []) p 0 ≡ 0) → (a : ℕ) → get_or (get_or (set rows k row) a []) p 0 ≡ 0
-  rows_at p here there a = elim (cases_eq a k) [
-    | inl e ↦ ap (λ b. get_or (get_or (set rows k row) b []) p 0) e ∙ ap (λ (r : List ℕ). get_or r p 0) (get_or-set_same rows k row [] inside) ∙ here
-    | inr n ↦ ap (λ (r : List ℕ). get_or r p 0) (get_or-set_other rows k a row [] n) ∙ there a
+  -- a first one of another origin
+  first_other_is : (m : Mark) (new old : List Mark) (q : ℕ) → (m.origin == t) ≡ false → stamp_in new q ≡ (if q == t then s else stamp_in old q)
+      → stamp_in (m ∷ new) q ≡ if q == t then s else stamp_in (m ∷ old) q
+  first_other_is m new old q other more = elim (cases_eq m.origin q) [
+    | inl e ↦
+        ap (λ b. if b then m.stamp else stamp_in new q) (eq-eqb m.origin q e)
+        ∙ sym (ap (λ b. if b then s else stamp_in (m ∷ old) q) (ap (λ x. x == t) (sym e) ∙ other) ∙ ap (λ b. if b then m.stamp else stamp_in old q) (eq-eqb m.origin q e))
+    | inr n ↦
+        ap (λ b. if b then m.stamp else stamp_in new q) (ne_eqb m.origin q n) ∙ more
+        ∙ sym (ap (λ z. if q == t then s else z) (ap (λ b. if b then m.stamp else stamp_in old q) (ne_eqb m.origin q n)))
   ]
 
-  pub put_placed : ArePlaced (set rows k row) places count
-  put_placed = record {
-    counted = are.counted;
-    few = are.few;
-    within = are.within;
-    apart = are.apart;
-    none = rows_at 0 row_none are.none;
-    free = λ a p past. rows_at p (row_free p past) (λ b. are.free b p past) a;
-  }
+  -- in the place of that of the origin
+  origins_set : (ms : List Mark) (i : ℕ) → i < length ms → get_or (origins_of ms) i 0 ≡ t → origins_of (set ms i one) ≡ origins_of ms
+  origins_set [] i inside is = absurd (omega (arith, inside))
+  origins_set (m ∷ ms) zero inside is = ap (λ x. x ∷ origins_of ms) (sym is)
+  origins_set (m ∷ ms) (suc i) inside is = ap (λ xs. m.origin ∷ xs) (origins_set ms i (omega (arith, inside)) is)
 
-  -- as a row of the numbers of origins
-  shown : (q : ℕ) → get_or (by_origin places row) q 0 ≡ (if q == i then stamp else get_or (get_or (map (by_origin places) rows) k []) q 0)
-  shown q =
-      sym (ap (λ z. get_or (by_origin places row) q z) row_none) ∙ get_or-map_at (λ p. get_or row p 0) places q 0
-      ∙ elim (cases_eq q i) [
-        | inl e ↦ at_place (get_or places q 0) (ap (λ n. get_or places n 0) e) ∙ sym (ap (λ z. if z then stamp else marks_of (map (by_origin places) rows) k q) (eq-eqb q i e))
-        | inr n ↦ other n ∙ sym (seen rows places are.none k q) ∙ sym (ap (λ z. if z then stamp else marks_of (map (by_origin places) rows) k q) (ne_eqb q i n))
-      ]
+  stamps_set : (ms : List Mark) (i q : ℕ) → IsAscending (origins_of ms) → i < length ms → get_or (origins_of ms) i 0 ≡ t → stamp_in (set ms i one) q ≡ if q == t then s else stamp_in ms q
+  stamps_set [] i q up inside is = absurd (omega (arith, inside))
+  stamps_set (m ∷ ms) zero q up inside is =
+      first_is ms (m ∷ ms) q (λ other. sym (ap (λ b. if b then m.stamp else stamp_in ms q) (ap (λ x. x == q) is ∙ turned q other)))
     where
-      other : q ≢ i → get_or row (get_or places q 0) 0 ≡ get_or (get_or rows k []) (get_or places q 0) 0
-      other n = elim (cases_eq (get_or places q 0) (get_or places i 0)) [
-        | inl e ↦ elim (cases_eq (get_or places q 0) 0) [
-          | inl zero ↦ ap (λ p. get_or row p 0) zero ∙ row_none ∙ sym (are.none k) ∙ sym (ap (λ p. get_or (get_or rows k []) p 0) zero)
-          | inr place ↦ absurd (n (are.apart q i place e))
-        ]
-        | inr away ↦ elsewhere (get_or places q 0) away
+      turned : (q : ℕ) → (q == t) ≡ false → (t == q) ≡ false
+      turned q other = elim (cases_eq t q) [
+        | inl e ↦ ap (λ x. x == q) e ∙ ap (λ x. q == x) (sym e) ∙ other
+        | inr n ↦ ne_eqb t q n
       ]
+  stamps_set (m ∷ ms) (suc i) q up inside is =
+      let within : i < length ms = omega (arith, inside) in
+      first_other_is m (set ms i one) ms q (first_other m.origin ms i t up.0 within is) (stamps_set ms i q up.1 within is)
 
-  pub put_marks : marks_of (map (by_origin places) (set rows k row)) ≡ set_at (marks_of (map (by_origin places) rows)) k (set_at (marks_of (map (by_origin places) rows) k) i stamp)
-  put_marks =
-      ap marks_of (map-set (by_origin places) rows k row)
-      ∙ marks_put (map (by_origin places) rows) k (by_origin places row) (subst (λ n. k < n) (sym (length-map rows (by_origin places))) inside) i stamp shown
-
--- ---- an origin that gets a place
-
-module _ (rows : List (List ℕ)) (places more : List ℕ) (count i : ℕ) (are : ArePlaced rows places count) (was : get_or places i 0 ≡ 0)
-    (at : (q : ℕ) → get_or more q 0 ≡ (if q == i then count + 1 else get_or places q 0)) where
-  its : (q : ℕ) → q ≡ i → get_or more q 0 ≡ count + 1
-  its q e = at q ∙ ap (λ z. if z then count + 1 else get_or places q 0) (eq-eqb q i e)
-
-  others : (q : ℕ) → q ≢ i → get_or more q 0 ≡ get_or places q 0
-  others q n = at q ∙ ap (λ z. if z then count + 1 else get_or places q 0) (ne_eqb q i n)
-
-  pub more_marks : marks_of (map (by_origin more) rows) ≡ marks_of (map (by_origin places) rows)
-  more_marks = fun_ext λ k. fun_ext λ q. seen rows more are.none k q ∙ same k q ∙ sym (seen rows places are.none k q)
-    where
-      same : (k q : ℕ) → get_or (get_or rows k []) (get_or more q 0) 0 ≡ get_or (get_or rows k []) (get_or places q 0) 0
-      same k q = elim (cases_eq q i) [
-        | inl e ↦ ap (λ p. get_or (get_or rows k []) p 0) (its q e) ∙ are.free k (count + 1) (omega arith)
-            ∙ sym (ap (λ p. get_or (get_or rows k []) p 0) (ap (λ n. get_or places n 0) e ∙ was) ∙ are.none k)
-        | inr n ↦ ap (λ p. get_or (get_or rows k []) p 0) (others q n)
-      ]
-
-  pub more_placed : placed more ≡ placed places + 1 → length more ≤ 10000 → ArePlaced rows more (count + 1)
-  more_placed counted few = record {
-    counted = counted ∙ ap (λ n. n + 1) are.counted;
-    few = few;
-    within = λ q. elim (cases_eq q i) [
-      | inl e ↦ omega (arith, its q e)
-      | inr n ↦ omega (arith, others q n, are.within q)
-    ];
-    apart = λ q r some e. elim (cases_eq q i) [
-      | inl here ↦ elim (cases_eq r i) [
-        | inl too ↦ here ∙ sym too
-        | inr n ↦ absurd (omega (arith, its q here, others r n, are.within r, e))
-      ]
-      | inr n ↦ elim (cases_eq r i) [
-        | inl too ↦ absurd (omega (arith, its r too, others q n, are.within q, e))
-        | inr m ↦ are.apart q r (λ none. some (others q n ∙ none)) (sym (others q n) ∙ e ∙ others r m)
-      ]
-    ];
-    none = are.none;
-    free = λ k p past. are.free k p (omega (arith, past));
+  pub set_at_place : (ms : List Mark) (i : ℕ) → IsAscending (origins_of ms) → i < length ms → get_or (origins_of ms) i 0 ≡ t → IsMarked t s ms (set ms i one)
+  set_at_place ms i up inside is = record {
+    ascending = subst (λ (xs : List ℕ). IsAscending xs) (sym (origins_set ms i inside is)) up;
+    stamps = λ q. stamps_set ms i q up inside is;
   }
 
--- ---- the first mark of an origin
+  -- at its place
+  all_put : (x : ℕ) (xs ys : List Mark) → x < t → AllByRecursion (λ k. x < k) (origins_of (xs ++ ys)) → AllByRecursion (λ k. x < k) (origins_of (xs ++ one ∷ ys))
+  all_put x [] ys low h = (low, h)
+  all_put x (m ∷ xs) ys low h = (h.0, all_put x xs ys low h.1)
 
-module _ (rows : List (List ℕ)) (places more : List ℕ) (count k i stamp : ℕ) (wide row : List ℕ) (inside : k < length rows) (are : ArePlaced rows places count) (was : get_or places i 0 ≡ 0)
-    (same : (p : ℕ) → get_or wide p 0 ≡ get_or (get_or rows k []) p 0) (at : (q : ℕ) → get_or more q 0 ≡ (if q == i then count + 1 else get_or places q 0))
-    (one : placed more ≡ placed places + 1) (few : length more ≤ 10000) (put : (p : ℕ) → get_or row p 0 ≡ (if p == count + 1 then stamp else get_or wide p 0)) where
-  still : ArePlaced (set rows k wide) places count
-  still = same_placed rows places count k wide same inside are
+  put_ascends : (xs ys : List Mark) → IsAscending (origins_of (xs ++ ys)) → AllByRecursion (λ k. k < t) (origins_of xs) → AllByRecursion (λ k. t < k) (origins_of ys) → IsAscending (origins_of (xs ++ one ∷ ys))
+  put_ascends [] ys up below above = (above, up)
+  put_ascends (x ∷ xs) ys up below above = (all_put x.origin xs ys below.0 up.0, put_ascends xs ys up.1 below.1 above)
 
-  then_placed : ArePlaced (set rows k wide) more (count + 1)
-  then_placed = more_placed (set rows k wide) places more count i still was at one few
+  put_stamps : (xs ys : List Mark) → AllByRecursion (λ k. k < t) (origins_of xs) → (q : ℕ) → stamp_in (xs ++ one ∷ ys) q ≡ if q == t then s else stamp_in (xs ++ ys) q
+  put_stamps [] ys below q = first_is ys ys q (λ other. refl)
+  put_stamps (x ∷ xs) ys below q =
+      let low = below.0 in
+      first_other_is x (xs ++ one ∷ ys) (xs ++ ys) q (ne_eqb x.origin t (λ e. absurd (omega (arith, e, low)))) (put_stamps xs ys below.1 q)
 
-  there : k < length (set rows k wide)
-  there = subst (λ n. k < n) (sym (length-set rows k wide)) inside
+  pub insert_at_place : (ms : List Mark) (i : ℕ) → IsAscending (origins_of ms) → IsPlaceFor t i ms → IsMarked t s ms (insert ms i one)
+  insert_at_place ms i up place =
+      let whole = take-append-drop i ms in
+      subst (λ (old : List Mark). IsMarked t s old (take i ms ++ one ∷ drop i ms)) whole (record {
+        ascending = put_ascends (take i ms) (drop i ms) (subst (λ (xs : List Mark). IsAscending (origins_of xs)) (sym whole) up) place.below place.above;
+        stamps = put_stamps (take i ms) (drop i ms) place.below;
+      })
 
-  its_place : get_or more i 0 ≡ count + 1
-  its_place = at i ∙ ap (λ z. if z then count + 1 else get_or places i 0) (eq-eqb i i refl)
-
-  put_there : (p : ℕ) → get_or row p 0 ≡ (if p == get_or more i 0 then stamp else get_or (get_or (set rows k wide) k []) p 0)
-  put_there p = put p ∙ ap (λ (r : List ℕ). if p == count + 1 then stamp else get_or r p 0) (sym (get_or-set_same rows k wide [] inside))
-      ∙ ap (λ n. if p == n then stamp else get_or (get_or (set rows k wide) k []) p 0) (sym its_place)
-
-  placed_some : get_or more i 0 ≡ 0 → stamp ≡ 0
-  placed_some none = absurd (omega (arith, its_place, none))
-
-  pub added_placed : ArePlaced (set (set rows k wide) k row) more (count + 1)
-  added_placed = put_placed (set rows k wide) more (count + 1) k i stamp row there then_placed put_there placed_some
-
-  pub added_marks : marks_of (map (by_origin more) (set (set rows k wide) k row)) ≡ set_at (marks_of (map (by_origin places) rows)) k (set_at (marks_of (map (by_origin places) rows) k) i stamp)
-  added_marks =
-      put_marks (set rows k wide) more (count + 1) k i stamp row there then_placed put_there placed_some
-      ∙ ap (λ (f : ℕ → ℕ → ℕ). set_at f k (set_at (f k) i stamp))
-      (more_marks (set rows k wide) places more count i still was at ∙ ap marks_of (same_marks rows places count k wide same))
-
--- ---- a row without marks
-
-module _ (rows : List (List ℕ)) (places : List ℕ) (count k : ℕ) (row : List ℕ) (inside : k < length rows) (are : ArePlaced rows places count) (empty : row ≡ []) where
-  empty_at : (p : ℕ) → get_or (get_or (set rows k row) k []) p 0 ≡ 0
-  empty_at p = ap (λ (r : List ℕ). get_or r p 0) (get_or-set_same rows k row [] inside ∙ empty) ∙ get_or_past [] p 0 (omega arith)
-
-  cleared_at : (p : ℕ) → ((a : ℕ) → get_or (get_or rows a []) p 0 ≡ 0) → (a : ℕ) → get_or (get_or (set rows k row) a []) p 0 ≡ 0
-  cleared_at p there a = elim (cases_eq a k) [
-    | inl e ↦ ap (λ b. get_or (get_or (set rows k row) b []) p 0) e ∙ empty_at p
-    | inr n ↦ ap (λ (r : List ℕ). get_or r p 0) (get_or-set_other rows k a row [] n) ∙ there a
-  ]
-
-  pub cleared_placed : ArePlaced (set rows k row) places count
-  cleared_placed = record {
-    counted = are.counted;
-    few = are.few;
-    within = are.within;
-    apart = are.apart;
-    none = cleared_at 0 are.none;
-    free = λ a p past. cleared_at p (λ b. are.free b p past) a;
-  }
-
-  pub cleared_marks : marks_of (map (by_origin places) (set rows k row)) ≡ set_at (marks_of (map (by_origin places) rows)) k (λ i. 0)
-  cleared_marks = fun_ext λ a. fun_ext λ q. seen (set rows k row) places (cleared_at 0 are.none) a q ∙ elim (cases_eq a k) [
-    | inl e ↦ ap (λ b. get_or (get_or (set rows k row) b []) (get_or places q 0) 0) e ∙ empty_at (get_or places q 0)
-        ∙ sym (ap (λ (z : Bool). (if z then (λ i. 0) else marks_of (map (by_origin places) rows) a) q) (eq-eqb a k e))
-    | inr n ↦ ap (λ (r : List ℕ). get_or r (get_or places q 0) 0) (get_or-set_other rows k a row [] n) ∙ sym (seen rows places are.none a q)
-        ∙ sym (ap (λ (z : Bool). (if z then (λ i. 0) else marks_of (map (by_origin places) rows) a) q) (ne_eqb a k n))
-  ]
-
--- ---- a table without marks
-
-abbrev pub no_rows : ℕ → List (List ℕ)
-no_rows room = replicate room []
-
-no_stamp : (p : ℕ) → get_or {A = ℕ} [] p 0 ≡ 0
-no_stamp p = get_or_past {X = ℕ} [] p 0 (omega arith)
-
-module _ (room : ℕ) where
-  none_at : (k p : ℕ) → get_or {A = ℕ} (get_or (no_rows room) k []) p 0 ≡ 0
-  none_at k p = ap (λ (r : List ℕ). get_or r p 0) (elim (cases_lt k room) [
-    | inl inside ↦ get_or-replicate {A = List ℕ} room k [] [] inside
-    | inr past ↦ get_or_past {X = List ℕ} (no_rows room) k [] (let l = length-replicate {A = List ℕ} room [] in omega (arith, l, past))
-  ]) ∙ no_stamp p
-
-  pub none_marks : marks_of (map (by_origin []) (no_rows room)) ≡ (λ k i. 0)
-  none_marks = fun_ext λ k. fun_ext λ i. seen (no_rows room) [] (λ a. none_at a 0) k i ∙ none_at k (get_or {A = ℕ} [] i 0)
+-- where it has no mark, none is put back
+pub none_back : (ms : List Mark) (i t s : ℕ) → IsPlaceFor t i ms → (stamp_in ms t ≡ 0 → s ≡ 0) → (q : ℕ) → stamp_in ms q ≡ if q == t then s else stamp_in ms q
+none_back ms i t s place some q = elim (cases_eq q t) [
+  | inl e ↦ let none = not_found ms i t place in ap (stamp_in ms) e ∙ none ∙ sym (some none) ∙ sym (ap (λ b. if b then s else stamp_in ms q) (eq-eqb q t e))
+  | inr n ↦ sym (ap (λ b. if b then s else stamp_in ms q) (ne_eqb q t n))
+]

@@ -14,6 +14,7 @@ use Rattle.cmh_model3.specs.Stops.{declared_at}
 use Rattle.cmh_waits3.specs.Held.{Held, since_of, waits_of}
 use Rattle.cmh_controller3.specs.declared.outcome.Declaration.{Declaration}
 use Rattle.cmh_controller3.specs.declared.outcome.Outcome.{Outcome}
+use Rattle.cmh_controller3.specs.declared.mark_row.Mark.{Mark}
 use Rattle.cmh_controller3.specs.Controller.{Controller, Kept, home_of, state_kept, state_of}
 use Rattle.cmh_controller3.specs.Inner.Kept.{IsKept}
 use Rattle.cmh_controller3.specs.Inner.Looks.{Sees}
@@ -123,7 +124,7 @@ module _ (c : Controller) (kept : IsKept (home_of c) c.site c.kept) where
       (record { members = refl; leaving = refl; owed = room; marks = refl; declared = refl; stamps = refl })
       (askers_less home c.site v.owed owed k j kept.askers row)
 
-  pub here_moves : (k j : ℕ) (waits : Held) (marks : List (List ℕ)) (declared : List Bool) (o : Outcome) → CanTake c (Reply k j) → home j ≡ c.site → o.sent ≡ [] → o.declared ≡ None
+  pub here_moves : (k j : ℕ) (waits : Held) (marks : List (List Mark)) (declared : List Bool) (o : Outcome) → CanTake c (Reply k j) → home j ≡ c.site → o.sent ≡ [] → o.declared ≡ None
       → Woken home c.site v j (without (waits_of v.waits j) k) waits marks declared
       → waits.members ≡ v.waits.members → length marks ≡ length v.marks → length declared ≡ length v.declared
       → Moves c (Reply k j) o (record v { waits = waits; marks = marks; declared = declared })
@@ -133,7 +134,7 @@ module _ (c : Controller) (kept : IsKept (home_of c) c.site c.kept) where
       (after_reply_here home c.site v k j waits marks declared here woken)
       (record { members = members; leaving = refl; owed = refl; marks = marks_room; declared = declared_room; stamps = refl }) kept.askers
 
-  pub got_reply_moves : (a n k j clock : ℕ) (waits : Held) (marks : List (List ℕ)) (declared : List Bool) (o : Outcome) → CanTake c (Got a n (Reply_frame k j)) → o.sent ≡ [] → o.declared ≡ None
+  pub got_reply_moves : (a n k j clock : ℕ) (waits : Held) (marks : List (List Mark)) (declared : List Bool) (o : Outcome) → CanTake c (Got a n (Reply_frame k j)) → o.sent ≡ [] → o.declared ≡ None
       → waits_for before j k ≡ true → Woken home c.site v j (without (waits_of v.waits j) k) waits marks declared
       → waits.members ≡ v.waits.members → length marks ≡ length v.marks → length declared ≡ length v.declared → clock ≡ max v.clock n
       → Moves c (Got a n (Reply_frame k j)) o (record v { waits = waits; marks = marks; declared = declared; clock = clock })
@@ -152,7 +153,7 @@ module _ (c : Controller) (kept : IsKept (home_of c) c.site c.kept) where
       (after_left home c.site v leaving a n k j not_waited row)
       (record { members = refl; leaving = room; owed = refl; marks = refl; declared = refl; stamps = refl }) kept.askers)
 
-  pub withdraw_moves : (j : ℕ) (ks : List ℕ) (waits : Held) (leaving marks : List (List ℕ)) (declared : List Bool) (row : List ℕ) (o : Outcome) → CanTake c (Withdraw j ks)
+  pub withdraw_moves : (j : ℕ) (ks : List ℕ) (waits : Held) (leaving : List (List ℕ)) (marks : List (List Mark)) (declared : List Bool) (row : List ℕ) (o : Outcome) → CanTake c (Withdraw j ks)
       → o.sent ≡ withdraws home c.site v.clock j ks → o.declared ≡ None
       → ((k : ℕ) → in_list row k ≡ ((not (home k == c.site) && in_list ks k) || pairs_of v.leaving j k)) → pairs_of leaving ≡ set_at (pairs_of v.leaving) j (in_list row) → length leaving ≡ length v.leaving
       → Woken home c.site v j (without_all (waits_of v.waits j) ks) waits marks declared
@@ -206,7 +207,7 @@ module _ (c : Controller) (kept : IsKept (home_of c) c.site c.kept) where
       go false h = refl
       go true h = fun_ext (λ q. same h q (q == i) refl)
 
-  pub probe_moves : (a n i m j k clock : ℕ) (sent : List (ℕ × Message)) (deadlocked new : Bool) (marks : List (List ℕ)) (declared : List Bool) (o : Outcome) → CanTake c (Got a n (Probe i m j k))
+  pub probe_moves : (a n i m j k clock : ℕ) (sent : List (ℕ × Message)) (deadlocked new : Bool) (marks : List (List Mark)) (declared : List Bool) (o : Outcome) → CanTake c (Got a n (Probe i m j k))
       → o.sent ≡ sent → o.declared ≡ declaration_of new i m → probe_acts before i m j k ≡ true → new ≡ (deadlocked && not (flags_of v.declared i))
       → Sees home c.site before (ReachesLocally home c.site before m i k i × (passes before m i i ≡ true)) clock i m k [] deadlocked sent
       → marks_of marks ≡ set_at (marks_of v.marks) k (set_at (marks_of v.marks k) i m) → flags_of declared ≡ (if deadlocked then set_at (flags_of v.declared) i true else flags_of v.declared)

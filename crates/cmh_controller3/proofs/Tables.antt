@@ -5,7 +5,8 @@ use Rattle.std.proofs.Math.Path.{fun_ext}
 use Rattle.std.proofs.lemmas.Bool.{cases_eq, eq-eqb, ne_eqb}
 use Rattle.std.proofs.lemmas.List.{get_or-set_same, get_or-set_other}
 use Rattle.cmh_model3.specs.Lists.{in_list, set_at, set_pair}
-use Rattle.cmh_controller3.specs.Tables.{marks_of, pairs_of}
+use Rattle.cmh_controller3.specs.declared.mark_row.Mark.{Mark}
+use Rattle.cmh_controller3.specs.Tables.{marks_of, pairs_of, stamp_in}
 
 module _ {X : Type 0} (rows : List X) (k : ℕ) (row none : X) (inside : k < length rows) where
   -- the row of k is another, and those of others are as before
@@ -63,14 +64,17 @@ module _ (rows : List (List ℕ)) (k : ℕ) (row : List ℕ) (inside : k < lengt
 
 -- ---- marks
 
-module _ (rows : List (List ℕ)) (k : ℕ) (row : List ℕ) (inside : k < length rows) where
-  marks_set : (a i : ℕ) → marks_of (set rows k row) a i ≡ (if a == k then get_or row i 0 else marks_of rows a i)
-  marks_set a i = ap (λ r. get_or r i 0) (row_set rows k row [] inside a) ∙ choose (λ r. get_or r i 0) (a == k) row (get_or rows a [])
+module _ (rows : List (List Mark)) (k : ℕ) (row : List Mark) (inside : k < length rows) where
+  marks_set : (a i : ℕ) → marks_of (set rows k row) a i ≡ (if a == k then stamp_in row i else marks_of rows a i)
+  marks_set a i = ap (λ (r : List Mark). stamp_in r i) (row_set rows k row [] inside a) ∙ choose (λ (r : List Mark). stamp_in r i) (a == k) row (get_or rows a [])
 
-  pub marks_put : (i n : ℕ) → ((q : ℕ) → get_or row q 0 ≡ (if q == i then n else get_or (get_or rows k []) q 0)) → marks_of (set rows k row) ≡ set_at (marks_of rows) k (set_at (marks_of rows k) i n)
+  pub marks_put : (i n : ℕ) → ((q : ℕ) → stamp_in row q ≡ (if q == i then n else stamp_in (get_or rows k []) q)) → marks_of (set rows k row) ≡ set_at (marks_of rows) k (set_at (marks_of rows k) i n)
   marks_put i n put = fun_ext λ a. fun_ext λ q. marks_set a q ∙ ap (λ x. if a == k then x else marks_of rows a q) (put q)
       ∙ sym (choose (λ (f : ℕ → ℕ). f q) (a == k) (set_at (marks_of rows k) i n) (marks_of rows a))
 
+  -- the row of k is another
+  pub marks_row : marks_of (set rows k row) ≡ set_at (marks_of rows) k (stamp_in row)
+  marks_row = fun_ext λ a. fun_ext λ q. marks_set a q ∙ sym (choose (λ (f : ℕ → ℕ). f q) (a == k) (stamp_in row) (marks_of rows a))
+
   pub marks_cleared : row ≡ [] → marks_of (set rows k row) ≡ set_at (marks_of rows) k (λ i. 0)
-  marks_cleared none = fun_ext λ a. fun_ext λ q. marks_set a q ∙ ap (λ r. if a == k then get_or r q 0 else marks_of rows a q) none
-      ∙ sym (choose (λ (f : ℕ → ℕ). f q) (a == k) (λ i. 0) (marks_of rows a))
+  marks_cleared none = marks_row ∙ ap (λ (r : List Mark). set_at (marks_of rows) k (stamp_in r)) none

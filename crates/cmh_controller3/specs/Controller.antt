@@ -4,6 +4,7 @@ use Rattle.cmh_model3.specs.Lists.{in_list}
 use Rattle.cmh_model3.specs.State.{State, empty_state}
 use Rattle.cmh_topology3.specs.Topology.{Topology, site_of}
 use Rattle.cmh_waits3.specs.Held.{Held, since_of, waits_of}
+use Rattle.cmh_controller3.specs.declared.mark_row.Mark.{Mark}
 use Rattle.cmh_controller3.specs.Tables.{flags_of, marks_of, pairs_of, stamps_of}
 
 -- What is kept of the processes of a site, as data; `state_of` says what it means. Of those that processes owe a reply
@@ -12,7 +13,7 @@ pub record Kept : Type 0 where
   pub waits : Held
   pub leaving : List (List ℕ)
   pub owed : List (List ℕ)
-  pub marks : List (List ℕ)
+  pub marks : List (List Mark)
   pub declared : List Bool
   pub stamps : List ℕ
   pub clock : ℕ

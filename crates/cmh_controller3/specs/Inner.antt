@@ -4,3 +4,5 @@ pub mod Looks
 pub mod Marks
 pub mod Leading
 pub mod Processes
+pub mod SecondHalves
+pub mod Between

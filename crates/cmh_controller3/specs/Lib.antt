@@ -2,5 +2,6 @@ pub mod Tables
 pub mod Controller
 pub mod Refusals
 pub mod Steps
+pub mod WaysBack
 pub mod Replays
 pub mod Inner

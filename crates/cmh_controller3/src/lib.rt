@@ -6,18 +6,22 @@
 
 mod changes;
 mod controller;
+mod mark_row;
 mod mark_table;
 mod outcome;
 mod pair_table;
 mod prepared;
 mod refusal;
 mod replayed;
+mod rows;
 mod second_half;
 mod sending;
 mod targets;
+mod way_back;
 
 pub use crate::controller::Controller;
 pub use crate::outcome::{Declaration, Outcome};
 pub use crate::prepared::Prepared;
 pub use crate::refusal::Refusal;
 pub use crate::replayed::{Replayed, replay};
+pub use crate::way_back::WayBack;

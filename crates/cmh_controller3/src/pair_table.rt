@@ -94,13 +94,4 @@ impl PairTable {
     {
         mem::replace(&mut self.rows[first.get() as usize], row)
     }
-
-    /// Another table of the same pairs.
-    pub fn copy(&self, alloc: Global) -> Result<Self, AllocError>
-        ensures { IfOk result (λ other. other ≡ self.now) }
-    {
-        Ok(PairTable {
-            rows: ProcList::copy_all(alloc, &self.rows)?,
-        })
-    }
 }

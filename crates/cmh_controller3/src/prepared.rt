@@ -1,10 +1,11 @@
 //! The first half of a step.
 
-ghost use Rattle.std.specs.Prelude.{◌≡◌};
+ghost use Rattle.std.specs.Prelude.{◌≡◌, IfOk};
 
 use crate::outcome::Outcome;
 use cmh_model3::Stamp;
 use cmh_waits::ProcList;
+use std::alloc::{AllocError, Global};
 
 /// A step that a controller has prepared: its outcome is known and nothing of it can fail any longer. It waits to be
 /// carried out or taken back.
@@ -43,5 +44,18 @@ impl Before {
             mark: Stamp::new(0),
             leaving,
         }
+    }
+
+    /// The same once more.
+    pub fn copy(&self, alloc: Global) -> Result<Before, AllocError>
+        ensures { IfOk result (λ other. other ≡ self.now) }
+    {
+        Ok(Before {
+            clock: self.clock,
+            stamp: self.stamp,
+            declared: self.declared,
+            mark: self.mark,
+            leaving: self.leaving.copy(alloc)?,
+        })
     }
 }

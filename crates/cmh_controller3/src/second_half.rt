@@ -1,15 +1,18 @@
 //! The second half of a step, and the way back from the first. Nothing here takes memory.
 
-ghost use Rattle.std.specs.Prelude.{ℕ, List, ◌≡◌, true};
+ghost use Rattle.std.specs.Prelude.{ℕ, List, Option, ◌≡◌, true};
 ghost use Rattle.cmh_model3.specs.Rules.{targets_away};
 ghost use Rattle.cmh_controller3.specs.Controller as spec;
 ghost use Rattle.cmh_controller3.specs.Controller.{home_of, state_of};
 ghost use Rattle.cmh_controller3.specs.Inner.Leading.{Leads};
-ghost use Rattle.cmh_controller3.specs.Steps.{CanTake, IsBackAt, Prepares, WasPrepared};
+ghost use Rattle.cmh_controller3.specs.Steps.{CanTake, IsBackAt};
+ghost use Rattle.cmh_controller3.specs.Inner.Between.{StandsBetween};
+ghost use Rattle.cmh_controller3.specs.declared.outcome.Declaration as outcome;
 
 use crate::changes::{forget, later, undeclare};
 use crate::controller::Controller;
-use crate::prepared::Prepared;
+use crate::outcome::Declaration;
+use crate::prepared::Before;
 use cmh_model3::{Event, Frame, ProcId, SiteId, Stamp};
 
 impl Controller {
@@ -71,15 +74,31 @@ impl Controller {
         self.clock = clock;
     }
 
-    // ---- the way back
+    // ---- the way back from the first half
 
-    /// Takes back an ask that was prepared.
-    pub(crate) fn forget_ask(&mut self, asker: ProcId, targets: &[ProcId], prepared: &Prepared)
-        requires { WasPrepared (Event.Ask asker targets.now) prepared.now self.old }
-        ensures { (old : spec.Controller) → Prepares old (Event.Ask asker targets.now) prepared.now self.old
+    /// Goes back from between the halves of the step of an event, with what stood where the first half wrote, and whom it
+    /// declared.
+    pub(crate) fn give_up(&mut self, event: &Event, before: Before, declared: Option<Declaration>)
+        requires { (old : spec.Controller) × StandsBetween old event.now before declared self.old }
+        ensures { (old : spec.Controller) → StandsBetween old event.now before declared self.old
             → IsBackAt old self.new }
     {
-        let before = &prepared.before;
+        match event {
+            Event::Ask { asker, targets } => self.forget_ask(*asker, targets.as_slice(), &before),
+            Event::Reply { .. } => {}
+            Event::Withdraw { asker, .. } => self.forget_withdraw(*asker, before),
+            Event::Got { frame, .. } => self.forget_frame(frame, &before, declared),
+            Event::Turn { .. } => {}
+        }
+    }
+
+    /// Takes back an ask that was prepared.
+    fn forget_ask(&mut self, asker: ProcId, targets: &[ProcId], before: &Before)
+        requires { (old : spec.Controller) × (d : Option outcome.Declaration)
+            × StandsBetween old (Event.Ask asker targets.now) before.now d self.old }
+        ensures { (old : spec.Controller) (d : Option outcome.Declaration)
+            → StandsBetween old (Event.Ask asker targets.now) before.now d self.old → IsBackAt old self.new }
+    {
         self.waits.end_all(asker, targets);
         self.clock = before.clock;
         self.stamps[asker.get() as usize] = before.stamp;
@@ -87,46 +106,58 @@ impl Controller {
     }
 
     /// Takes back what came of a frame.
-    pub(crate) fn forget_frame(&mut self, frame: &Frame, prepared: &Prepared)
-        requires { (a n : ℕ) × WasPrepared (Event.Got a n frame.now) prepared.now self.old }
+    fn forget_frame(&mut self, frame: &Frame, before: &Before, declared: Option<Declaration>)
+        requires { (old : spec.Controller) × (a n : ℕ)
+            × StandsBetween old (Event.Got a n frame.now) before.now declared self.old }
         ensures { (old : spec.Controller) (a n : ℕ)
-            → Prepares old (Event.Got a n frame.now) prepared.now self.old → IsBackAt old self.new }
+            → StandsBetween old (Event.Got a n frame.now) before.now declared self.old → IsBackAt old self.new }
     {
         match frame {
-            Frame::Request { asker, holder } => self.forget_request(*asker, *holder, prepared),
+            Frame::Request { asker, holder } => self.forget_request(*asker, *holder, before),
             Frame::Reply { .. } => {}
             Frame::Withdraw { .. } => {}
-            Frame::Probe { origin, to, .. } => self.forget_probe(*origin, *to, prepared),
+            Frame::Probe { origin, to, .. } => self.forget_probe(*origin, *to, before, declared),
         }
     }
 
     /// Takes back that a process is leaving those that it gives up.
-    pub(crate) fn forget_withdraw(&mut self, asker: ProcId, prepared: Prepared)
-        requires { (targets : List ℕ) × WasPrepared (Event.Withdraw asker targets) prepared self.old }
-        ensures { (old : spec.Controller) (targets : List ℕ)
-            → Prepares old (Event.Withdraw asker targets) prepared self.old → IsBackAt old self.new }
+    fn forget_withdraw(&mut self, asker: ProcId, before: Before)
+        requires { (old : spec.Controller) × (targets : List ℕ) × (d : Option outcome.Declaration)
+            × StandsBetween old (Event.Withdraw asker targets) before d self.old }
+        ensures { (old : spec.Controller) (targets : List ℕ) (d : Option outcome.Declaration)
+            → StandsBetween old (Event.Withdraw asker targets) before d self.old → IsBackAt old self.new }
     {
-        self.leaving.put_row(asker, prepared.before.leaving);
+        self.leaving.put_row(asker, before.leaving);
     }
 
     /// Takes back that a process owes a reply to one of another site.
-    fn forget_request(&mut self, asker: ProcId, holder: ProcId, prepared: &Prepared)
-        requires { (a n : ℕ) × WasPrepared (Event.Got a n (Frame.Request asker holder)) prepared.now self.old }
-        ensures { (old : spec.Controller) (a n : ℕ)
-            → Prepares old (Event.Got a n (Frame.Request asker holder)) prepared.now self.old → IsBackAt old self.new }
+    fn forget_request(&mut self, asker: ProcId, holder: ProcId, before: &Before)
+        requires { (old : spec.Controller) × (a n : ℕ) × (d : Option outcome.Declaration)
+            × StandsBetween old (Event.Got a n (Frame.Request asker holder)) before.now d self.old }
+        ensures { (old : spec.Controller) (a n : ℕ) (d : Option outcome.Declaration)
+            → StandsBetween old (Event.Got a n (Frame.Request asker holder)) before.now d self.old
+            → IsBackAt old self.new }
     {
         self.owed.remove(holder, asker);
-        self.clock = prepared.before.clock;
+        self.clock = before.clock;
     }
 
     /// Takes back the mark that a probe set, and what it declared.
-    fn forget_probe(&mut self, origin: ProcId, at: ProcId, prepared: &Prepared)
-        requires { (a n m j : ℕ) × WasPrepared (Event.Got a n (Frame.Probe origin m j at)) prepared.now self.old }
+    fn forget_probe(
+        &mut self,
+        origin: ProcId,
+        at: ProcId,
+        before: &Before,
+        declared: Option<Declaration>,
+    )
+        requires { (old : spec.Controller) × (a n m j : ℕ)
+            × StandsBetween old (Event.Got a n (Frame.Probe origin m j at)) before.now declared self.old }
         ensures { (old : spec.Controller) (a n m j : ℕ)
-            → Prepares old (Event.Got a n (Frame.Probe origin m j at)) prepared.now self.old → IsBackAt old self.new }
+            → StandsBetween old (Event.Got a n (Frame.Probe origin m j at)) before.now declared self.old
+            → IsBackAt old self.new }
     {
-        self.marks.put_back(at, origin, prepared.before.mark);
-        undeclare(&mut self.declared, prepared.outcome.declared);
-        self.clock = prepared.before.clock;
+        self.marks.put_back(at, origin, before.mark);
+        undeclare(&mut self.declared, declared);
+        self.clock = before.clock;
     }
 }

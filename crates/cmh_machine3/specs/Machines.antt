@@ -1,18 +1,19 @@
 -- The machine of a site.
-use Rattle.std.specs.Prelude.{◌≡◌, ◌≢◌, ℕ, Option, Some, IfSome}
-use Rattle.cmh_controller3.specs.Controller.{Controller, IsNew, home_of, state_of}
-use Rattle.cmh_controller3.specs.Steps.{Steps}
-use Rattle.cmh_controller3.specs.declared.outcome.Outcome.{Outcome}
+use Rattle.std.specs.Prelude.{◌≡◌, ◌≢◌}
+use Rattle.cmh_controller3.specs.Controller.{Controller, home_of, state_of}
+use Rattle.cmh_controller3.specs.Steps.{Prepares}
+use Rattle.cmh_controller3.specs.WaysBack.{LeadsBack}
+use Rattle.cmh_controller3.specs.declared.prepared.Prepared.{Prepared}
+use Rattle.cmh_controller3.specs.declared.way_back.WayBack.{WayBack}
 use Rattle.cmh_model3.specs.Entries.{Entry}
 use Rattle.cmh_model3.specs.declared.event.Event.{Event}
 use Rattle.cmh_segment3.specs.Steps.{HasEntry}
 use Rattle.cmh_segment3.specs.WholeEntries.{IsWithin}
 use Rattle.cmh_machine3.specs.Sites.{Site}
 
--- where it stands, and, between the halves of a step, where the step leads
+-- its controller
 pub record Machine : Type 0 where
   pub controller : Controller
-  pub next : Option Controller
 
 -- the site of a controller, in the state in which it stands
 abbrev pub site_at : Controller → Site
@@ -26,16 +27,17 @@ pub record FitsSegments (c : Controller) : Type 0 where
   pub site : c.site ≢ 0
   pub within : IsWithin (home_of c) c.site (state_of c)
 
--- it stands where it stood, and the step of an event with this outcome leads to the next one
-pub record IsPrepared (site : Site) (event : Event) (outcome : Outcome) (m : Machine) : Type 0 where
-  pub next : Controller
-  pub next_is : m.next ≡ Some next
-  pub stands : site_at m.controller ≡ site
-  pub steps : Steps m.controller event outcome next
+-- its controller stood at the site, and has prepared the event
+pub record IsPrepared (site : Site) (event : Event) (half : Prepared) (m : Machine) : Type 0 where
+  pub old : Controller
+  pub stood : site_at old ≡ site
+  pub prepares : Prepares old event half m.controller
   pub has_entry : HasEntry event
-  pub fits : FitsSegments m.controller
+  pub fits : FitsSegments old
 
--- a controller as it was before the step
-pub record WasBefore (site : Site) (entry : Entry) (way : Controller) : Type 0 where
-  pub stood : site_at way ≡ site
-  pub fits : FitsSegments way
+-- there is a way back to a controller that stood at the site, from after the step of the entry
+pub record WasBefore (site : Site) (entry : Entry) (way : WayBack) : Type 0 where
+  pub old : Controller
+  pub stood : site_at old ≡ site
+  pub leads : LeadsBack old entry.event entry.declared way
+  pub fits : FitsSegments old

@@ -1,5 +1,5 @@
 -- The rules of edition 3 for the sites of a world, each with its topology and its number.
-use Rattle.std.specs.Prelude.{◌≡◌, ℕ, List, Option, Some}
+use Rattle.std.specs.Prelude.{◌≡◌, ℕ, List, Some}
 use Rattle.cmh_machine.specs.Meaning.{MachineMeaning}
 use Rattle.cmh_machine.specs.Transitions.{Transitions}
 use Rattle.cmh_model3.specs.Entries.{Entry}

@@ -12,3 +12,4 @@ pub mod Edges
 pub mod Findings
 pub mod Summaries
 pub mod NoYounger
+pub mod Copies

@@ -149,6 +149,13 @@ module _ (ms : List ℕ) (rows : List (List Wait)) (up : IsStrictlyIncreasing ms
       go true = refl
       go false = refl
 
+  pub since_put : (new : List Wait) → since_of (held ms (set rows i new)) ≡ set_at (since_of (held ms rows)) p (since_in new)
+  since_put new = fun_ext (λ q. fun_ext (λ k. since_set new q k ∙ go (q == p) q k))
+    where
+      go : (b : Bool) (q k : ℕ) → (if b then since_in new k else since_of (held ms rows) q k) ≡ (if b then since_in new else since_of (held ms rows) q) k
+      go true q k = refl
+      go false q k = refl
+
   -- what isn't waited for is not in the row
   pub apart_there : (ks : List ℕ) → ((k : ℕ) → in_list ks k ≡ true → in_list (waits_of (held ms rows) p) k ≡ false) → (k : ℕ) → in_list ks k ≡ true → in_list (targets_of old) k ≡ false
   apart_there ks new k h = ap (λ (r : List Wait). in_list (targets_of r) k) (sym old_is) ∙ new k h

@@ -209,7 +209,7 @@ since_none (w ∷ ws) k none = go (w.target == k) none (since_none ws k)
     go true h more = absurd (true≢false h)
     go false h more = more h
 
-since_kept : (ks : List ℕ) (ws : List Wait) (k : ℕ) → in_list ks k ≡ false → since_in (others_than ks ws) k ≡ since_in ws k
+pub since_kept : (ks : List ℕ) (ws : List Wait) (k : ℕ) → in_list ks k ≡ false → since_in (others_than ks ws) k ≡ since_in ws k
 since_kept ks [] k kept = refl
 since_kept ks (w ∷ ws) k kept = elim (cases_Bool (in_list ks w.target)) [
   | inl e ↦

@@ -9,8 +9,10 @@ mod site_waits;
 mod summary;
 mod wait;
 mod wait_list;
+mod wait_row;
 mod youngest;
 
 pub use crate::search::{Finding, finding_of_ask, finding_of_probe};
 pub use crate::site_waits::SiteWaits;
 pub use crate::wait::Wait;
+pub use crate::wait_row::WaitRow;

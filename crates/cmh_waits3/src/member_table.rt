@@ -68,16 +68,6 @@ impl MemberTable {
             None
         }
     }
-
-    /// The same members once more.
-    pub fn copy(&self, alloc: Global) -> Result<MemberTable, AllocError>
-        ensures { IfOk result (λ other. other ≡ self.now) }
-    {
-        Ok(MemberTable {
-            processes: self.processes.to_vec(alloc)?,
-            places: self.places.to_vec(alloc)?,
-        })
-    }
 }
 
 /// Writes the place of a process at its number.

@@ -15,6 +15,7 @@ use crate::member_table::MemberTable;
 use crate::place_set::PlaceSet;
 use crate::summary::Summary;
 use crate::wait_list::WaitList;
+use crate::wait_row::WaitRow;
 use crate::youngest::Youngest;
 use cmh_model3::{ProcId, Stamp};
 use std::alloc::{AllocError, Global};
@@ -211,18 +212,46 @@ impl SiteWaits {
         }
     }
 
-    /// Another record of the same waits.
-    pub fn copy(&self, alloc: Global) -> Result<Self, AllocError>
-        ensures { IfOk result (λ other. other ≡ self.now) }
+    /// Whether the process still waits for some process once its waits for these have ended.
+    pub fn stays_blocked(&self, asker: ProcId, targets: &[ProcId]) -> bool
+        ensures { result ≡ is_nonempty (without_all (waits_of self.now asker) targets.now) }
     {
-        Ok(SiteWaits {
-            members: self.members.copy(alloc)?,
-            rows: WaitList::copy_all(alloc, &self.rows)?,
-            away: WaitList::copy_all(alloc, &self.away)?,
-            summaries: self.summaries.to_vec(alloc)?,
-            leaving: self.leaving,
-            youngest: self.youngest,
-        })
+        self.waits_of(asker)
+            .iter()
+            .any(|wait| !targets.contains(&wait.target))
+    }
+
+    /// A copy of the waits of a process.
+    pub fn row_copy(&self, alloc: Global, asker: ProcId) -> Result<WaitRow, AllocError>
+        requires { is_member self.now asker ≡ true }
+        ensures { IfOk result (λ row. row ≡ row_in self.now.members self.now.rows asker) }
+    {
+        let Some(place) = self.members.place_of(asker) else {
+            unreachable!();
+        };
+        WaitRow::of(alloc, &self.rows[place])
+    }
+
+    /// From now on the process waits as the copy says. It takes no memory.
+    pub fn put_row(&mut self, asker: ProcId, row: WaitRow)
+        requires { is_member self.old asker ≡ true }
+        ensures members { self.new.members ≡ self.old.members }
+        ensures waits { waits_of self.new ≡ set_at (waits_of self.old) asker (targets_of row) }
+        ensures since { since_of self.new ≡ set_at (since_of self.old) asker (since_in row) }
+    {
+        let members = self.members.as_slice();
+        let Some(place) = self.members.place_of(asker) else {
+            unreachable!();
+        };
+        let WaitRow { waits, spare } = row;
+        let mut away = spare;
+        away.remove_all(members);
+        let summary = Summary::of_waits(&self.members, waits.as_slice());
+        self.leaving = self.leaving.with_if(place, !away.as_slice().is_empty());
+        self.youngest = self.youngest.with(summary.latest, asker);
+        self.summaries[place] = summary;
+        self.rows[place] = waits;
+        self.away[place] = away;
     }
 
     /// The place of a process of the site: how many of its processes stand before it.

@@ -1,6 +1,6 @@
 //! What a search needs of the waits of one process.
 
-ghost use Rattle.std.specs.Prelude.{◌≡◌, ℕ, [], ◌∷◌, ◌≤◌, ◌&&◌, ◌||◌, not, true, false, List, length, nat_lt, slice_index};
+ghost use Rattle.std.specs.Prelude.{◌≡◌, ℕ, [], ◌∷◌, ◌++◌, ◌≤◌, ◌&&◌, ◌||◌, not, true, false, List, length, nat_lt, slice_index};
 ghost use Rattle.cmh_model3.specs.Lists.{in_list, is_before};
 ghost use Rattle.cmh_waits3.specs.declared.wait.Wait.{Wait};
 ghost use Rattle.cmh_waits3.specs.Inner.Inserting.{AreInserted};
@@ -34,6 +34,29 @@ impl Summary {
             earliest: Stamp::new(u64::MAX),
             latest: Stamp::new(0),
         }
+    }
+
+    /// That of these waits, found by a look at each.
+    pub fn of_waits(members: &MemberTable, waits: &[Wait]) -> Summary
+        ensures { IsSummary members.now waits.now result }
+    {
+        let mut summary = Summary::of_none();
+        for wait in waits {
+            summary.add(members, wait);
+        }
+        summary
+    }
+
+    /// A wait comes behind the others.
+    fn add(&mut self, members: &MemberTable, wait: &Wait)
+        ensures { (row : List Wait) → IsSummary members.now row self.old
+            → IsSummary members.now (row ++ wait.now ∷ []) self.new }
+    {
+        *self = Summary {
+            here: with_process(self.here, members, wait.target),
+            earliest: earlier(self.earliest, wait.since),
+            latest: later(self.latest, wait.since),
+        };
     }
 
     /// Whether each wait of the asker counts for the ask of the origin with this stamp.

@@ -120,17 +120,6 @@ impl WaitList {
         let waits = self.waits.to_vec(alloc)?;
         Ok(WaitList { waits })
     }
-
-    /// Other lists of the same waits.
-    pub fn copy_all(alloc: Global, lists: &[WaitList]) -> Result<Vec<WaitList>, AllocError>
-        ensures { IfOk result (λ others. others.items ≡ lists.now) }
-    {
-        let mut others = Vec::with_capacity(alloc, lists.len())?;
-        for list in lists {
-            others.push(list.copy(alloc)?)?;
-        }
-        Ok(others)
-    }
 }
 
 /// Where the wait for the target stands, or where it would.
