@@ -5,7 +5,11 @@ even by a SIGKILL: then the namespaces are gone, too, and their wires with them.
 """
 from __future__ import annotations
 
+import ctypes
+import os
+import socket
 import subprocess
+from concurrent.futures import ThreadPoolExecutor
 from pathlib import Path
 from subprocess import DEVNULL, PIPE, Popen
 from typing import Any
@@ -13,6 +17,16 @@ from typing import Any
 WITH_US = ['setpriv', '--pdeathsig', 'KILL', '--']   # the kernel ends such a process once its parent has ended
 WIRE = 'wire'                                        # the name of a machine's end of its wire
 HERE = Path(__file__).resolve().parent
+CLONE_NEWNET = 0x40000000
+
+libc = ctypes.CDLL(None, use_errno=True)
+
+
+def enter(holder: int | str) -> None:
+    """This thread goes into the network namespace of a process, and may not be let back."""
+    with open(f'/proc/{holder}/ns/net') as place:
+        if libc.setns(place.fileno(), CLONE_NEWNET):
+            raise OSError(ctypes.get_errno(), f'setns: {os.strerror(ctypes.get_errno())}')
 
 
 class Machine:
@@ -44,13 +58,24 @@ class Machine:
         """What a program prints in this machine."""
         return subprocess.run(self.inside(*words), check=True, capture_output=True, text=True).stdout
 
+    def connect(self, port: int) -> socket.socket:
+        """A connection to a port of this machine's loopback. A thread goes there for it, and ends."""
+        with ThreadPoolExecutor(1) as away:
+            return away.submit(self._dial, port).result()
+
+    def _dial(self, port: int) -> socket.socket:
+        enter(self.holder)
+        return socket.create_connection(('127.0.0.1', port), timeout=5)
+
     def end(self, child: Popen) -> None:
+        """As a power cut does: it says nothing any more."""
+        self._running.remove(child)
         child.kill()
         child.wait()
 
     def take_down(self) -> None:
-        for child in reversed(self._running):
-            self.end(child)
+        while self._running:
+            self.end(self._running[-1])
 
 
 class Network:

@@ -29,7 +29,7 @@ def missing(*files: str) -> list[str]:
     lines = [f'{name} (apt-get install {package})' for name, package in PACKAGES.items() if shutil.which(name) is None]
     if program() is None:
         lines.append('the program cmh (cd crates/cmh && rt run < stdin, or PROGRAM=its path)')
-    lines += [f'{file} of the kernel' for file in files if not os.path.exists(file)]
+    lines += [f'{file} of the kernel' for file in files if not os.access(file, os.R_OK | os.W_OK)]
     if not lines and not has_namespaces():
         lines.append('network namespaces (root, or a user who may make them: unshare --user --map-root-user COMMAND)')
     return lines

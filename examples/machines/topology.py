@@ -5,7 +5,9 @@ import json
 from dataclasses import dataclass
 from pathlib import Path
 
-DOORS = 22000    # on each machine the tunnel of site S comes in by the port DOORS + S
+EDITION = 3
+DOORS = 22000      # on each machine the tunnel of site S comes in by the port DOORS + S
+CLIENTS = 23000    # clients of site S connect to the port CLIENTS + S of its machine's loopback
 
 
 @dataclass(frozen=True)
@@ -17,20 +19,27 @@ class Place:
     machine: str
     address: str
 
+    @property
+    def clients(self) -> int:
+        return CLIENTS + self.site
+
 
 @dataclass(frozen=True)
 class Topology:
-    edition: int
     places: dict[int, Place]
+    world: str = ''    # 32 hexadecimal digits, drawn for each run that begins
 
     @classmethod
     def read(cls, path: Path) -> Topology:
         text = json.loads(path.read_text())
+        if text['edition'] != EDITION:
+            raise SystemExit(f'{path} is not of edition {EDITION}')
         rows = [Place(row['site'], row['port'], tuple(row['processes']), row['machine'], row['address']) for row in text['sites']]
-        return cls(text['edition'], {place.site: place for place in rows})
+        return cls({place.site: place for place in rows}, text.get('world', ''))
 
     def write(self, path: Path) -> None:
-        path.write_text(json.dumps({'edition': self.edition, 'sites': [vars(place) for place in self.places.values()]}))
+        rows = [vars(place) for place in self.places.values()]
+        path.write_text(json.dumps({'edition': EDITION, 'world': self.world, 'sites': rows}))
 
     def others(self, site: int) -> list[Place]:
         return [place for place in self.places.values() if place.site != site]

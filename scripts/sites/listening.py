@@ -1,13 +1,18 @@
-"""The trial of what the commands listen on: the loopback alone, so that no other machine gets to a site."""
+"""The trials of what the commands listen on: the loopback alone, so that no other machine gets to a site."""
+import json
 import os
+import shlex
 import signal
 import socket
 import struct
 import subprocess
+import tempfile
 from contextlib import suppress
 
+from crowds import made
 from services import PAIR, serve
-from world import Collided, Missed, World, wait_until
+from world import Collided, Missed, World, patience, wait_until
+from world3 import World3
 
 FAMILIES = {'tcp': socket.AF_INET, 'tcp6': socket.AF_INET6, 'udp': socket.AF_INET, 'udp6': socket.AF_INET6,
             'raw': socket.AF_INET, 'raw6': socket.AF_INET6}
@@ -71,6 +76,11 @@ def loopback_alone(program):
             finally:
                 cluster.send_signal(signal.SIGKILL)
         yield 'a cluster', found == loopback(*world.ports.values())
+    with World3(program, PAIR) as world:
+        for number, service in world.up_all().items():
+            service.await_links()
+            own = loopback(world.ports[number].number, world.doors[number].number)
+            yield 'a service of edition 3', listening(service.process.pid) == own
 
 
 def ended_or_listening(cluster):
@@ -81,4 +91,94 @@ def ended_or_listening(cluster):
     return found if len(found) >= len(RING) else None
 
 
-LISTENING = [loopback_alone]
+# ---- each command, from its start to its end
+
+SCRIPT = 'site 1 1\nsite 2 2\nask 1 2\nask 2 1\n'
+ROWS = [{'site': 1, 'processes': [1]}, {'site': 2, 'processes': [2]}]
+
+
+class Noted:
+    """A program under sockets.c, which notes each of its sockets."""
+
+    def __init__(self, program, folder):
+        self.log, self.path = os.path.join(folder, 'notes'), os.path.join(folder, 'noted')
+        shim = made(folder, 'sockets.c', '-shared', '-fPIC')
+        words = ['exec', 'env', 'LD_PRELOAD=' + shim, 'SOCKETS=' + self.log, program]
+        with open(self.path, 'w') as file:
+            file.write('#!/bin/sh\n%s "$@"\n' % shlex.join(words))
+        os.chmod(self.path, 0o700)
+
+    def run(self, *words, said=''):
+        return subprocess.run([self.path, *words], input=said, capture_output=True, text=True, timeout=patience())
+
+    def notes(self, what=''):
+        """What was noted so far."""
+        with suppress(FileNotFoundError), open(self.log) as file:
+            return [line.rstrip('\n') for line in file if line.startswith(what)]
+        return []
+
+
+def commands_of(program):
+    """The names that the help lists, but for its own."""
+    lines = iter(program.run('--help').stdout.splitlines())
+    for line in lines:
+        if line == 'Commands:':
+            break
+    names = {line.split()[0] for line in iter(lambda: next(lines, ''), '')}
+    return names - {'help'}
+
+
+def without_sockets(noted, folder):
+    """Runs each command that needs no network, in each edition; answers their names and how each ended."""
+    runs = [('play', ['play'], 'edition 2\n' + SCRIPT), ('new-world', ['new-world'], '')]
+    for edition in (2, 3):
+        kept, topology = (os.path.join(folder, '%s-%d' % (name, edition)) for name in ('kept', 'topology'))
+        os.mkdir(kept)
+        with open(topology, 'w') as file:
+            json.dump({'edition': edition, 'world': '0' * 32, 'sites': ROWS}, file)
+        journals = [os.path.join(kept, 'site-%d%s' % (site, '.cmhj' if edition == 2 else '')) for site in (1, 2)]
+        by, before = (['--edition', '3'], '') if edition == 3 else ([], 'edition 2\n')
+        runs += [('play', ['play', *by, '--journals', kept], before + SCRIPT), ('show', ['show', *journals], ''),
+                 *(('audit', ['audit', *more, '--topology', topology, *journals], '') for more in ([], ['--why'], ['--run'])),
+                 *(('draw', ['draw', *more, '--topology', topology, *journals], '') for more in ([], ['--kind', 'run'], ['--page']))]
+    runs.append(('play', ['play', '--page', os.path.join(folder, 'page')], 'edition 2\n' + SCRIPT))
+    return [(name, words, noted.run(*words, said=said)) for name, words, said in runs]
+
+
+def each_command(program):
+    """A command that makes a socket makes it at the loopback, and the others make none."""
+    with tempfile.TemporaryDirectory() as folder:
+        noted = Noted(program, folder)
+        ended = without_sockets(noted, folder)
+        for name, words, done in ended:
+            yield '%s ends well: %s' % (' '.join(words), done.stderr), done.returncode == 0
+        yield 'play, audit, show, draw and new-world make no socket: %s' % noted.notes(), noted.notes() == []
+        tried = {name for name, _, _ in ended} | {'site', 'serve', 'cluster'}
+        yield 'all commands are tried', commands_of(noted) == tried
+        ports = []
+        with World(noted.path, PAIR) as world:
+            site = world.start(1)
+            site.await_listening()
+            service = serve(world, 2)
+            yield 'the site is connected', site.ask('connect') == 'connected 1 failed 0'
+            ports += [*world.ports.values(), service.door.number]
+            yield 'the site ends', site.end()
+        with World3([noted.path], PAIR) as world:
+            for service in world.up_all().values():
+                service.await_links()
+            ports += [port.number for port in [*world.ports.values(), *world.doors.values()]]
+        with World(noted.path, RING, edition=2) as world:
+            with open(world.path('script'), 'w') as file:
+                file.write('ask 1 2\n')
+            os.mkdir(world.path('out'))
+            done = noted.run('cluster', '--topology', world.path('topology'), '--script', world.path('script'), '--out', world.path('out'))
+            yield 'the cluster ends well: %s' % done.stderr, done.returncode == 0
+            ports += world.ports.values()
+        for what in ('bind', 'listen'):
+            found = sorted(line.split()[1] for line in noted.notes(what))
+            yield 'each %s is at the loopback: %s' % (what, found), found == loopback(*ports)
+        kinds = set(noted.notes('socket'))
+        yield 'all sockets are of version 4: %s' % kinds, kinds == {'socket family %d' % socket.AF_INET}
+
+
+LISTENING = [loopback_alone, each_command]
