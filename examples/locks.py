@@ -140,4 +140,5 @@ def main(seconds=10.0):
     print('{commits} commits {waits} waits {victims} victims'.format_map(manager.counts))
 
 
-main(*sys.argv[1:])
+if __name__ == '__main__':
+    main(*sys.argv[1:])

@@ -283,4 +283,19 @@ def lock_manager(program):
     yield 'commits and victims', int(counts.get('commits', 0)) > 5 and int(counts.get('victims', 0)) > 0
 
 
-CLIENTS = [hostile_clients3, deadlock_ends, told_in_order, lines_of_clients3, client_of_python, lock_manager]
+def scheduler(program):
+    """examples/scheduler.py: a circular dependency is told, one job is taken back, and the others run after those that they name."""
+    words = [sys.executable, '-B', os.path.join(HERE, '..', '..', 'examples', 'scheduler.py')]
+    environment = {**os.environ, 'CMH': ' '.join(program if isinstance(program, list) else [program])}
+    done = subprocess.run(words, capture_output=True, text=True, timeout=60, env=environment)
+    lines = done.stdout.splitlines()
+    yield 'it ends well: %s' % done.stderr[-300:], done.returncode == 0
+    yield 'the cycle', 'circular: publish waits for test waits for report waits for publish' in lines
+    order = [line.split()[-1] for line in lines if not line.startswith('circular')]
+    after = [('fetch', 'headers'), ('headers', 'compile'), ('publish', 'report'), ('compile', 'test'), ('report', 'test'), ('compile', 'notify')]
+    yield 'one is taken back, and each of the others is done: %s' % lines, (
+        sorted(order) == sorted({name for pair in after for name in pair}) and [line for line in lines if line.startswith('taken')] == ['taken back publish'])
+    yield 'none before those that it waits for', all(order.index(one) < order.index(other) for one, other in after)
+
+
+CLIENTS = [hostile_clients3, deadlock_ends, told_in_order, lines_of_clients3, client_of_python, lock_manager, scheduler]

@@ -10,10 +10,14 @@ class Ended(SystemExit):
 
 
 def _end(number: int, _: FrameType | None) -> None:
-    """One signal is enough: a second one does not disturb the taking down."""
+    no_more()
+    raise Ended(128 + number)
+
+
+def no_more() -> None:
+    """From now on signals are ignored, so that they don't disturb the taking down."""
     for each in (signal.SIGINT, signal.SIGTERM):
         signal.signal(each, signal.SIG_IGN)
-    raise Ended(128 + number)
 
 
 def at_signals() -> None:

@@ -9,15 +9,14 @@ from bisect import bisect_right
 from collections import Counter, defaultdict
 from collections.abc import Iterator
 from dataclasses import dataclass, field
-from pathlib import Path
 from statistics import median, quantiles
 from typing import Any
 
 import graph
 from workload import Log, Note, Row
-from world import World
+from world import Audit
 
-LONGEST = 15.0   # seconds that a cycle may last, also where the machine has much else to do
+LONGEST = 15.0   # seconds that a cycle may last, also where the machine has much else to do, and nothing dies meanwhile
 NOTICED = 0.05   # seconds that may pass from the end of a wait to the client's note of it
 
 
@@ -125,14 +124,17 @@ class Verdict:
     mixtures: int = 0             # of these, those whose waits were there one after the other, and not at one moment
     latency_ms: dict[str, float] = field(default_factory=dict)
     declare_ms: dict[str, float] = field(default_factory=dict)
-    audits: int = 0
-    events: int = 0
+    audit: Audit | None = None
+    megabytes: float = 0.0        # of journals
+    disturbed: dict[str, int] = field(default_factory=dict)   # what went wrong meanwhile
+    phantoms: int = 0
     faults: list[str] = field(default_factory=list)
 
 
-def judge(log: Log, records: list[dict[str, Any]] | None = None, cycles_must_end: bool = True) -> Verdict:
-    """The verdict over a workload and what the watchers wrote into their logs, if any worked. Where nobody breaks cycles,
-    they may last."""
+def judge(log: Log, records: list[dict[str, Any]] | None = None, audit: Audit | None = None,
+          cycles_must_end: bool = True, longest: float = LONGEST) -> Verdict:
+    """The verdict over a workload, what the watcher wrote into its log, if one worked, and the audit of all journals. Where
+    nobody breaks cycles, they may last."""
     notes = sorted(log.notes, key=lambda note: note.at)
     history = History()
     for note in notes:
@@ -141,12 +143,14 @@ def judge(log: Log, records: list[dict[str, Any]] | None = None, cycles_must_end
     if cycles_must_end:
         if log.hung:
             verdict.faults.append(f'{log.hung} transactions hang')
-        if verdict.longest_cycle > LONGEST:
+        if verdict.longest_cycle > longest:
             verdict.faults.append(f'a cycle lasted {verdict.longest_cycle:.1f} s')
     if records is not None:
-        _judge_cancels(verdict, notes, records)
+        _judge_cancels(verdict, notes, history.cycles, records)
         _judge_declarations(verdict, notes, history.cycles, records)
-        _judge_audits(verdict, records)
+    verdict.audit = audit
+    if audit and not audit.accepted:
+        verdict.faults.append(f'the journals are not accepted: {audit.text}')
     return verdict
 
 
@@ -220,12 +224,15 @@ def _client(agent: list[Any]) -> int | None:
     return int(agent[1]) if agent[1].isdigit() else None
 
 
-def _judge_cancels(verdict: Verdict, notes: list[Note], records: list[dict[str, Any]]) -> None:
+def _judge_cancels(verdict: Verdict, notes: list[Note], cycles: list[Cycle], records: list[dict[str, Any]]) -> None:
     """Each cancel, at the moment between the two looks: its victim lay on a cycle, else it is a phantom."""
+    of_client = _by_client(cycles)
     cancels = sorted((record for record in records if record['what'] == 'cancelled'), key=lambda record: record['between'])
     verdict.cancels = len(cancels)
     verdict.dropped = sum(record['what'] == 'dropped' for record in records)
-    verdict.latency_ms = _spread([1000 * (record['done'] - record['closed']) for record in cancels])
+    verdict.latency_ms = _spread([1000 * (record['done'] - cycle.began) for record in cancels
+                                  for cycle in of_client.get(_client(record['victim']), [])
+                                  if cycle.began <= record['between'] <= cycle.ended])
     verdict.declare_ms = _spread([1000 * (record['declared'] - record['told']) for record in cancels])
     histories = _histories_at(notes, [record['between'] for record in cancels])
     for record, history in zip(cancels, histories):
@@ -236,6 +243,7 @@ def _judge_cancels(verdict: Verdict, notes: list[Note], records: list[dict[str, 
         if any(member is not None and history.cycle_through(member) for member in members):
             verdict.cancelled_bystanders += 1
         else:
+            verdict.phantoms += 1
             verdict.faults.append(f'a phantom was cancelled: {record}')
     if verdict.cancelled_bystanders:
         verdict.faults.append(f'{verdict.cancelled_bystanders} victims lay on no cycle, though another agent of theirs did')
@@ -269,17 +277,3 @@ def _was_there(uses: dict[int, list[Use]], agent: list[Any], holder: list[Any], 
         return bool(wanted)
     return agent[0] == holder[0] and any(
         use.row in wanted and use.wanted <= ended and began <= use.released for use in uses[other])
-
-
-def _judge_audits(verdict: Verdict, records: list[dict[str, Any]]) -> None:
-    """The journals of each world that was in use. The auditor is asked here, so that a watcher's word is not needed, nor that
-    it came to its end."""
-    folders = [record['folder'] for record in records if record['what'] == 'world']
-    for folder in folders:
-        audit = World.of(Path(folder)).audit()
-        verdict.audits += 1
-        verdict.events += audit.events
-        if not audit.accepted:
-            verdict.faults.append(f'journals were not accepted: {folder}: {audit.text}')
-    if not folders:
-        verdict.faults.append('there was no world of sites')

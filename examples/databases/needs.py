@@ -1,15 +1,18 @@
-"""What the example needs beside Python: PostgreSQL, its client library, and the program cmh."""
+"""What the example needs beside Python: PostgreSQL or MariaDB, or both, their client libraries, and the program cmh."""
 from __future__ import annotations
 
+import importlib
 import importlib.util
 import os
 import shutil
 import sys
 from collections.abc import Callable
 from pathlib import Path
+from types import ModuleType
 
 TOP = Path(__file__).resolve().parents[2]
 LEFT_OUT = 77  # the exit status where something is missing, by the custom of test programs
+LIBRARIES = {'postgresql': ('psycopg2',), 'mariadb': ('pymysql', 'MySQLdb')}   # any one of them will do
 
 sys.path.append(str(TOP / 'clients' / 'python'))
 
@@ -29,10 +32,21 @@ def postgres_folder() -> Path:
     return newest.parent
 
 
-def psycopg2() -> None:
-    """Its client library for Python."""
-    if importlib.util.find_spec('psycopg2') is None:
-        raise Missing('psycopg2 for /usr/bin/python3 (apt-get install python3-psycopg2)')
+def mariadb() -> str:
+    """The server's program. Debian keeps it off the PATH of users."""
+    found = shutil.which('mariadbd', path=os.environ.get('PATH', '') + ':/usr/sbin:/usr/local/sbin')
+    if found is None or shutil.which('mariadb-install-db') is None:
+        raise Missing('MariaDB (apt-get install mariadb-server)')
+    return found
+
+
+def library(kind: str) -> ModuleType:
+    """The client library of a kind of servers."""
+    for name in LIBRARIES[kind]:
+        if importlib.util.find_spec(name):
+            return importlib.import_module(name)
+    package = {'postgresql': 'python3-psycopg2', 'mariadb': 'python3-pymysql'}[kind]
+    raise Missing(f'{" or ".join(LIBRARIES[kind])} for /usr/bin/python3 (apt-get install {package})')
 
 
 def program() -> str:
@@ -55,8 +69,20 @@ def missing(*needed: Callable[[], object]) -> list[str]:
     return lines
 
 
+def kinds() -> list[str]:
+    """The kinds of servers that can be started and watched here."""
+    servers = {'postgresql': postgres_folder, 'mariadb': mariadb}
+    return [kind for kind, server in servers.items() if not missing(server, lambda kind=kind: library(kind))]
+
+
+def a_server() -> None:
+    """At least one kind of servers."""
+    if not kinds():
+        raise Missing('postgresql and python3-psycopg2, or mariadb-server and python3-pymysql, or all four (apt-get install)')
+
+
 def or_leave(*needed: Callable[[], object]) -> None:
-    """Ends the program with `left out` and what is missing of these or, where none is named, of all."""
-    if lines := missing(*(needed or (postgres_folder, psycopg2, program))):
+    """Ends the program with `left out` and what is missing of these."""
+    if lines := missing(*needed):
         print('left out: needs ' + '; '.join(lines))
         raise SystemExit(LEFT_OUT)

@@ -10,12 +10,10 @@ from typing import Any
 import needs
 
 if __name__ == '__main__':
-    needs.or_leave()
+    needs.or_leave(needs.a_server)
 
 import judge
 from workload import Log, Note, Row
-
-NO_WORLD = 'there was no world of sites'   # no site runs here
 
 # Lines 'SECOND CLIENT WHAT [SERVER.ROW]'. Client 1 has row 1.7 and wants 2.7, client 2 has that and wants the first.
 DEADLOCK = """
@@ -59,7 +57,7 @@ def declared(look: tuple[float, float], cycle: list[list[Any]] = CYCLE) -> dict[
 
 
 def cancelled(between: float, victim: list[Any]) -> dict[str, Any]:
-    return {'what': 'cancelled', 'between': between, 'victim': victim, 'cycle': CYCLE, 'closed': 2.1, 'told': 2.2,
+    return {'what': 'cancelled', 'between': between, 'victim': victim, 'cycle': CYCLE, 'told': 2.2,
             'declared': 2.3, 'done': between}
 
 
@@ -94,11 +92,10 @@ def note(line: str) -> Note:
 def is_right(case: Case) -> bool:
     log = Log(5.0, [note(line) for line in case.history.strip().splitlines()], ended=5.0)
     verdict = judge.judge(log, [case.record])
-    faults = [fault for fault in verdict.faults if fault != NO_WORLD]
-    right = verdict.mixtures == case.mixtures and len(faults) == bool(case.fault) and all(
-        fault.startswith(case.fault) for fault in faults)
+    right = verdict.mixtures == case.mixtures and len(verdict.faults) == bool(case.fault) and all(
+        fault.startswith(case.fault) for fault in verdict.faults)
     if not right:
-        print(f'{case.name}: {verdict.mixtures} mixtures, faults: {faults}')
+        print(f'{case.name}: {verdict.mixtures} mixtures, faults: {verdict.faults}')
     return right
 
 

@@ -1,4 +1,4 @@
-"""Random global transactions over all servers, and a log of what their clients saw.
+"""Random transactions over all servers, and a log of what their clients saw.
 
 Each transaction updates two or three rows, each at a server chosen by chance, thinks after each, and commits everywhere.
 A client that meets an error rolls back everywhere, as each client of several servers must. The log is all that the judge
@@ -12,9 +12,7 @@ import time
 from dataclasses import dataclass, field
 from typing import Any, NamedTuple
 
-import psycopg2
-
-from servers import CLERK, Server
+from servers import CLERK, Server, faults
 
 
 @dataclass(frozen=True)
@@ -23,7 +21,7 @@ class Load:
     clients: int
     rows: int
     think: float
-    timeout_ms: int = 0    # lock_timeout; none where 0
+    timeout_ms: int = 0    # of a wait for a lock; none where 0
 
 
 class Row(NamedTuple):
@@ -56,7 +54,9 @@ class Client:
     def __init__(self, number: int, servers: list[Server], load: Load, log: Log):
         self._number, self._servers, self._load, self._log = number, servers, load, log
         self._random = random.Random(1000 + number)
+        self._rows = [Row(server.number, row) for server in servers for row in range(1, load.rows + 1)]
         self._sessions: dict[int, Any] = {}
+        self._faults = faults()
 
     def run(self, end: float) -> None:
         while time.time() < end:
@@ -68,54 +68,46 @@ class Client:
         self._log.notes.append(Note(time.time(), self._number, what, row, fault))
 
     def _session(self, server: int) -> Any:
-        """The session at a server; a new one after the server closed the one of before."""
-        session = self._sessions.get(server)
-        if session is None or session.closed:
-            session = psycopg2.connect(self._servers[server - 1].dsn(CLERK), application_name=f'gt:{self._number}',
-                                       options=f'-clock_timeout={self._load.timeout_ms}')
-            self._sessions[server] = session
-        return session
-
-    def _choose_rows(self) -> list[Row]:
-        chosen = [Row(self._random.randint(1, len(self._servers)), self._random.randint(1, self._load.rows))
-                  for _ in range(self._random.randint(2, 3))]
-        return list(dict.fromkeys(chosen))
+        """The session at a server; a new one after one was lost."""
+        if server not in self._sessions:
+            self._sessions[server] = self._servers[server - 1].connect(CLERK, f'gt:{self._number}', self._load.timeout_ms)
+        return self._sessions[server]
 
     def _transaction(self) -> None:
-        used: dict[int, Any] = {}
+        rows = dict.fromkeys(self._random.choice(self._rows) for _ in range(self._random.randint(2, 3)))
+        used: list[int] = []
         try:
-            for row in self._choose_rows():
-                used[row.server] = self._session(row.server)
+            for row in rows:
+                session = self._session(row.server)
+                used.append(row.server)
                 self._note('want', row)
-                used[row.server].cursor().execute('update account set value = value + 1 where id = %s', (row.number,))
+                session.cursor().execute(f'update {self._servers[row.server - 1].account} set value = value + 1 where id = %s',
+                                         (row.number,))
                 self._note('got', row)
                 time.sleep(self._random.uniform(0.002, self._load.think))
             self._note('end')
-            for session in used.values():
-                session.commit()
+            for server in dict.fromkeys(used):
+                self._sessions[server].commit()
             self._note('committed')
-        except psycopg2.Error as fault:
+        except self._faults as fault:
             self._note('end')
             self._roll_back(used)
-            self._note('aborted', fault=str(fault).strip().splitlines()[0] if str(fault).strip() else 'connection lost')
+            self._note('aborted', fault=_word(fault))
             time.sleep(self._random.uniform(0, 0.05))
 
-    def _roll_back(self, used: dict[int, Any]) -> None:
-        for session in used.values():
+    def _roll_back(self, used: list[int]) -> None:
+        """Rolls back everywhere. A session that can't is lost, and its transaction with it."""
+        for server in dict.fromkeys(used):
             try:
-                session.rollback()
-            except psycopg2.Error:
-                session.close()
+                self._sessions[server].rollback()
+            except self._faults:
+                del self._sessions[server]
 
 
-def prepare(servers: list[Server], rows: int) -> None:
-    """The table of each server; a row has room for its next version on its page."""
-    for server in servers:
-        server.execute(f"""
-            drop table if exists account;
-            create table account (id int primary key, value int not null) with (fillfactor = 20);
-            insert into account select number, 0 from generate_series(1, {rows}) as number;
-            grant select, update on account to {CLERK}""")
+def _word(fault: Exception) -> str:
+    """A server's word for a fault, without what differs each time."""
+    text = str(fault.args[-1] if fault.args else '').strip().splitlines() or ['connection lost']
+    return 'connection lost' if any(word in text[0].lower() for word in ('connect', 'lost', 'server', 'closed')) else text[0]
 
 
 class Workload:

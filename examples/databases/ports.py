@@ -4,23 +4,14 @@ from __future__ import annotations
 import random
 import socket
 
-
-def _range() -> range:
-    """The 10,000 ports below the ephemeral ones."""
-    try:
-        with open('/proc/sys/net/ipv4/ip_local_port_range') as file:
-            lowest = int(file.read().split()[0])
-    except (OSError, ValueError):
-        lowest = 32768
-    return range(max(2000, lowest - 10000), lowest) if lowest > 3000 else range(22000, 32000)
+PORTS = range(22000, 32000)
 
 
 class Port:
     """A free TCP port. Until `let_go` the same number is held as a UDP port, so that no other run takes it meanwhile."""
 
     def __init__(self) -> None:
-        for _ in range(1000):
-            self.number = random.choice(_range())
+        for self.number in random.sample(PORTS, 1000):
             self._held = socket.socket(socket.AF_INET, socket.SOCK_DGRAM)
             try:
                 self._held.bind(('127.0.0.1', self.number))
