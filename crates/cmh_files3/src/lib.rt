@@ -22,6 +22,7 @@ pub use crate::auditing::{
     Audited, Finding, World, audit_files, finding_on, read_world, run_audit3,
 };
 pub use crate::entries::before_stop;
+pub use crate::entry_text::EntryText;
 pub use crate::more::More;
 pub use crate::reason_lines::reason_lines as lines_of_reasons;
 pub use crate::run_lines::run_lines as lines_of_run;
