@@ -30,7 +30,7 @@ pub fn world_law()
 /// Journals that are split at a consistent stop come from a run exactly where what they have before the stop comes from one
 /// that leads to a world, and what they have past it from a run from there. A stop by stamp is such a stop.
 ///
-/// So where each site begins an epoch as its clock comes to one stamp, the epochs can be judged one by one.
+/// So where each site begins an epoch as its clock comes to one stamp, what comes before it and what follows can be judged apart.
 pub fn exact_law()
     ensures exactly { ExactlyTheWhole }
     ensures by_stamp { StopsByStampSplit }
