@@ -2,15 +2,16 @@
 from __future__ import annotations
 
 import tomllib
-from dataclasses import dataclass, fields
+from dataclasses import dataclass
 from pathlib import Path
-from typing import Any
+from typing import Any, TypeVar
 
 from mariadb import MariaDB
 from postgresql import PostgreSQL
 from waits import Server
 
 KINDS: dict[str, type[Server]] = {kind.kind: kind for kind in (PostgreSQL, MariaDB)}
+Made = TypeVar('Made')
 
 
 class Wrong(Exception):
@@ -27,6 +28,10 @@ class Watched:
     name: str
     names: str = ''
     after: float = 100.0
+
+    def __post_init__(self) -> None:
+        if self.kind not in KINDS:
+            raise Wrong(f'{self.name}: kind is one of {", ".join(KINDS)}')
 
     def server(self) -> Server:
         return KINDS[self.kind](self.connect, self.names, self.after / 1000)
@@ -49,21 +54,14 @@ class Config:
             said = tomllib.loads(path.read_text())
         except tomllib.TOMLDecodeError as fault:
             raise Wrong(f'{path}: {fault}') from None
-        rows = [{'name': f'server {number}', 'after': said.get('after', cls.after), **row}
-                for number, row in enumerate(said.get('server', []), 1)]
-        for row in rows:
-            _check(row, Watched, row['name'])
-            if row['kind'] not in KINDS:
-                raise Wrong(f'{row["name"]}: kind is one of {", ".join(KINDS)}')
-        said['server'] = tuple(Watched(**row) for row in rows)
-        _check(said, cls, str(path))
-        return cls(**said)
+        shared = {'after': said.get('after', cls.after)}
+        rows = [{'name': f'server {number}', **shared, **row} for number, row in enumerate(said.get('server', []), 1)]
+        said['server'] = tuple(_made(Watched, row, row['name']) for row in rows)
+        return _made(cls, said, str(path))
 
 
-def _check(said: dict[str, Any], kind: type, where: str) -> None:
-    known = {field.name: field.default for field in fields(kind)}
-    needed = {name for name, default in known.items() if not isinstance(default, (str, int, float))}
-    if wrong := said.keys() - known:
-        raise Wrong(f'{where}: nothing is named {", ".join(sorted(wrong))}')
-    if lacks := needed - said.keys():
-        raise Wrong(f'{where}: says no {", ".join(sorted(lacks))}')
+def _made(kind: type[Made], said: dict[str, Any], where: str) -> Made:
+    try:
+        return kind(**said)
+    except TypeError as fault:      # a name that is none, or one that is missing
+        raise Wrong(f'{where}: {str(fault).partition("() ")[2]}') from None

@@ -7,10 +7,10 @@ from __future__ import annotations
 
 from bisect import bisect_right
 from collections import Counter, defaultdict
-from collections.abc import Iterator
-from dataclasses import dataclass, field
-from statistics import median, quantiles
-from typing import Any
+from collections.abc import Iterable, Iterator
+from dataclasses import dataclass, field, fields
+from statistics import median
+from typing import Any, NamedTuple
 
 import graph
 from workload import Log, Note, Row
@@ -18,12 +18,13 @@ from world import Audit
 
 LONGEST = 15.0   # seconds that a cycle may last, also where the machine has much else to do, and nothing dies meanwhile
 NOTICED = 0.05   # seconds that may pass from the end of a wait to the client's note of it
+STEPS = 'to the last ask', 'to the declaration', 'to the cancel'   # from the last wait of a cycle on
 
 
 @dataclass
 class Cycle:
     """Clients that waited for each other, and when."""
-    members: frozenset[int]
+    members: frozenset[str]
     began: float
     ended: float = float('inf')
 
@@ -31,10 +32,10 @@ class Cycle:
 @dataclass
 class History:
     """Who held and wanted what, as the notes go on."""
-    wants: dict[int, Row] = field(default_factory=dict)
-    holder: dict[Row, int] = field(default_factory=dict)
+    wants: dict[str, Row] = field(default_factory=dict)
+    holder: dict[Row, str] = field(default_factory=dict)
     cycles: list[Cycle] = field(default_factory=list)
-    _open: dict[int, Cycle] = field(default_factory=dict)
+    _open: dict[str, Cycle] = field(default_factory=dict)
 
     def take(self, note: Note) -> None:
         if note.what == 'want' and note.row:
@@ -46,11 +47,11 @@ class History:
         elif note.what == 'end':
             self._end(note)
 
-    def waits_for(self, client: int) -> int | None:
+    def waits_for(self, client: str) -> str | None:
         row = self.wants.get(client)
         return None if row is None else self.holder.get(row)
 
-    def cycle_through(self, client: int) -> list[int] | None:
+    def cycle_through(self, client: str) -> list[str] | None:
         path, seen = [client], {client}
         while (following := self.waits_for(path[-1])) is not None:
             if following == client:
@@ -88,10 +89,10 @@ class Use:
     released: float = float('inf')
 
 
-def _uses(notes: list[Note]) -> dict[int, list[Use]]:
+def _uses(notes: list[Note]) -> dict[str, list[Use]]:
     """The uses of each client, in their order."""
-    uses: dict[int, list[Use]] = defaultdict(list)
-    current: dict[int, list[Use]] = defaultdict(list)   # of the transaction that the client is in
+    uses: dict[str, list[Use]] = defaultdict(list)
+    current: dict[str, list[Use]] = defaultdict(list)   # of the transaction that the client is in
     for note in notes:
         if note.what == 'want' and note.row:
             current[note.client].append(Use(note.row, note.at))
@@ -109,26 +110,27 @@ def _uses(notes: list[Note]) -> dict[int, list[Use]]:
 
 @dataclass
 class Verdict:
-    """What the judge found. `faults` says what must not be; nothing else does."""
-    commits_per_second: float
-    aborts: Counter[str]          # by the server's word
-    on_a_cycle: Counter[str]      # of these, those whose transaction lay on a cycle when its wait was ended, or just before
-    cycles: int
-    hung: int                     # clients that never came to an end
-    longest_cycle: float
-    lock_ms: dict[str, float]
+    """What the judge found. `faults` says what must not be; nothing else does. Two of them are added field by field."""
+    seconds: float = 0.0
+    commits: int = 0
+    aborts: Counter[str] = field(default_factory=Counter)       # by the server's word
+    on_a_cycle: Counter[str] = field(default_factory=Counter)   # of these, those whose transaction lay on a cycle when its wait
+                                                                # was ended, or just before
+    hung: int = 0                 # clients that never came to an end
+    cycle_seconds: list[float] = field(default_factory=list)    # how long each cycle lasted
+    lock_ms: list[float] = field(default_factory=list)          # how long each lock took
+    steps_ms: list[tuple[float, ...]] = field(default_factory=list)   # of each cancel: how long each of STEPS took
     cancels: int = 0
-    cancelled_bystanders: int = 0
+    phantoms: int = 0             # of these
     dropped: int = 0
     declarations: int = 0
     mixtures: int = 0             # of these, those whose waits were there one after the other, and not at one moment
-    latency_ms: dict[str, float] = field(default_factory=dict)
-    declare_ms: dict[str, float] = field(default_factory=dict)
-    audit: Audit | None = None
-    megabytes: float = 0.0        # of journals
-    disturbed: dict[str, int] = field(default_factory=dict)   # what went wrong meanwhile
-    phantoms: int = 0
+    disturbed: Counter[str] = field(default_factory=Counter)    # what went wrong meanwhile
+    audits: list[Audit] = field(default_factory=list)
     faults: list[str] = field(default_factory=list)
+
+    def __add__(self, other: Verdict) -> Verdict:
+        return Verdict(*(getattr(self, each.name) + getattr(other, each.name) for each in fields(self)))
 
 
 def judge(log: Log, records: list[dict[str, Any]] | None = None, audit: Audit | None = None,
@@ -143,34 +145,32 @@ def judge(log: Log, records: list[dict[str, Any]] | None = None, audit: Audit | 
     if cycles_must_end:
         if log.hung:
             verdict.faults.append(f'{log.hung} transactions hang')
-        if verdict.longest_cycle > longest:
-            verdict.faults.append(f'a cycle lasted {verdict.longest_cycle:.1f} s')
+        verdict.faults += [f'a cycle lasted {seconds:.1f} s' for seconds in verdict.cycle_seconds if seconds > longest]
     if records is not None:
         _judge_cancels(verdict, notes, history.cycles, records)
         _judge_declarations(verdict, notes, history.cycles, records)
-    verdict.audit = audit
-    if audit and not audit.accepted:
-        verdict.faults.append(f'the journals are not accepted: {audit.text}')
+    if audit:
+        verdict.audits.append(audit)
+        verdict.faults += [] if audit.accepted else [f'the journals are not accepted: {audit.text}']
     return verdict
 
 
 def _of_the_workload(log: Log, notes: list[Note], cycles: list[Cycle]) -> Verdict:
-    aborts = Counter(note.fault for note in notes if note.what == 'aborted')
     return Verdict(
-        commits_per_second=sum(note.what == 'committed' for note in notes) / log.seconds,
-        aborts=aborts,
+        seconds=log.seconds,
+        commits=sum(note.what == 'committed' for note in notes),
+        aborts=Counter(note.fault for note in notes if note.what == 'aborted'),
         on_a_cycle=Counter(_aborted_on_cycles(notes, cycles)),
-        cycles=len(cycles),
         hung=log.hung,
-        longest_cycle=max((min(cycle.ended, log.ended) - cycle.began for cycle in cycles), default=0.0),
-        lock_ms=_spread(_lock_times(notes)))
+        cycle_seconds=[min(cycle.ended, log.ended) - cycle.began for cycle in cycles],
+        lock_ms=_lock_times(notes))
 
 
 def _aborted_on_cycles(notes: list[Note], cycles: list[Cycle]) -> Iterator[str]:
     """Each abort of a transaction that lay on a cycle until it ended, or until so shortly before that whoever ended its wait
     could not know: by the server's word."""
     of_client = _by_client(cycles)
-    ends: dict[int, float] = {}
+    ends: dict[str, float] = {}
     for note in notes:
         if note.what == 'end':
             ends[note.client] = note.at
@@ -180,8 +180,8 @@ def _aborted_on_cycles(notes: list[Note], cycles: list[Cycle]) -> Iterator[str]:
                 yield note.fault
 
 
-def _by_client(cycles: list[Cycle]) -> dict[int, list[Cycle]]:
-    of_client: dict[int, list[Cycle]] = defaultdict(list)
+def _by_client(cycles: list[Cycle]) -> dict[str, list[Cycle]]:
+    of_client: dict[str, list[Cycle]] = defaultdict(list)
     for cycle in cycles:
         for member in cycle.members:
             of_client[member].append(cycle)
@@ -203,7 +203,7 @@ def _histories_at(notes: list[Note], moments: list[float]) -> Iterator[History]:
 
 def _lock_times(notes: list[Note]) -> list[float]:
     """How long each lock took, in ms."""
-    wanted: dict[int, float] = {}
+    wanted: dict[str, float] = {}
     times = []
     for note in notes:
         if note.what == 'want':
@@ -213,15 +213,25 @@ def _lock_times(notes: list[Note]) -> list[float]:
     return times
 
 
-def _spread(values: list[float]) -> dict[str, float]:
-    if len(values) < 2:
-        return {name: value for value in values for name in ('median', 'p95', 'max')}
-    return {'median': median(values), 'p95': quantiles(values, n=20, method='inclusive')[18], 'max': max(values)}
+class Spread(NamedTuple):
+    """Of times in ms."""
+    median: float
+    p95: float
+    most: float
+
+    def __str__(self) -> str:
+        return f'median {self.median:.1f}, p95 {self.p95:.0f}, at most {self.most:.0f} ms'
 
 
-def _client(agent: list[Any]) -> int | None:
-    """The client of an agent as the watcher's log names it, [server, name]."""
-    return int(agent[1]) if agent[1].isdigit() else None
+def spread(times: Iterable[float]) -> Spread:
+    """Of no times it is zero."""
+    ordered = sorted(times) or [0.0]
+    return Spread(median(ordered), ordered[(len(ordered) - 1) * 95 // 100], ordered[-1])
+
+
+def _client(agent: list[Any]) -> str | None:
+    """The client of an agent as the watcher's log names it, [server, name]; of a session without a name nobody."""
+    return None if agent[1].startswith('#') else agent[1]
 
 
 def _judge_cancels(verdict: Verdict, notes: list[Note], cycles: list[Cycle], records: list[dict[str, Any]]) -> None:
@@ -230,23 +240,19 @@ def _judge_cancels(verdict: Verdict, notes: list[Note], cycles: list[Cycle], rec
     cancels = sorted((record for record in records if record['what'] == 'cancelled'), key=lambda record: record['between'])
     verdict.cancels = len(cancels)
     verdict.dropped = sum(record['what'] == 'dropped' for record in records)
-    verdict.latency_ms = _spread([1000 * (record['done'] - cycle.began) for record in cancels
-                                  for cycle in of_client.get(_client(record['victim']), [])
-                                  if cycle.began <= record['between'] <= cycle.ended])
-    verdict.declare_ms = _spread([1000 * (record['declared'] - record['told']) for record in cancels])
+    verdict.steps_ms = [(1000 * (record['told'] - cycle.began), 1000 * (record['declared'] - record['told']),
+                         1000 * (record['done'] - record['declared'])) for record in cancels
+                        for cycle in of_client.get(_client(record['victim']), [])
+                        if cycle.began <= record['between'] <= cycle.ended]
     histories = _histories_at(notes, [record['between'] for record in cancels])
     for record, history in zip(cancels, histories):
         victim = _client(record['victim'])
         if victim is not None and history.cycle_through(victim):
             continue
-        members = [_client(agent) for agent in record['cycle']]
-        if any(member is not None and history.cycle_through(member) for member in members):
-            verdict.cancelled_bystanders += 1
-        else:
-            verdict.phantoms += 1
-            verdict.faults.append(f'a phantom was cancelled: {record}')
-    if verdict.cancelled_bystanders:
-        verdict.faults.append(f'{verdict.cancelled_bystanders} victims lay on no cycle, though another agent of theirs did')
+        members = [member for agent in record['cycle'] if (member := _client(agent)) is not None]
+        bystander = any(history.cycle_through(member) for member in members)    # another agent of its declaration was on one
+        verdict.phantoms += not bystander
+        verdict.faults.append(f'a {"bystander" if bystander else "phantom"} was cancelled: {record}')
 
 
 def _judge_declarations(verdict: Verdict, notes: list[Note], cycles: list[Cycle], records: list[dict[str, Any]]) -> None:
@@ -266,7 +272,7 @@ def _judge_declarations(verdict: Verdict, notes: list[Note], cycles: list[Cycle]
             verdict.mixtures += 1
 
 
-def _was_there(uses: dict[int, list[Use]], agent: list[Any], holder: list[Any], began: float, ended: float) -> bool:
+def _was_there(uses: dict[str, list[Use]], agent: list[Any], holder: list[Any], began: float, ended: float) -> bool:
     """Whether an agent may have waited for another between two moments, by the clients: for a row that the other had or
     wanted too; or for its own transaction, which waited at the other's server."""
     waiter, other = _client(agent), _client(holder)

@@ -86,7 +86,7 @@ CASES = [
 
 def note(line: str) -> Note:
     at, client, what, *row = line.split()
-    return Note(float(at), int(client), what, Row(*map(int, row[0].split('.'))) if row else None)
+    return Note(float(at), client, what, Row(*map(int, row[0].split('.'))) if row else None)
 
 
 def is_right(case: Case) -> bool:

@@ -4,8 +4,7 @@ functions, from pictures to waits, with no server and no site behind them.
 from __future__ import annotations
 
 import time
-from collections import Counter
-from collections.abc import Iterator
+from collections import Counter, defaultdict
 from dataclasses import dataclass, field
 from typing import NamedTuple
 
@@ -69,18 +68,17 @@ def _add_lock_wait(view: View, agents: dict[int, Agent], wait: Wait) -> None:
 
 def _add_idle_waits(view: View) -> None:
     """An idle agent that blocks somebody, while its transaction waits elsewhere, waits for that."""
-    waiting: dict[str, list[Agent]] = {}
+    waiting: dict[str, list[Agent]] = defaultdict(list)
     for agent in view.waits:
-        waiting.setdefault(agent.transaction, []).append(agent)
-    for agent in _idle_holders(view):
+        waiting[agent.transaction].append(agent)
+    blocks = {holder for holders in view.waits.values() for holder in holders}
+    for agent in blocks - view.waits.keys():
         session = view.sessions[agent]
-        others = {other: Wait(session.number, None, session.idle, max(wait.since for wait in view.waits[other].values()))
-                  for other in waiting.get(agent.transaction, [])}
-        if others:
-            view.waits[agent] = others
+        if session.idle is not None and agent.transaction in waiting:
+            view.waits[agent] = {other: Wait(session.number, None, session.idle, _since(view, other))
+                                 for other in waiting[agent.transaction]}
 
 
-def _idle_holders(view: View) -> Iterator[Agent]:
-    for agent in {holder for holders in view.waits.values() for holder in holders}:
-        if agent not in view.waits and view.sessions[agent].idle is not None:
-            yield agent
+def _since(view: View, agent: Agent) -> float:
+    """When the newest wait of an agent began."""
+    return max(wait.since for wait in view.waits[agent].values())

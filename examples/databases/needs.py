@@ -2,17 +2,17 @@
 from __future__ import annotations
 
 import importlib
-import importlib.util
 import os
 import shutil
 import sys
 from collections.abc import Callable
+from contextlib import suppress
 from pathlib import Path
 from types import ModuleType
 
 TOP = Path(__file__).resolve().parents[2]
 LEFT_OUT = 77  # the exit status where something is missing, by the custom of test programs
-LIBRARIES = {'postgresql': ('psycopg2',), 'mariadb': ('pymysql', 'MySQLdb')}   # any one of them will do
+LIBRARIES = {'postgresql': 'psycopg2', 'mariadb': 'pymysql'}
 
 sys.path.append(str(TOP / 'clients' / 'python'))
 
@@ -42,11 +42,10 @@ def mariadb() -> str:
 
 def library(kind: str) -> ModuleType:
     """The client library of a kind of servers."""
-    for name in LIBRARIES[kind]:
-        if importlib.util.find_spec(name):
-            return importlib.import_module(name)
-    package = {'postgresql': 'python3-psycopg2', 'mariadb': 'python3-pymysql'}[kind]
-    raise Missing(f'{" or ".join(LIBRARIES[kind])} for /usr/bin/python3 (apt-get install {package})')
+    try:
+        return importlib.import_module(LIBRARIES[kind])
+    except ImportError:
+        raise Missing(f'{LIBRARIES[kind]} for /usr/bin/python3 (apt-get install python3-{LIBRARIES[kind]})') from None
 
 
 def program() -> str:
@@ -58,21 +57,15 @@ def program() -> str:
     return path
 
 
-def missing(*needed: Callable[[], object]) -> list[str]:
-    """What is missing of these, and how to get it."""
-    lines = []
-    for need in needed:
-        try:
-            need()
-        except Missing as reason:
-            lines.append(str(reason))
-    return lines
-
-
 def kinds() -> list[str]:
     """The kinds of servers that can be started and watched here."""
-    servers = {'postgresql': postgres_folder, 'mariadb': mariadb}
-    return [kind for kind, server in servers.items() if not missing(server, lambda kind=kind: library(kind))]
+    there = []
+    for kind, server in (('postgresql', postgres_folder), ('mariadb', mariadb)):
+        with suppress(Missing):
+            server()
+            library(kind)
+            there.append(kind)
+    return there
 
 
 def a_server() -> None:
@@ -83,6 +76,12 @@ def a_server() -> None:
 
 def or_leave(*needed: Callable[[], object]) -> None:
     """Ends the program with `left out` and what is missing of these."""
-    if lines := missing(*needed):
-        print('left out: needs ' + '; '.join(lines))
+    missing = []
+    for need in needed:
+        try:
+            need()
+        except Missing as reason:
+            missing.append(str(reason))
+    if missing:
+        print('left out: needs ' + '; '.join(missing))
         raise SystemExit(LEFT_OUT)

@@ -4,13 +4,12 @@ from __future__ import annotations
 
 import os
 import pwd
-import shutil
 import signal
 import subprocess
 import tempfile
 import time
-from collections.abc import Sequence
-from contextlib import suppress
+from collections.abc import Iterable, Iterator
+from contextlib import ExitStack, closing, contextmanager, suppress
 from pathlib import Path
 from typing import Any
 
@@ -30,41 +29,30 @@ def faults() -> tuple[type[Exception], ...]:
 
 
 class Server:
-    """A server on 127.0.0.1, over a copy of empty data, which are not kept. Of each kind there is `where` a role connects, in
-    the words of the client library, and a session by `connect`: of a transaction's name, with so much patience for a lock."""
+    """A server on 127.0.0.1, with data that are not kept. Of each kind there is `where` a role connects, in the words of the
+    client library, and a session by `connect`: of a transaction's name, with so much patience for a lock."""
     kind, user, account, stops = '', '', 'account', (signal.SIGKILL,)
 
     def __init__(self, number: int, folder: Path):
-        self.number, self.log, self._port = number, folder / f'server-{number}.log', Port()
-        self.port = self._port.number
-        self.folder = folder / f'server-{number}'
+        self.number, self.folder, self.log = number, folder / f'server-{number}', folder / f'server-{number}.log'
         self._process: subprocess.Popen | None = None
-        empty = folder / f'empty-{self.kind}'
-        if not empty.exists():
-            self._make_folder(empty)
-            self._make_data(empty)
-        self._make_folder(self.folder)
-        self._run('cp', '-a', f'{empty}/.', str(self.folder))
+        self._port = Port()
+        self.port = self._port.number
+        self.folder.mkdir(0o700)
+        os.chown(self.folder, self._owner().pw_uid, self._owner().pw_gid)
+        words = self._words(*self._make_data())
+        subprocess.run(words, check=True, stdout=subprocess.DEVNULL, timeout=PATIENCE, cwd='/')
 
     def _owner(self) -> pwd.struct_passwd:
         """Servers refuse to run as root: then their own user runs them, or nobody."""
         names = {user.pw_name: user for user in pwd.getpwall()}
         return (names.get(self.user) or names['nobody']) if os.geteuid() == 0 else pwd.getpwuid(os.geteuid())
 
-    def _make_folder(self, folder: Path) -> None:
-        folder.mkdir(0o700)
-        os.chown(folder, self._owner().pw_uid, self._owner().pw_gid)
-
     def _words(self, *words: str) -> list[str]:
         """A command that runs as that user, and ends when this program ends."""
         user = self._owner()
         become = [f'--reuid={user.pw_uid}', f'--regid={user.pw_gid}', '--clear-groups'] if os.geteuid() == 0 else []
         return ['setpriv', *become, '--pdeathsig', self.stops[0].name[3:], '--', *words]
-
-    def _run(self, *words: str) -> None:
-        done = subprocess.run(self._words(*words), capture_output=True, text=True, timeout=PATIENCE, cwd='/')
-        if done.returncode != 0:
-            raise RuntimeError(f'{words[0]} failed: {done.stderr.strip()[-500:]}')
 
     def start(self) -> None:
         """Starts the server as a child, and waits until it takes connections."""
@@ -95,23 +83,21 @@ class Server:
 
     def execute(self, *statements: str) -> list[tuple]:
         """Runs statements as the owner; what the last one answers."""
-        session = self.connect(OWNER)
-        cursor = session.cursor()
-        for statement in statements:
-            cursor.execute(statement)
-        rows = list(cursor.fetchall()) if cursor.description else []
-        session.commit()
-        session.close()
-        return rows
+        with closing(self.connect(OWNER)) as session, session.cursor() as cursor:
+            for statement in statements:
+                cursor.execute(statement)
+            rows = list(cursor.fetchall()) if cursor.description else []
+            session.commit()
+            return rows
 
 
 class PostgreSQL(Server):
     kind, user = 'postgresql', 'postgres'
     stops = signal.SIGINT, signal.SIGQUIT, signal.SIGKILL
 
-    def _make_data(self, data: Path) -> None:
-        self._run(str(needs.postgres_folder() / 'initdb'), '-D', str(data), '-U', OWNER, '-A', 'trust', '-E', 'UTF8',
-                  '--no-locale', '--no-sync')
+    def _make_data(self) -> list[str]:
+        return [str(needs.postgres_folder() / 'initdb'), '-D', str(self.folder), '-U', OWNER, '-A', 'trust', '-E', 'UTF8',
+                '--no-locale', '--no-sync']
 
     def _command(self) -> list[str]:
         settings = {'listen_addresses': '127.0.0.1', 'port': self.port, 'unix_socket_directories': '', 'max_connections': 200,
@@ -142,9 +128,9 @@ class MariaDB(Server):
     kind, user, account = 'mariadb', 'mysql', 'cmh.account'
     stops = signal.SIGTERM, signal.SIGKILL
 
-    def _make_data(self, data: Path) -> None:
-        self._run('mariadb-install-db', '--no-defaults', f'--datadir={data}', '--auth-root-authentication-method=normal',
-                  '--skip-test-db', '--skip-name-resolve', '--tmpdir=/tmp')
+    def _make_data(self) -> list[str]:
+        return ['mariadb-install-db', '--no-defaults', f'--datadir={self.folder}', '--auth-root-authentication-method=normal',
+                '--skip-test-db', '--skip-name-resolve', '--tmpdir=/tmp']
 
     def _command(self) -> list[str]:
         setup = self.folder / 'setup.sql'
@@ -186,29 +172,16 @@ class MariaDB(Server):
 KINDS: dict[str, type[Server]] = {kind.kind: kind for kind in (PostgreSQL, MariaDB)}
 
 
-class Servers:
-    """Several servers of these kinds, with the roles of clients and watcher, for the time of a `with`."""
-
-    def __init__(self, kinds: Sequence[type[Server]]):
-        self._kinds = kinds
-        self._all: list[Server] = []
-        self._folder = Path()
-
-    def __enter__(self) -> list[Server]:
-        self._folder = Path(tempfile.mkdtemp(prefix='cmh-databases-'))
-        try:
-            self._folder.chmod(0o711)
-            for number, kind in enumerate(self._kinds, 1):
-                self._all.append(kind(number, self._folder))
-                self._all[-1].start()
-                self._all[-1].prepare()
-        except BaseException:
-            self.__exit__()
-            raise
-        return self._all
-
-    def __exit__(self, *_: object) -> None:
-        ending.no_more()
-        for server in self._all:
-            server.remove()
-        shutil.rmtree(self._folder, ignore_errors=True)
+@contextmanager
+def running_servers(kinds: Iterable[str]) -> Iterator[list[Server]]:
+    """Servers of these kinds, with the roles of clients and watcher, for the time of a `with`."""
+    with tempfile.TemporaryDirectory(prefix='cmh-databases-', ignore_cleanup_errors=True) as folder, ExitStack() as stack:
+        Path(folder).chmod(0o711)     # the servers' users go through it
+        servers = []
+        for number, kind in enumerate(kinds, 1):
+            servers.append(KINDS[kind](number, Path(folder)))
+            stack.callback(servers[-1].remove)
+            servers[-1].start()
+            servers[-1].prepare()
+        stack.callback(ending.no_more)
+        yield servers

@@ -7,8 +7,9 @@ so nothing has to be kept here: after a fault of a site, or of the program that 
 """
 from __future__ import annotations
 
+import select
 import time
-from collections import Counter, deque
+from collections import Counter
 from collections.abc import Callable, Hashable
 from typing import TypeVar
 
@@ -18,7 +19,7 @@ from world import World
 
 SILENCE = 2.0          # seconds after which a site that does not answer counts as lost
 RETRY = 0.25, 5.0      # seconds until a lost one is tried again, at first and at most
-UNKNOWN = object()     # the mark of a wait that a site has and this program does not
+UNKNOWN = object()     # the mark of a wait that a site has and this program does not: it is no other mark
 
 Answer = TypeVar('Answer')
 
@@ -35,7 +36,7 @@ class Sites:
         self._told: dict[int, dict[int, Hashable]] = {}     # of each process that waits: for whom, and the marks
         self._leaving: dict[int, set[int]] = {}             # of each process: whom it can't ask again yet
         self._declared: set[int] = set()                    # all that are declared now, and maybe others
-        self._free = {site: deque(processes) for site, processes in world.processes.items()}
+        self._busy: set[int] = set()                        # processes that stand in a wait, or did so just now
         self.process: dict[Agent, int] = {}                 # that stands for an agent
         self._agent: dict[int, Agent] = {}
         self.told_at: dict[Agent, float] = {}               # the newest ask of an agent
@@ -104,7 +105,7 @@ class Sites:
         lines = []
         for process in [process for process in self._told if self._home[process] == site]:
             marks = {self.process.get(holder): wait.mark for holder, wait in waits.get(self._agent.get(process), {}).items()}
-            gone = {other for other, mark in self._told[process].items() if mark is UNKNOWN or mark != marks.get(other)}
+            gone = {other for other, mark in self._told[process].items() if mark != marks.get(other)}
             if gone:
                 lines.append(' '.join(map(str, ['withdraw', process, *sorted(gone)])))
                 self._leaving[process] |= {other for other in gone if self._home[other] != site}
@@ -134,7 +135,7 @@ class Sites:
         return lines
 
     def _give_back(self, waits: Waits) -> None:
-        """Processes of agents that are in no wait any more. Behind all others, so that a process rests before it is taken."""
+        """Processes of agents that are in no wait any more."""
         used = waits.keys() | {holder for holders in waits.values() for holder in holders}
         waited_for = {other for others in (*self._told.values(), *self._leaving.values()) for other in others}
         self._busy = waited_for | self._told.keys() | {process for process, others in self._leaving.items() if others}
@@ -142,13 +143,11 @@ class Sites:
             if agent not in used and process not in self._busy:
                 del self.process[agent], self._agent[process]
                 self.told_at.pop(agent, None)
-                self._free[agent.server].append(process)
 
     def _allot(self, agent: Agent) -> int | None:
         """The process of an agent, or None where none is free. One that still stands in a wait of before is none."""
-        free = self._free[agent.server]
-        if agent not in self.process and (process := next((each for each in free if each not in self._busy), None)):
-            free.remove(process)
+        free = (each for each in self._rows[agent.server] if each not in self._agent and each not in self._busy)
+        if agent not in self.process and (process := next(free, None)):
             self.process[agent], self._agent[process] = process, agent
         return self.process.get(agent)
 
@@ -173,7 +172,7 @@ class Sites:
     def wait(self, end: float) -> None:
         """Until somebody is declared, or this moment."""
         while not self._hear_all() and (left := end - time.monotonic()) > 0:
-            time.sleep(min(0.002, left))
+            select.select([client.owner for client in self._clients.values()], [], [], left)
 
     def deadlocked(self) -> list[Agent]:
         """The agents whose processes are declared. Whether a cycle is there now, their waits tell."""

@@ -2,7 +2,6 @@
 from __future__ import annotations
 
 from collections.abc import Hashable, Iterable
-from contextlib import suppress
 from types import ModuleType
 from typing import Any, NamedTuple
 
@@ -90,17 +89,11 @@ class Server:
         except self._library.Error as error:
             if self._is_denied(error):
                 raise NotAllowed(first_line(error)) from error
-            self.close()
+            self._connection = None     # its last reference closes it
             raise Unreachable(first_line(error)) from error
 
     def _named(self) -> dict[int, str]:
         return {session: name.removeprefix(PREFIX) for session, name in self._query(self._names) if name.startswith(PREFIX)}
-
-    def close(self) -> None:
-        connection, self._connection = self._connection, None
-        with suppress(self._library.Error):     # it may be lost
-            if connection is not None:
-                connection.close()
 
 
 def first_line(error: Exception) -> str:

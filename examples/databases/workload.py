@@ -9,6 +9,7 @@ from __future__ import annotations
 import random
 import threading
 import time
+from collections.abc import Callable, Collection
 from dataclasses import dataclass, field
 from typing import Any, NamedTuple
 
@@ -33,7 +34,7 @@ class Note(NamedTuple):
     """What a client notes of a row or of its transaction: `want`, `got`, `end` right before its commits or rollbacks, then
     `committed` or `aborted`, with the server's word for the fault."""
     at: float
-    client: int
+    client: str
     what: str
     row: Row | None = None
     fault: str = ''
@@ -49,59 +50,55 @@ class Log:
 
 
 class Client:
-    """A client with a session at each server, one transaction after the other."""
+    """A client with a session at each server, one transaction after the other. Its name is that of its transactions."""
 
-    def __init__(self, number: int, servers: list[Server], load: Load, log: Log):
-        self._number, self._servers, self._load, self._log = number, servers, load, log
-        self._random = random.Random(1000 + number)
-        self._rows = [Row(server.number, row) for server in servers for row in range(1, load.rows + 1)]
+    def __init__(self, name: str, servers: list[Server], hear: Callable[[Note], None], timeout_ms: int = 0):
+        self._name, self._hear, self._timeout_ms = name, hear, timeout_ms
+        self._servers = {server.number: server for server in servers}
         self._sessions: dict[int, Any] = {}
         self._faults = faults()
 
-    def run(self, end: float) -> None:
-        while time.time() < end:
-            self._transaction()
-        for session in self._sessions.values():
-            session.close()
+    def transact(self, rows: Collection[Row], think: Callable[[], None] = lambda: None) -> bool:
+        """Updates these rows, and thinks after each. Whether it committed everywhere; else it rolled back everywhere."""
+        try:
+            for row in rows:
+                session = self._session(row.server)
+                self._note('want', row)
+                session.cursor().execute(
+                    f'update {self._servers[row.server].account} set value = value + 1 where id = %s', (row.number,))
+                self._note('got', row)
+                think()
+            self._note('end')
+            for server in dict.fromkeys(row.server for row in rows):
+                self._sessions[server].commit()
+            self._note('committed')
+            return True
+        except self._faults as fault:
+            self._note('end')
+            self._roll_back()
+            self._note('aborted', fault=_word(fault))
+            return False
 
     def _note(self, what: str, row: Row | None = None, fault: str = '') -> None:
-        self._log.notes.append(Note(time.time(), self._number, what, row, fault))
+        self._hear(Note(time.time(), self._name, what, row, fault))
 
     def _session(self, server: int) -> Any:
         """The session at a server; a new one after one was lost."""
         if server not in self._sessions:
-            self._sessions[server] = self._servers[server - 1].connect(CLERK, f'gt:{self._number}', self._load.timeout_ms)
+            self._sessions[server] = self._servers[server].connect(CLERK, f'gt:{self._name}', self._timeout_ms)
         return self._sessions[server]
 
-    def _transaction(self) -> None:
-        rows = dict.fromkeys(self._random.choice(self._rows) for _ in range(self._random.randint(2, 3)))
-        used: list[int] = []
-        try:
-            for row in rows:
-                session = self._session(row.server)
-                used.append(row.server)
-                self._note('want', row)
-                session.cursor().execute(f'update {self._servers[row.server - 1].account} set value = value + 1 where id = %s',
-                                         (row.number,))
-                self._note('got', row)
-                time.sleep(self._random.uniform(0.002, self._load.think))
-            self._note('end')
-            for server in dict.fromkeys(used):
-                self._sessions[server].commit()
-            self._note('committed')
-        except self._faults as fault:
-            self._note('end')
-            self._roll_back(used)
-            self._note('aborted', fault=_word(fault))
-            time.sleep(self._random.uniform(0, 0.05))
-
-    def _roll_back(self, used: list[int]) -> None:
-        """Rolls back everywhere. A session that can't is lost, and its transaction with it."""
-        for server in dict.fromkeys(used):
+    def _roll_back(self) -> None:
+        """A session that can't roll back is lost, and its transaction with it."""
+        for server, session in list(self._sessions.items()):
             try:
-                self._sessions[server].rollback()
+                session.rollback()
             except self._faults:
                 del self._sessions[server]
+
+    def close(self) -> None:
+        for session in self._sessions.values():
+            session.close()
 
 
 def _word(fault: Exception) -> str:
@@ -111,15 +108,25 @@ def _word(fault: Exception) -> str:
 
 
 class Workload:
-    """Clients at work, each in a thread of its own."""
+    """Clients at work, each in a thread of its own. What they draw by chance is another thing for each number."""
 
-    def __init__(self, servers: list[Server], load: Load, seconds: float):
+    def __init__(self, servers: list[Server], load: Load, seconds: float, number: int = 1):
         self.log = Log(seconds)
-        self._end = time.time() + seconds
-        clients = [Client(number, servers, load, self.log) for number in range(load.clients)]
-        self._threads = [threading.Thread(target=client.run, args=(self._end,), daemon=True) for client in clients]
+        self._servers, self._load, self._end = servers, load, time.time() + seconds
+        self._rows = [Row(server.number, row) for server in servers for row in range(1, load.rows + 1)]
+        self._threads = [threading.Thread(target=self._work, args=(client, number), daemon=True)
+                         for client in range(load.clients)]
         for thread in self._threads:
             thread.start()
+
+    def _work(self, name: int, number: int) -> None:
+        client = Client(str(name), self._servers, self.log.notes.append, self._load.timeout_ms)
+        chance = random.Random(1000 * number + name)
+        while time.time() < self._end:
+            rows = dict.fromkeys(chance.choices(self._rows, k=chance.randint(2, 3)))
+            if not client.transact(rows, lambda: time.sleep(chance.uniform(0.002, self._load.think))):
+                time.sleep(chance.uniform(0, 0.05))
+        client.close()
 
     def finish(self, patience: float) -> Log:
         """Waits for the clients' last transactions; who has not come to an end after `patience` seconds more, hangs."""

@@ -5,16 +5,17 @@ from __future__ import annotations
 import json
 import subprocess
 from collections.abc import Sequence
-from dataclasses import dataclass
 from pathlib import Path
+from typing import NamedTuple
 
 import needs
+
+import cmh
 
 AT_A_SITE, IN_A_WORLD = 256, 4096    # processes, at most
 
 
-@dataclass(frozen=True)
-class Audit:
+class Audit(NamedTuple):
     """What the auditor says of the journals of all sites."""
     accepted: bool
     events: int
@@ -44,11 +45,7 @@ class World:
         world = cls(folder)
         for site in world.doors:
             world.journal(site).mkdir()
-            with subprocess.Popen([*world.command(site), '--new'], stdout=subprocess.PIPE, text=True) as first:
-                listens = first.stdout and first.stdout.readline()
-                first.terminate()
-            if listens != 'listening\n':
-                raise OSError(f'site {site} does not begin')
+            cmh.Site.run(str(world.topology), site, str(world.journal(site)), needs.program(), '--new').close()
         return world
 
     def journal(self, site: int) -> Path:
