@@ -20,9 +20,10 @@
  * COUNTS     After 0 *count is how much of `out` was written, and the rest of `out` is as it was. There is one exception:
  *            the calls `_declared`, `_waits`, `_owed` and `_leaving` of a site count how many processes there are, which may
  *            be more than `out` has room for.
- * CODES      0 is success. After any other code nothing has changed: neither the handle nor what was lent. There are two
- *            exceptions: a reader keeps the fault of its link; and after CMH_SHORT cmh_audit, cmh_site3_step,
- *            cmh_site3_prepare and cmh_entry3_sendings tell by *count how much room they need.
+ * CODES      0 is success. After any other code nothing has changed: neither the handle nor what was lent. There are three
+ *            exceptions: a reader keeps the fault of its link; after CMH_SHORT cmh_audit, cmh_site3_step, cmh_site3_prepare,
+ *            cmh_entry3_sendings and cmh_journal3_sent tell by *count how much room they need; and cmh_site3_open tells by
+ *            *place where a journal is at fault.
  *            Where several codes fit, the answer is the first that holds, in the order in which the call names them;
  *            CMH_NO_MEMORY may come instead.
  * THREADS    A handle is in one call at a time; different handles may be in calls of different threads at once. A handle
@@ -65,7 +66,7 @@ enum {
     CMH_ALREADY_DECLARED = 7,
     CMH_UNLAWFUL = 8,
     CMH_NO_MEMORY = 11,
-    CMH_JOURNAL_FULL = 12, /* it holds 1,000,000 entries */
+    CMH_JOURNAL_FULL = 12, /* it holds 1,000,000 entries; of cmh_site3_open: more */
 
     /* Those of edition 3 alone. */
     CMH_LEAVING = 14,       /* an ask names a process that the asker is leaving */
@@ -98,7 +99,17 @@ enum {
     CMH_WRONG_SITE = 43,
 
     /* What only a caller with a site of edition 3 can get wrong. */
-    CMH_NO_WORLD = 50 /* the number of a world has not 16 bytes */
+    CMH_NO_WORLD = 50, /* the number of a world has not 16 bytes */
+
+    /* The faults of a journal of edition 3. */
+    CMH_NO_SEGMENT = 51,     /* the bytes do not begin with the whole head of a segment */
+    CMH_DAMAGED = 52,        /* what stands behind its good entries is not the rest of one append */
+    CMH_OTHER_SEGMENT = 53,  /* it is of another site or world, or does not begin with its world */
+    CMH_UNLAWFUL_ENTRY = 54, /* an entry is not what the rules make of its event */
+
+    /* Why a link of edition 3 does not go on: 60 and the refusal's number in docs/formats.md. */
+    CMH_MORE_THAN_SENT = 67, /* the other site got more messages than this journal sends: this journal lacks entries */
+    CMH_OTHER_MESSAGES = 68  /* it got others than this journal sends: this journal is of another history */
 };
 
 /* ---- a site ---- */
@@ -313,6 +324,47 @@ cmh_code cmh_entry3_sendings(const uint8_t *entry, size_t entry_len, cmh_sending
  * withdraw: then the deadlock has ended.
  * Codes: NO_SPELLING. */
 cmh_code cmh_entry3_declared(const uint8_t *entry, size_t entry_len, uint16_t *process, uint64_t *stamp);
+
+/* ---- a site of edition 3 that starts again, and its links ----
+ *
+ * A site that ended, however it ended, goes on with its journal, and so do its links. What that takes stands in the journal
+ * alone: these calls take the bytes of its file, and keep nothing. A call takes about as long as reading the file.
+ *
+ *   read the file  ->  cmh_site3_open  ->  cut the file at *place, write its end once more, sync  ->  then step, send and tell
+ *
+ * A link goes on where the receiver says. When a connection is made the receiver tells what cmh_journal3_got says: how many of
+ * the sender's messages are in its journal, and their mark. The sender writes what cmh_journal3_sent gives, and then the
+ * messages of its further entries, as they are kept. So each message comes once and in order, whoever was killed, and whatever
+ * connection was cut, if three things are so: what is told or sent stands in a journal that is synced; a receiver that has told
+ * its count on a new connection takes no more messages from an older one; and the disk keeps what was synced. Between sites
+ * that run `cmh` the count and the mark stand in the answer to a hello (docs/formats.md).
+ */
+
+/* Opens the site on the bytes of its journal: it stands where the entries lead, and its next entry goes behind them. An entry
+ * that stands there whole was kept, also one whose step was never answered. What world and rows are says cmh_site3_new.
+ * *place is how many of the bytes are the journal. Those behind are what one append left that did not end: cut the file there.
+ * Nothing may be sent or told before this is done: the file is cut, the last bytes of the journal are written once more over
+ * themselves, and the file is synced. As many have to be written as were appended between two syncs at most; where that was one
+ * entry, cmh_site3_entry_max() are enough. A sync alone is not: after one that failed it may succeed for nothing.
+ * After CMH_DAMAGED *place is the offset of the damage, and after CMH_UNLAWFUL_ENTRY the number of the entry, counted from 1:
+ * then cut nothing, since it is not the journal that this site wrote.
+ * Codes: OPEN, NO_WORLD, NO_ROWS, TOPOLOGY_.., NOT_HERE, NO_SEGMENT, DAMAGED, OTHER_SEGMENT, UNLAWFUL_ENTRY, JOURNAL_FULL. */
+cmh_code cmh_site3_open(cmh_site3 *site, const uint8_t *world, size_t world_len, const uint16_t *rows, size_t rows_len,
+                        uint16_t number, const uint8_t *journal, size_t journal_len, uint64_t *place);
+
+/* Tells how many messages of site `from` the journal has got, and the mark of their bytes. What stands behind its last whole
+ * entry is not looked at, if it can be cut.
+ * Codes: NO_NUMBER, NO_SEGMENT, DAMAGED, OTHER_SEGMENT. */
+cmh_code cmh_journal3_got(const uint8_t *journal, size_t journal_len, uint16_t from, uint64_t *count, uint64_t *mark);
+
+/* Writes the messages that the journal sends to site `to`, but for those that this site has got: the first `got`, which have
+ * this mark. They stand one after the other, in the order in which they are to be sent. *count is how many bytes there are,
+ * and after SHORT how many there would be.
+ * After MORE_THAN_SENT and OTHER_MESSAGES the journal is not the newest one of its site: an old copy was put back, or two sites
+ * ran on copies of it. Tell the other site, and let this one take no more steps.
+ * Codes: NO_NUMBER, NO_SEGMENT, DAMAGED, OTHER_SEGMENT, MORE_THAN_SENT, OTHER_MESSAGES, SHORT. */
+cmh_code cmh_journal3_sent(const uint8_t *journal, size_t journal_len, uint16_t to, uint64_t got, uint64_t mark, uint8_t *out,
+                           size_t out_len, size_t *count);
 
 #ifdef __cplusplus
 }

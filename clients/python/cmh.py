@@ -16,7 +16,7 @@ from subprocess import PIPE, Popen
 
 REFUSALS = {1: 'unknown process', 2: 'not here', 3: 'bad targets', 4: 'blocked', 5: 'not blocked', 6: 'not owed',
             7: 'already declared', 8: 'unlawful', 9: 'sealed', 10: 'disk', 11: 'out of memory', 12: 'journal full',
-            13: 'behind', 14: 'leaving', 15: 'already waits', 16: 'not waiting', 17: 'clock spent'}
+            13: 'behind', 14: 'leaving', 15: 'already waits', 16: 'not waiting', 17: 'clock spent', 18: 'waits for its peers'}
 
 
 class Ended(Exception):
@@ -57,9 +57,10 @@ class Site:
         self._rest = b''                     # what has come after the last whole line
 
     @classmethod
-    def run(cls, topology: str, site: int, journal: str, program: str = 'cmh') -> Site:
-        """Starts `cmh site`, which ends with this program at the latest. Once all sites listen, `connect` each."""
-        words = [program, 'site', '--topology', topology, '--site', str(site), '--journal', journal]
+    def run(cls, topology: str, site: int, journal: str, program: str = 'cmh', *more: str) -> Site:
+        """Starts `cmh site`, which ends with this program at the latest. Once all sites listen, `connect` each; those of edition
+        3 connect by themselves, and the first start of one takes `--new` at the end."""
+        words = [program, 'site', '--topology', topology, '--site', str(site), '--journal', journal, *more]
         child = Popen(words, bufsize=0, stdin=PIPE, stdout=PIPE, stderr=PIPE, start_new_session=True)
         running = cls(child, child.stdout.fileno(), child.stdin.fileno())
         running.receive()                    # `listening`; else Ended, with the site's fault
@@ -284,8 +285,8 @@ class Site3(Site):
         return True
 
     def became(self, line: str) -> bool | None:
-        """Whether an event in doubt took place, as far as `waits`, `owed` and `leaving` tell; None where they don't. The
-        journal, `cmh show DIR`, has all that did."""
+        """Whether an event in doubt took place, as far as `waits`, `owed` and `leaving` tell; None where they don't. What did
+        is among the last entries, which `tail` tells."""
         verb, process, *others = line.split()
         named = {int(word) for word in others}
         if verb == 'ask':                       # what isn't waited for may have been granted since
@@ -298,6 +299,20 @@ class Site3(Site):
                 return False
             return True if named & set(self.leaving(int(process))) else None
         return None
+
+    def tail(self, count: int) -> list[str]:
+        """The last entries of the site's journal, at most 1,000, each with its number and in the words of `cmh show`. An event
+        that was `Refused` 10, or is in doubt, is among them where it took place."""
+        return self._again(lambda: self._tail(count))
+
+    def _tail(self, count: int) -> list[str]:
+        self.send(f'tail {count}')
+        lines: list[str] = []
+        while (line := self.receive()) != 'ok':
+            if not line[:1].isdigit():
+                words_of(line, f'tail {count}')
+            lines.append(line)
+        return lines
 
     def withdraw(self, process: int, holders: Iterable[int] = ()) -> None:
         """The process gives up its waits for these, or all of its waits."""

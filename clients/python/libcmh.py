@@ -1,4 +1,5 @@
-"""The proved core of cmh as a library, for Python 3.10 and later: `Site`, `Site3`, `Reader` and `audit` over include/cmh.h.
+"""The proved core of cmh as a library, for Python 3.10 and later: `Site`, `Site3`, `got3`, `sent3`, `Reader` and `audit` over
+include/cmh.h.
 
 `scripts/library/build` makes the shared library. It is found where LIBCMH names it, else at out/library/libcmh.so, else
 where the system looks for libraries. Nothing here reads a file, opens a socket or starts a thread. An object is used by
@@ -22,19 +23,22 @@ CODES = {1: 'unknown process', 2: 'not here', 3: 'bad targets', 4: 'blocked', 5:
          26: 'an entry is prepared', 27: 'no entry is prepared', 28: 'not the number of a site', 29: 'no such frame',
          30: 'lengths that do not fit', 31: 'too many sites or processes', 32: 'a site has two rows',
          33: 'a process is named twice', 34: 'not the number of a site or a process', 41: 'bad hello', 42: 'bad frame',
-         43: 'hello of another site', 50: 'not the number of a world'}
+         43: 'hello of another site', 50: 'not the number of a world', 51: 'not a segment', 52: 'a damaged journal',
+         53: 'the journal of another site or world', 54: 'an unlawful entry', 67: 'more was got than sent',
+         68: 'other messages were got'}
 VERSION, HEADER_LEN, HELLO_LEN, FRAME_LEFT, ENTRY_MAX, PROCESSES_MAX = 0x00010000, 7, 6, 6, 20881, 64
 WORLD_LEN, HEAD_LEN_3 = 16, 71
 SONAME = f'libcmh.so.{VERSION >> 24}.{VERSION >> 16 & 0xFF}'
-BAD_TARGETS, NOT_WAITING, SHORT, NO_SENDING = 3, 16, 21, 29
+BAD_TARGETS, NOT_WAITING, SHORT, NO_SENDING, DAMAGED, UNLAWFUL_ENTRY = 3, 16, 21, 29, 52, 54
 
 
 class Refused(Exception):
-    """The library refused the call, and nothing changed; `code` is of include/cmh.h."""
+    """The library refused the call, and nothing changed; `code` is of include/cmh.h. `place` is where a journal is at fault:
+    after code 52 the offset of the damage, and after 54 the number of the entry, from 1."""
 
-    def __init__(self, code: int):
-        super().__init__(f'code {code}: {CODES.get(code, "unknown")}')
-        self.code = code
+    def __init__(self, code: int, place: int | None = None):
+        super().__init__(f'code {code}: {CODES.get(code, "unknown")}' + ('' if place is None else f' at {place}'))
+        self.code, self.place = code, place
 
 
 def _fitting(number: int, most: int = 0xFFFF) -> int:
@@ -80,6 +84,7 @@ _CALLS = {
     'cmh_site_waits': [_HANDLE, _Word, _WORDS, c_size_t, _COUNT],
     'cmh_site_owed': [_HANDLE, _Word, _WORDS, c_size_t, _COUNT],
     'cmh_site3_new': [_HANDLE, *_IN, _WORDS, c_size_t, _Word],
+    'cmh_site3_open': [_HANDLE, *_IN, _WORDS, c_size_t, _Word, *_IN, POINTER(c_uint64)],
     'cmh_site3_head': [_HANDLE, *_OUT],
     'cmh_site3_prepare': [_HANDLE, *_IN, *_OUT, _COUNT],
     'cmh_site3_keep': [_HANDLE],
@@ -90,6 +95,8 @@ _CALLS = {
     'cmh_site3_leaving': [_HANDLE, _Word, _WORDS, c_size_t, _COUNT],
     'cmh_entry3_sendings': [*_IN, POINTER(_Sending), c_size_t, _COUNT],
     'cmh_entry3_declared': [*_IN, _WORDS, POINTER(c_uint64)],
+    'cmh_journal3_got': [*_IN, _Word, POINTER(c_uint64), POINTER(c_uint64)],
+    'cmh_journal3_sent': [*_IN, _Word, c_uint64, c_uint64, *_OUT, _COUNT],
     'cmh_entry_sending': [_Byte, *_IN, c_size_t, POINTER(_Sending)],
     'cmh_entry_declared': [_Byte, *_IN, _WORDS],
     'cmh_reader_new': [_HANDLE, _Byte, _WORDS, c_size_t],
@@ -293,14 +300,25 @@ class Site(_Site):
 
 
 class Site3(_Site):
-    """The controller of one site of edition 3, before its first step: a blocked process may ask for more, and a process may
-    withdraw its waits, so a deadlock ends."""
+    """The controller of one site of edition 3, before its first step, or by `open` where its journal ends: a blocked process may
+    ask for more, and a process may withdraw its waits, so a deadlock ends."""
     _calls = 'cmh_site3_'
 
     def __init__(self, world: bytes, rows: Mapping[int, Sequence[int]], number: int):
         """Opens site `number` of the world with this number, 16 bytes, in which each site of `rows` has these processes."""
         self._begin(4096)
         _call('cmh_site3_new', byref(self._handle), world, len(world), *_rows(rows), number)
+
+    @classmethod
+    def open(cls, world: bytes, rows: Mapping[int, Sequence[int]], number: int, journal: bytes) -> tuple[Site3, int]:
+        """Opens the site on its journal, and tells how many of these bytes are the journal: cut the file there. Before anything is
+        sent or told, write the last bytes of the journal once more over themselves, `entry_max()` of them or all, and sync."""
+        site, place = cls.__new__(cls), c_uint64()
+        site._begin(4096)
+        code = _library.cmh_site3_open(byref(site._handle), world, len(world), *_rows(rows), number, journal, len(journal), byref(place))
+        if code:
+            raise Refused(code, place.value if code in (DAMAGED, UNLAWFUL_ENTRY) else None)
+        return site, place.value
 
     def head(self) -> bytes:
         """The bytes with which the journal begins."""
@@ -337,6 +355,34 @@ class Site3(_Site):
         except BaseException:
             self.drop()
             raise
+
+
+def entry_max() -> int:
+    """How many bytes the longest entry of edition 3 has."""
+    return _library.cmh_site3_entry_max()
+
+
+def got3(journal: bytes, sender: int) -> tuple[int, int]:
+    """How many messages of this site a journal of edition 3 has got, and the mark of their bytes: tell both to that site when a
+    connection is made."""
+    count, mark = c_uint64(), c_uint64()
+    _call('cmh_journal3_got', journal, len(journal), sender, byref(count), byref(mark))
+    return count.value, mark.value
+
+
+def sent3(journal: bytes, to: int, count: int, mark: int) -> bytes:
+    """The messages that a journal of edition 3 sends to this site, but for the first `count`, which the site has got, as the mark
+    confirms: write them to the connection, and then those of further entries."""
+    room, len_ = 4096, c_size_t()
+    while True:
+        out = (c_uint8 * room)()
+        code = _library.cmh_journal3_sent(journal, len(journal), to, count, mark, out, room, byref(len_))
+        if code == SHORT:
+            room = len_.value
+        elif code:
+            raise Refused(code)
+        else:
+            return bytes(out[:len_.value])
 
 
 class Reader:

@@ -142,6 +142,13 @@ def without_sockets(noted, folder):
                  *(('audit', ['audit', *more, '--topology', topology, *journals], '') for more in ([], ['--why'], ['--run'])),
                  *(('draw', ['draw', *more, '--topology', topology, *journals], '') for more in ([], ['--kind', 'run'], ['--page']))]
     runs.append(('play', ['play', '--page', os.path.join(folder, 'page')], 'edition 2\n' + SCRIPT))
+
+    # A cluster of edition 3 carries all messages itself.
+    script, out = os.path.join(folder, 'script'), os.path.join(folder, 'out')
+    with open(script, 'w') as file:
+        file.write('ask 1 2\nask 2 1\n')
+    os.mkdir(out)
+    runs.append(('cluster', ['cluster', '--topology', os.path.join(folder, 'topology-3'), '--script', script, '--out', out], ''))
     return [(name, words, noted.run(*words, said=said)) for name, words, said in runs]
 
 
@@ -152,7 +159,7 @@ def each_command(program):
         ended = without_sockets(noted, folder)
         for name, words, done in ended:
             yield '%s ends well: %s' % (' '.join(words), done.stderr), done.returncode == 0
-        yield 'play, audit, show, draw and new-world make no socket: %s' % noted.notes(), noted.notes() == []
+        yield 'play, audit, show, draw, new-world and a cluster of edition 3 make no socket: %s' % noted.notes(), noted.notes() == []
         tried = {name for name, _, _ in ended} | {'site', 'serve', 'cluster'}
         yield 'all commands are tried', commands_of(noted) == tried
         ports = []
@@ -167,6 +174,10 @@ def each_command(program):
             for service in world.up_all().values():
                 service.await_links()
             ports += [port.number for port in [*world.ports.values(), *world.doors.values()]]
+        with World3([noted.path], PAIR) as world:
+            done = noted.run('site', '--topology', world.topology(1), '--site', '1', '--journal', world.folder(1), '--new', said='quit\n')
+            yield 'the site of edition 3 ends well: %s' % done.stderr, done.returncode == 0
+            ports.append(world.ports[1].number)
         with World(noted.path, RING, edition=2) as world:
             with open(world.path('script'), 'w') as file:
                 file.write('ask 1 2\n')

@@ -322,26 +322,6 @@ def silent_peers3(program):
         yield 'its link rests', site.links()['in', 2] == 'resting'
 
 
-def unanswered_notes(program):
-    """Where nothing is sent, a receiver that acknowledges no note is dialled again within 15 s. Only where it is named."""
-    with World3(program, PAIR) as world, listener(world, 2) as made:
-        site = world.up(1)
-        end = accepted(made)
-        end.hear(wire3.HELLO)
-        end.say(wire3.answer(world.world, 2, 1, 0, wire3.EMPTY_MARK))
-        begin = time.monotonic()
-        yield 'a note', end.hear_item() == ('note', 0)
-        made.settimeout(25)
-        try:
-            end = accepted(made)
-        except TimeoutError:
-            yield 'it is dialled again', False
-            return
-        yield 'after 15 s: %.1f' % (time.monotonic() - begin), 14 < time.monotonic() - begin < 18
-        end.hear(wire3.HELLO)
-        yield 'the link is down meanwhile', site.links()['out', 2] == 'down 0'
-
-
 def alien_answers(program):
     """Answers of another world, from or to another site, or with no name are none: the connection is dialled again."""
     with World3(program, PAIR) as world, listener(world, 2) as made:
@@ -452,5 +432,5 @@ def sent_mark(world, count):
     return wire3.mark_of(b''.join(wire3.message(frame) for frame in frames[:count]))
 
 
-SLOW = [silent_peers3, unanswered_notes]
+SLOW = [silent_peers3]
 PEERS = [bad_hellos, sender_that_resumes, stale_connections, lying_sender, later_epochs, lying_receiver, refusing_receiver, alien_answers, acknowledged_is_synced]

@@ -2,7 +2,7 @@
 """The trials of running sites of edition 3: sites that are killed and start again, links that are cut and resume, disks that
 lose what was not synced, journals that don't fit, and peers that lie.
 
-    scripts/sites/resuming.py [PROGRAM|--fake] [--long] [TRIAL..]
+    scripts/sites/resuming.py [[--binary] PROGRAM|--fake] [--long] [TRIAL..]
     scripts/sites/resuming.py --wrong [MISTAKE..]
 
 PROGRAM: crates/cmh/out/cmh unless given; `--fake` tries the trials on the small site of fake3.py. All trials end within a
@@ -22,6 +22,7 @@ import time
 import traceback
 
 import wire3
+from audits3 import AUDITS
 from clients3 import CLIENTS
 from fake3 import MISTAKES
 from peers3 import PEERS, SLOW
@@ -370,20 +371,21 @@ def damaged_journals(program):
 def full_disk_and_room(program):
     """At a full disk an event is refused with 10 and then with 9; a restart with room knows what became of it, and goes on."""
     with World3(program, PAIR) as world:
-        other = world.up(2)
         site = world.up(1, limit=of_size(2000))
         clients = [Noting(world, 1, PAIR[1], 7)]
         clients[0].start()
-        wait_until(lambda: site.status()['sealed'] == 'yes', 'a full disk')
+        wait_until(lambda: any(answer == 'refused 10' for _, answer in clients[0].notes), 'an event in doubt')  # site 2 is down
+        yield 'and the site is sealed', site.status()['sealed'] == 'yes'
         yield 'questions are answered', site.ask('waits', 1).startswith('waits 1')
         yield 'no event is taken', site.ask('start', 1) == 'refused 9'
+        other = world.up(2)
         other.await_link('out', 1, 'down')
         yield 'the peer is not', other.status()['sealed'] == 'no' and other.ask('ask', 2, 4).startswith('ok')
         site.kill()
         running = {1: world.up(1), 2: other}
         wait_until(lambda: clients[0].answered() > 100, 'events after it')
         yield from judged(world, running, clients)
-        yield 'one was in doubt', any(answer == 'refused 10' for _, answer in clients[0].notes)
+        yield 'one was in doubt', sum(answer == 'refused 10' for _, answer in clients[0].notes) == 1
 
 
 # ---- a peer that is down
@@ -464,7 +466,7 @@ def wait_long(holds, what):
     raise Missed(what)
 
 
-TRIALS = [*CLIENTS, killed_sites, cut_connections, power_cuts, answers_last, model_peer, full_disk_and_room, starts, peer_down, old_backup, receiver_lacks, folders_in_use, other_worlds, damaged_journals,
+TRIALS = [*CLIENTS, *AUDITS, killed_sites, cut_connections, power_cuts, answers_last, model_peer, full_disk_and_room, starts, peer_down, old_backup, receiver_lacks, folders_in_use, other_worlds, damaged_journals,
           *PEERS]
 LONG = [behind, *SLOW]
 SIDE_BY_SIDE = 4  # trials: most of them wait
@@ -514,6 +516,8 @@ def main(words):
         effort.times = 20
         allow(3600)
     program = os.path.join(HERE, '..', '..', 'crates', 'cmh', 'out', 'cmh')
+    if words[:1] == ['--binary']:
+        words = words[1:]
     if words and words[0] == '--fake':
         program, words = FAKE, words[1:]
     elif words and os.path.exists(words[0]):

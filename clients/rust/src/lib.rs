@@ -1,4 +1,5 @@
-//! The proved core of cmh, safe to call: [`Site`], [`Site3`], [`Reader`] and [`audit`] over `include/cmh.h`.
+//! The proved core of cmh, safe to call: [`Site`], [`Site3`], [`got3`], [`sent3`], [`Reader`] and [`audit`] over
+//! `include/cmh.h`.
 //!
 //! Nothing here reads a file, opens a socket or starts a thread. The bytes are those of `docs/formats.md`, and
 //! `docs/library.md` has a complete loop. A site or a reader may go to another thread, but it is in one call at a time:
@@ -11,10 +12,12 @@
 
 use std::{error, fmt, result};
 
+mod journal3;
 mod raw;
 mod site3;
 
-pub use site3::{Declaration, Entry3, Prepared3, Site3, World};
+pub use journal3::{got3, sent3, Got3};
+pub use site3::{entry_max, Declaration, Entry3, Prepared3, Site3, World};
 
 /// Why a call was refused. Nothing has changed then, but that a [`Reader`] keeps the fault of its link.
 #[derive(Clone, Copy, Debug, PartialEq, Eq)]
@@ -41,8 +44,26 @@ pub enum Error {
     Topology(u32),
     /// The stream is no link of a sender: the fault's number in `docs/formats.md`.
     Link(u32),
+    /// What is wrong with a journal of edition 3.
+    Journal(JournalFault),
+    /// A link of edition 3 does not go on: the refusal's number in `docs/formats.md`, 7 or 8. The journal is not the newest
+    /// one of its site, which takes no more steps.
+    Mismatch(u32),
     /// A code that this crate does not know.
     Other(u32),
+}
+
+/// What is wrong with a journal of edition 3. Nothing of it is to be cut.
+#[derive(Clone, Copy, Debug, PartialEq, Eq)]
+pub enum JournalFault {
+    /// The bytes do not begin with the whole head of a segment.
+    NoSegment,
+    /// What stands behind its good entries is not the rest of one append. `Site3::open` says where: at this offset.
+    Damaged(Option<u64>),
+    /// It is of another site or world, or does not begin with its world.
+    OtherSegment,
+    /// The entry of this number, counted from 1, is not what the rules make of its event.
+    UnlawfulEntry(u64),
 }
 
 pub type Result<T> = result::Result<T, Error>;
@@ -61,6 +82,10 @@ impl Error {
             28 => Error::Number,
             31..=34 => Error::Topology(code - 30),
             41..=43 => Error::Link(code - 40),
+            raw::NO_SEGMENT => Error::Journal(JournalFault::NoSegment),
+            raw::DAMAGED => Error::Journal(JournalFault::Damaged(None)),
+            raw::OTHER_SEGMENT => Error::Journal(JournalFault::OtherSegment),
+            67 | 68 => Error::Mismatch(code - 60),
             code => Error::Other(code),
         }
     }
@@ -80,7 +105,25 @@ impl fmt::Display for Error {
             Error::Number => write!(f, "the number of a site is not from 1 to 9999"),
             Error::Topology(number) => write!(f, "topology fault {number}"),
             Error::Link(number) => write!(f, "link fault {number}"),
+            Error::Journal(fault) => write!(f, "{fault}"),
+            Error::Mismatch(number) => write!(f, "the link does not go on: refusal {number}"),
             Error::Other(code) => write!(f, "code {code}"),
+        }
+    }
+}
+
+impl fmt::Display for JournalFault {
+    fn fmt(&self, f: &mut fmt::Formatter<'_>) -> fmt::Result {
+        match self {
+            JournalFault::NoSegment => write!(f, "the journal does not begin with a segment"),
+            JournalFault::Damaged(None) => write!(f, "the journal is damaged"),
+            JournalFault::Damaged(Some(offset)) => {
+                write!(f, "the journal is damaged at byte {offset}")
+            }
+            JournalFault::OtherSegment => write!(f, "the journal is of another site or world"),
+            JournalFault::UnlawfulEntry(number) => {
+                write!(f, "entry {number} of the journal is not lawful")
+            }
         }
     }
 }

@@ -5,6 +5,10 @@ use std::{ffi::c_void, ptr};
 pub const OK: u32 = 0;
 pub const SHORT: u32 = 21;
 pub const NO_SENDING: u32 = 29;
+pub const NO_SEGMENT: u32 = 51;
+pub const DAMAGED: u32 = 52;
+pub const OTHER_SEGMENT: u32 = 53;
+pub const UNLAWFUL_ENTRY: u32 = 54;
 
 pub const HEADER_LEN: usize = 7;
 pub const HELLO_LEN: usize = 6;
@@ -121,6 +125,17 @@ unsafe extern "C" {
         rows_len: usize,
         number: u16,
     ) -> u32;
+    pub fn cmh_site3_open(
+        site: &mut Handle,
+        world: *const u8,
+        world_len: usize,
+        rows: *const u16,
+        rows_len: usize,
+        number: u16,
+        journal: *const u8,
+        journal_len: usize,
+        place: &mut u64,
+    ) -> u32;
     pub fn cmh_site3_head(site: &mut Handle, out: *mut u8, out_len: usize) -> u32;
     pub fn cmh_site3_prepare(
         site: &mut Handle,
@@ -172,6 +187,24 @@ unsafe extern "C" {
         entry_len: usize,
         process: &mut u16,
         stamp: &mut u64,
+    ) -> u32;
+    pub fn cmh_site3_entry_max() -> usize;
+    pub fn cmh_journal3_got(
+        journal: *const u8,
+        journal_len: usize,
+        from: u16,
+        count: &mut u64,
+        mark: &mut u64,
+    ) -> u32;
+    pub fn cmh_journal3_sent(
+        journal: *const u8,
+        journal_len: usize,
+        to: u16,
+        got: u64,
+        mark: u64,
+        out: *mut u8,
+        out_len: usize,
+        count: &mut usize,
     ) -> u32;
     pub fn cmh_reader_new(
         reader: &mut Handle,

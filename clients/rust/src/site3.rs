@@ -1,6 +1,6 @@
 //! A site of edition 3.
 
-use crate::{checked, processes, raw, Result, Row};
+use crate::{checked, processes, raw, Error, JournalFault, Result, Row};
 
 /// The number of a world: drawn at random for each run that begins, and the same for all its sites.
 pub type World = [u8; raw::WORLD_LEN];
@@ -53,8 +53,14 @@ impl Entry3 {
     }
 }
 
-/// The controller of one site of edition 3, which is opened before its first step: a blocked process may ask for more, and
-/// a process may withdraw its waits, so a deadlock ends.
+/// How many bytes the longest entry has.
+pub fn entry_max() -> usize {
+    // SAFETY: it takes nothing.
+    unsafe { raw::cmh_site3_entry_max() }
+}
+
+/// The controller of one site of edition 3, which is opened before its first step, or where its journal ends: a blocked
+/// process may ask for more, and a process may withdraw its waits, so a deadlock ends.
 #[derive(Debug)]
 pub struct Site3 {
     raw: raw::Handle,
@@ -85,6 +91,41 @@ impl Site3 {
             raw,
             out: vec![0; 4096],
         })
+    }
+
+    /// Opens the site on the bytes of its journal, and tells how many of them are the journal: the file is cut there. Before
+    /// anything is sent or told, the last bytes of the journal are written once more over themselves, [`entry_max`] of them or
+    /// all, and the file is synced.
+    pub fn open(
+        world: &World,
+        rows: &[Row<'_>],
+        number: u16,
+        journal: &[u8],
+    ) -> Result<(Site3, u64)> {
+        let words = Row::words(rows)?;
+        let (mut raw, mut place) = (raw::Handle::CLOSED, 0);
+        // SAFETY: the handle is closed, and the slices are lent for the call.
+        let code = unsafe {
+            raw::cmh_site3_open(
+                &mut raw,
+                world.as_ptr(),
+                world.len(),
+                words.as_ptr(),
+                words.len(),
+                number,
+                journal.as_ptr(),
+                journal.len(),
+                &mut place,
+            )
+        };
+        match code {
+            raw::DAMAGED => Err(Error::Journal(JournalFault::Damaged(Some(place)))),
+            raw::UNLAWFUL_ENTRY => Err(Error::Journal(JournalFault::UnlawfulEntry(place))),
+            code => checked(code).map(|()| {
+                let out = vec![0; 4096];
+                (Site3 { raw, out }, place)
+            }),
+        }
     }
 
     /// The bytes with which the journal begins.

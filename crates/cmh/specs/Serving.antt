@@ -2,9 +2,12 @@
 use Rattle.std.specs.Prelude.{◌≡◌, ◌≢◌, ℕ, ◌⊎◌, true, List, IfSome}
 use Rattle.cmh_console.specs.Device.{Reading, Writing}
 use Rattle.cmh_console.specs.Faults.{NamesFault}
+use Rattle.cmh_console.specs.TopologyFile3.{SaysNoWorld}
 use Rattle.cmh_host.specs.SiteFaults.{as_fault as of_site}
 use Rattle.cmh_host.specs.declared.site_fault.SiteFault.{SiteFault}
 use Rattle.cmh_host.specs.declared.site_fault.SiteFault.TheVariants.{Site}
+use Rattle.cmh_cluster3.specs.Endings.{DiskClusterEnds}
+use Rattle.cmh_serve3.specs.Setting.{IsOfEdition3}
 use Rattle.cmh_site.specs.ClusterEndings.{ClusterEnds}
 use Rattle.cmh_site.specs.Descriptors.{StrictlyEnds}
 use Rattle.cmh_inputs.specs.FileFaults.{IsUnread, as_fault as of_file}
@@ -22,10 +25,17 @@ pub record SiteEnds {R W E : Type 0} (topology : List ℕ) (site : ℕ) (was rea
   pub fault : status ≢ 0 → NamesFault of_site (IsSiteFault topology site was.left read.has_failed new.has_failed) status err_old
       err_new
 
--- this site of some topology file ended, or nothing is written and it is named that the file could not be read
+-- A site of this topology file ended; or nothing is written and it is named that the file could not be read. Of a site of
+-- edition 3 nothing is said.
+abbrev pub ServesFile : {R W E : Type 0} → List ℕ → ℕ → Reading R → Reading R → Writing W → Writing W → Writing E → Writing E → ℕ → Type 0
+ServesFile topology site was read old new err_old err_new status =
+    (SaysNoWorld topology → SiteEnds topology site was read old new err_old err_new status)
+    ⊎ ((new ≡ old) × NamesFault of_file IsUnread status err_old err_new)
+
+-- the same of some topology file
 abbrev pub ServesSite : {R W E : Type 0} → ℕ → Reading R → Reading R → Writing W → Writing W → Writing E → Writing E → ℕ → Type 0
 ServesSite site was read old new err_old err_new status =
-    ((topology : List ℕ) × SiteEnds topology site was read old new err_old err_new status)
+    ((topology : List ℕ) × (SaysNoWorld topology → SiteEnds topology site was read old new err_old err_new status))
     ⊎ ((new ≡ old) × NamesFault of_file IsUnread status err_old err_new)
 
 -- the number is no site's
@@ -38,11 +48,17 @@ ServesSome was read old new err_old err_new status =
     ((site : ℕ) × ServesSite site was read old new err_old err_new status)
     ⊎ ((new ≡ old) × NamesFault of_site IsNoSite status err_old err_new)
 
+-- all sites of a topology file of edition 3 ran, and this ended
+abbrev pub ServesCluster3 : {W E : Type 0} → Writing W → Writing W → Writing E → Writing E → ℕ → Type 0
+ServesCluster3 old new err_old err_new status = (topology : List ℕ) × (script : List ℕ) × IsOfEdition3 topology
+    × DiskClusterEnds topology script old new err_old err_new status
+
 -- a cluster of some topology file and some script ended, or nothing is written and the fault of one that could not be read
 -- is named
 abbrev pub ServesCluster : {W E : Type 0} → Writing W → Writing W → Writing E → Writing E → ℕ → Type 0
 ServesCluster old new err_old err_new status =
     ((topology : List ℕ) × (script : List ℕ) × ClusterEnds topology script old new err_old err_new status)
+    ⊎ ServesCluster3 old new err_old err_new status
     ⊎ ((new ≡ old) × NamesFault of_file IsUnread status err_old err_new)
 
 -- the same of a strict cluster, some of whose links could not be opened, or none
@@ -50,4 +66,5 @@ abbrev pub ServesStrictly : {W E : Type 0} → Writing W → Writing W → Writi
 ServesStrictly old new err_old err_new status =
     ((topology : List ℕ) × (script : List ℕ) × (unopened : ℕ) × StrictlyEnds topology script old new err_old err_new status unopened
     × (status ≡ 0 → unopened ≡ 0))
+    ⊎ ServesCluster3 old new err_old err_new status
     ⊎ ((new ≡ old) × NamesFault of_file IsUnread status err_old err_new)

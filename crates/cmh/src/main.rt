@@ -12,7 +12,7 @@ ghost use Rattle.cmh_commands.specs.Playing.{PlaysAlone, PlaysScript};
 ghost use Rattle.cmh.specs.CommandLine.{IsEnd, NamesAudit, NamesCluster, NamesColumn, NamesDeclarations, NamesDraw, NamesEdition, NamesFolder, NamesNewWorld, NamesNoDeclarations, NamesNoEdition, NamesNoFolder, NamesNoPage, NamesNoPageFile, NamesNoReasons, NamesNoRun, NamesNoStrictness, NamesNothing, NamesOption, NamesPage, NamesPlay, NamesReasons, NamesRun, NamesShow, NamesSite, NamesSiteNumber, NamesStrictness, ReadsNoInput};
 ghost use Rattle.cmh.specs.Playing.{PlaysEdition3};
 ghost use Rattle.cmh_folder3.specs.Plays.{PlaysInto};
-ghost use Rattle.cmh.specs.Serving.{ServesCluster, ServesSite, ServesSome, ServesStrictly};
+ghost use Rattle.cmh.specs.Serving.{ServesCluster, ServesCluster3, ServesFile, ServesSite, ServesSome, ServesStrictly, SiteEnds};
 ghost use Rattle.cmh_frames.specs.Number.{IsNumber};
 ghost use Rattle.cmh_draw.specs.Kinds.{kind_word};
 ghost use Rattle.cmh_draw.specs.declared.picture.Kind as kinds;
@@ -20,15 +20,18 @@ ghost use Rattle.cmh_picture.specs.Formats.{format_word};
 ghost use Rattle.cmh_picture.specs.declared.format.Format as formats;
 ghost use Rattle.cmh_console.specs.Status.{IsStatus};
 ghost use Rattle.cmh_site.specs.ClusterEndings.{ClusterEnds};
+ghost use Rattle.cmh_serve3.specs.Setting.{IsOfEdition3};
 ghost use Rattle.cmh_site.specs.Descriptors.{StrictlyEnds};
 
 use clap::{ArgMatches, Error, error};
 use cmh_carriers::{Noted, Voice};
+use cmh_clients3::SiteNote;
+use cmh_cluster3::{ClusterStart3, run_cluster3};
 use cmh_commands::{
-    AUDIT, BACKLOG, CLUSTER, DRAW, EDITION, EXPLAIN, Help, JOURNAL, JOURNALS, Listener, NEW,
-    NEW_WORLD, NOTES, OUT, PAGE, PATIENCE, PLAY, PORT, QUIET, SERVE, SHOW, SITE, STRICT, TOPOLOGY,
-    audit, cluster_files_of, command, draw_or_page, explanation, play_into, play_page,
-    run_new_world, show,
+    AUDIT, BACKLOG, CLUSTER, ClusterFiles, DRAW, EDITION, EXPLAIN, Help, JOURNAL, JOURNALS,
+    Listener, NEW, NEW_WORLD, NOTES, OUT, PAGE, PATIENCE, PLAY, PORT, QUIET, SERVE, SHOW, SITE,
+    STRICT, TOPOLOGY, WAIT_FOR_PEERS, audit, cluster_files_of, command, draw_or_page, explanation,
+    play_into, play_page, run_new_world, show,
 };
 use cmh_console::{Ahead, Fault, Input, Output};
 use cmh_disk3::Start;
@@ -38,7 +41,7 @@ use cmh_host::{BacklogLimit, SiteStart, System};
 use cmh_inputs::{Disk, read_topology};
 use cmh_play::run_play;
 use cmh_play3::run_play3;
-use cmh_serve3::{ServeStart, is_of_edition3, run_service3};
+use cmh_serve3::{ServeStart, SiteVoice, is_of_edition3, run_service3, run_site3};
 use cmh_service::{ServiceStart, run_service};
 use cmh_site::{
     ClusterEnd, ClusterStart, Shortage, allowed_descriptors, run_cluster_counting,
@@ -343,8 +346,73 @@ where
         // Never so: the command line takes no other number.
         return Fault::Site.name_on(err);
     };
+    serve_site_on(rt, words, &topology, site, input, out, err)
+}
+
+/// Runs a site of the edition of its topology file.
+#[tactic(auto, using(crate::proofs::Serving::in_edition3, crate::proofs::Serving::in_older))]
+fn serve_site_on<R, I: BufRead + Ahead, W: Write, E: Write>(
+    rt: &R,
+    words: &ArgMatches<'_>,
+    topology: &[u8],
+    site: SiteId,
+    input: &mut Input<I>,
+    out: &mut Output<W>,
+    err: &mut Output<E>,
+) -> u8
+where
+    R: System + AllocGlobal + Eprint + Files<File = File> + Send + 'static,
+    ensures status { IsStatus result }
+    ensures serves { ServesFile topology.now site input.old input.new out.old out.new err.old err.new result }
+{
+    match is_of_edition3(rt.alloc(), topology) {
+        Ok(true) => serve_site3(rt, words, topology, site, input, out, err),
+        Ok(false) => serve_site_of(rt, words, topology, site, input, out, err),
+        Err(AllocError) => Fault::Memory.name_on(err),
+    }
+}
+
+/// Runs a site of edition 3.
+fn serve_site3<R, I: BufRead + Ahead, W: Write, E: Write>(
+    rt: &R,
+    words: &ArgMatches<'_>,
+    topology: &[u8],
+    site: SiteId,
+    input: &mut Input<I>,
+    out: &mut Output<W>,
+    err: &mut Output<E>,
+) -> u8
+where
+    R: System + AllocGlobal + Eprint + Files<File = File>,
+    ensures { IsStatus result }
+{
+    let start = ServeStart {
+        topology,
+        site,
+        journal: words.get_str(JOURNAL).unwrap_or(""),
+        start: beginning_of(words),
+        waits_for_peers: words.get_flag(WAIT_FOR_PEERS),
+    };
+    run_site3(rt, &start, input, out, err, voice_of(rt, words))
+}
+
+/// Runs a site of edition 1 or 2.
+fn serve_site_of<R, I: BufRead + Ahead, W: Write, E: Write>(
+    rt: &R,
+    words: &ArgMatches<'_>,
+    topology: &[u8],
+    site: SiteId,
+    input: &mut Input<I>,
+    out: &mut Output<W>,
+    err: &mut Output<E>,
+) -> u8
+where
+    R: System + AllocGlobal + Eprint + Files<File = File> + Send + 'static,
+    ensures status { IsStatus result }
+    ensures ends { SiteEnds topology.now site input.old input.new out.old out.new err.old err.new result }
+{
     let start = SiteStart {
-        topology: &topology,
+        topology,
         site,
         journal: words.get_str(JOURNAL).unwrap_or(""),
         patience: patience_of(words),
@@ -410,7 +478,7 @@ fn serve_clients3<R, W: Write, E: Write>(
     err: &mut Output<E>,
 ) -> u8
 where
-    R: System + AllocGlobal + Files<File = File>,
+    R: System + AllocGlobal + Eprint + Files<File = File>,
     ensures { IsStatus result }
 {
     let start = ServeStart {
@@ -418,9 +486,10 @@ where
         site,
         journal: words.get_str(JOURNAL).unwrap_or(""),
         start: beginning_of(words),
-        port: words.get_one(PORT).unwrap_or(0),
+        waits_for_peers: words.get_flag(WAIT_FOR_PEERS),
     };
-    run_service3(rt, &start, out, err)
+    let port = words.get_one(PORT).unwrap_or(0);
+    run_service3(rt, &start, port, out, err, voice_of(rt, words))
 }
 
 /// How a site of edition 3 begins.
@@ -442,6 +511,13 @@ impl<R: Eprint + Drop> Voice for OnError<R> {
     fn tell(&self, noted: &Noted) {
         // A write to standard error that fails is ignored.
         let _ = eprintln!(self.rt; "{noted}");
+    }
+}
+
+impl<R: Eprint + Drop> SiteVoice for OnError<R> {
+    fn tell(&self, note: &SiteNote) {
+        // A write to standard error that fails is ignored.
+        let _ = eprintln!(self.rt; "{note}");
     }
 }
 
@@ -496,6 +572,30 @@ where
         Ok(files) => files,
         Err(fault) => return Fault::from(fault).name_on(err),
     };
+    match is_of_edition3(rt.alloc(), &files.topology) {
+        Ok(true) => serve_cluster3(rt, words, &files, out, err),
+        Ok(false) => serve_cluster_of(rt, terminals, words, &files, out, err),
+        Err(AllocError) => Fault::Memory.name_on(err),
+    }
+}
+
+/// Runs all sites of a topology file that is not of edition 3.
+fn serve_cluster_of<R, W: Write, E: Write>(
+    rt: &R,
+    terminals: Terminals,
+    words: &ArgMatches<'_>,
+    files: &ClusterFiles,
+    out: &mut Output<W>,
+    err: &mut Output<E>,
+) -> u8
+where
+    R: System + AllocGlobal + Eprint + Files<File = File> + Send + 'static,
+    ensures status { IsStatus result }
+    ensures serves { IsUnset (one_text (found_of words.now) (codes "strict"))
+        → ServesCluster out.old out.new err.old err.new result }
+    ensures serves_strictly { one_text (found_of words.now) (codes "strict") ≡ Some (codes "true")
+        → ServesStrictly out.old out.new err.old err.new result }
+{
     let start = ClusterStart {
         topology: &files.topology,
         script: &files.script,
@@ -506,6 +606,29 @@ where
         warn_of_links(rt, &files.topology, end.unopened);
     }
     end.status
+}
+
+/// Runs all sites of a topology of edition 3. They need no descriptors and notice nothing by themselves, so a strict cluster
+/// is as any other, and `--notes` tells nothing.
+fn serve_cluster3<R, W: Write, E: Write>(
+    rt: &R,
+    words: &ArgMatches<'_>,
+    files: &ClusterFiles,
+    out: &mut Output<W>,
+    err: &mut Output<E>,
+) -> u8
+where
+    R: AllocGlobal + Files<File = File>,
+    requires { IsOfEdition3 files.now.topology.items }
+    ensures status { IsStatus result }
+    ensures serves { ServesCluster3 out.old out.new err.old err.new result }
+{
+    let start = ClusterStart3 {
+        topology: &files.topology,
+        script: &files.script,
+        dir: words.get_str(OUT).unwrap_or(""),
+    };
+    run_cluster3(rt, &start, out, err)
 }
 
 /// Runs all sites, strictly where the words ask for it.

@@ -4,6 +4,7 @@ pub mod Codes3
 pub mod Entries
 pub mod Entries3
 pub mod Inner
+pub mod Links3
 pub mod Opening
 pub mod Opening3
 pub mod Reading

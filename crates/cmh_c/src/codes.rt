@@ -3,10 +3,11 @@
 ghost use Rattle.std.specs.Prelude.{◌≡◌, ◌≢◌, ◌<◌};
 ghost use Rattle.cmh_c.specs.Codes as spec;
 ghost use Rattle.cmh_c.specs.Codes3 as spec3;
-ghost use Rattle.cmh_c.specs.Inner.Faults.{code_of_call};
+ghost use Rattle.cmh_c.specs.Inner.Faults.{code_of_call, place_told};
 
 use cmh_frames::TopologyFault;
 use cmh_reader::ReadFault;
+use cmh_restart3::RestartFault;
 use cmh_seat::{InletFault, SeatFault};
 use cmh_seat3::{EntryFault, SeatFault as SeatFault3};
 use std::alloc::{AllocError, AllocFailed};
@@ -50,6 +51,8 @@ pub enum CallFault {
     Files,
     /// The number of the world has not 16 bytes.
     World,
+    /// No site is opened on a journal, or nothing is told of its links.
+    Restart(RestartFault),
     /// Out of memory.
     Memory,
 }
@@ -72,6 +75,18 @@ impl CallFault {
             CallFault::Files => 30,
             CallFault::World => 50,
             CallFault::Topology(fault) => 30 + u32::from(fault.number()),
+            CallFault::Restart(fault) => code_of_restart(fault),
+        }
+    }
+
+    /// Where a journal is at fault: the offset of the damage, or the number of the entry.
+    pub fn place(self) -> Option<u64>
+        ensures { result ≡ place_told self }
+    {
+        match self {
+            CallFault::Restart(RestartFault::Damaged(offset)) => Some(offset),
+            CallFault::Restart(RestartFault::Unlawful(number)) => Some(number),
+            _ => None,
         }
     }
 }
@@ -143,5 +158,22 @@ pub fn code_of_entry3(fault: EntryFault) -> u32
     match fault {
         EntryFault::NoEntry => 20,
         EntryFault::Memory => NO_MEMORY,
+    }
+}
+
+fn code_of_restart(fault: RestartFault) -> u32
+    ensures value { result ≡ spec3.code_of_restart fault }
+    ensures positive { 0 < result }
+{
+    match fault {
+        RestartFault::NotHere => 2,
+        RestartFault::Memory => NO_MEMORY,
+        RestartFault::Full => 12,
+        RestartFault::NoSegment => 51,
+        RestartFault::Damaged(_) => 52,
+        RestartFault::OtherSegment => 53,
+        RestartFault::Unlawful(_) => 54,
+        RestartFault::MoreThanSent => 67,
+        RestartFault::OtherMessages => 68,
     }
 }

@@ -5,6 +5,7 @@ mod audits;
 mod codes;
 mod entries;
 mod entries3;
+mod links3;
 mod numbers;
 mod opening;
 mod opening3;

@@ -1,6 +1,6 @@
 //! Sites of edition 3.
 
-ghost use Rattle.std.specs.Prelude.{◌≡◌, ◌≢◌, ◌<◌, ◌++◌, ◌⊎◌, true, false, None, IsSome, MatchOption, length, drop};
+ghost use Rattle.std.specs.Prelude.{◌≡◌, ◌≢◌, ◌<◌, ◌++◌, ◌⊎◌, true, false, None, IsSome, MatchOption, length, drop, unwrap_or};
 ghost use Rattle.cmh_model3.specs.State.{waits_for};
 ghost use Rattle.cmh_controller3.specs.Controller.{state_of};
 ghost use Rattle.cmh_segment3.specs.Segment.{longest_entry};
@@ -9,12 +9,13 @@ ghost use Rattle.cmh_seat3.specs.Seat as spec;
 ghost use Rattle.cmh_seat3.specs.Seat.{IsNotToldOf, IsUnchanged, Keeps, NotTook, Readies, Wrote, head_of};
 ghost use Rattle.cmh_c.specs.Codes.{Answers};
 ghost use Rattle.cmh_c.specs.Codes3 as codes;
-ghost use Rattle.cmh_c.specs.Codes3.{Shows};
-ghost use Rattle.cmh_c.specs.Opening3.{IsNotOpened, IsSiteOf, OfRows};
+ghost use Rattle.cmh_c.specs.Codes3.{Shows, TellsWhy};
+ghost use Rattle.cmh_c.specs.Inner.Faults.{code_of_call, place_told};
+ghost use Rattle.cmh_c.specs.Opening3.{IsNotOpened, IsNotReopened, IsSiteOf, OfRows, Reopens};
 
-use crate::codes::{CLOSED, DONE, NOT_PREPARED, OPEN, SHORT, code_of3};
+use crate::codes::{CLOSED, CallFault, DONE, NOT_PREPARED, OPEN, SHORT, code_of3};
 use crate::numbers::put_processes;
-use crate::opening3::seat_of_words;
+use crate::opening3::{reopened_of_words, seat_of_words};
 use cmh_seat3::{ENTRY_MAX, Held, Seat, SeatFault};
 use std::alloc::Global;
 use std::mem::replace;
@@ -106,6 +107,51 @@ pub extern "C" fn cmh_site3_new(
         }
         Err(fault) => fault.code(),
     }
+}
+
+/// Opens a site of the world with this number and these rows on its journal, and tells how many bytes the journal has:
+/// those behind them can be cut. Of a journal at fault it tells the offset of the damage, or the number of the entry.
+#[unsafe(no_mangle)]
+pub extern "C" fn cmh_site3_open(
+    alloc: Global,
+    site: &mut CmhSite3,
+    world: &[u8],
+    rows: &[u16],
+    number: u16,
+    journal: &[u8],
+    place: &mut u64,
+) -> u32
+    ensures made { result ≡ 0 → (site.new.is_open ≡ true)
+        × OfRows world.now rows.now (Reopens world.now number journal.now site.new.held.seat place.new) }
+    ensures stays { 0 < result → site.new.is_open ≡ site.old.is_open }
+    ensures same { 0 < result → site.old.is_open ≡ true → site.new.held.seat ≡ site.old.held.seat }
+    ensures open { site.old.is_open ≡ true → (result ≡ 23) × (place.new ≡ place.old) }
+    ensures code { 0 < result → site.old.is_open ≡ false
+        → TellsWhy (λ told. IsNotReopened result told world.now rows.now number journal.now) place.old place.new }
+{
+    if site.is_open {
+        return OPEN;
+    }
+    match reopened_of_words(alloc, world, rows, number, journal) {
+        Ok(reopened) => {
+            site.give(reopened.seat);
+            *place = reopened.end;
+            DONE
+        }
+        Err(fault) => code_and_place(fault, place),
+    }
+}
+
+/// The number of a fault. Where a journal is at fault, it tells the place.
+fn code_and_place(fault: CallFault, place: &mut u64) -> u32
+    ensures value { result ≡ code_of_call fault }
+    ensures positive { 0 < result }
+    ensures place { place.new ≡ unwrap_or (place_told fault) place.old }
+{
+    if let Some(told) = fault.place() {
+        *place = told;
+    }
+    fault.code()
 }
 
 /// Writes the 71 bytes that the site's journal begins with.

@@ -261,8 +261,8 @@ fn journal_again<R: AllocGlobal + Files>(rt: &R, path: &str, place: usize) -> Op
 enum Task {
     /// It runs a site, which has a port.
     Serve,
-    /// It runs sites of the editions 1 and 2 alone, which have ports.
-    Older,
+    /// It runs all sites, which have ports in the editions 1 and 2.
+    Cluster,
     /// It tells the declarations of journals of edition 3 alone.
     Declarations,
     /// It audits or draws journals of any edition.
@@ -270,11 +270,11 @@ enum Task {
 }
 
 fn task_of(words: &ArgMatches<'_>) -> Task {
-    if words.get_str(PORT).is_some() {
+    if words.get_str(JOURNAL).is_some() {
         return Task::Serve;
     }
-    if words.get_str(JOURNAL).is_some() || words.get_str(SCRIPT).is_some() {
-        return Task::Older;
+    if words.get_str(SCRIPT).is_some() {
+        return Task::Cluster;
     }
     if words.get_flag(DECLARATIONS) {
         return Task::Declarations;
@@ -282,9 +282,9 @@ fn task_of(words: &ArgMatches<'_>) -> Task {
     Task::Audit
 }
 
-/// Whether the sites have ports.
+/// Whether the sites of the editions 1 and 2 have ports.
 fn has_ports(task: Task) -> bool {
-    matches!(task, Task::Serve | Task::Older)
+    matches!(task, Task::Serve | Task::Cluster)
 }
 
 /// Of what a topology file holds.
@@ -348,14 +348,7 @@ fn tell_edition3(
     task: Task,
     text: &mut String,
 ) -> Result<(), AllocError> {
-    if matches!(task, Task::Older) {
-        write!(
-            text,
-            "`cmh site` and `cmh cluster` have no edition 3 yet; `cmh serve` runs sites of it"
-        )?;
-        return Ok(());
-    }
-    if let Some(trouble) = trouble_of_world(value, has_ports(task)) {
+    if let Some(trouble) = trouble_of_world(value, matches!(task, Task::Serve)) {
         write!(text, "{trouble}")?;
         return Ok(());
     }

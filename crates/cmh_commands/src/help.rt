@@ -52,6 +52,9 @@ The first line that it prints is `listening`, the last one `stopped`. An answer 
 journal and synced, so the journal can be audited whenever and however the site ends. Up to 64 lines that are written
 ahead of their answers share a sync. The journal is locked until the site ends: a second site on it, and one whose
 journal is no regular file, ends with `fault journal disk`.
+
+Of a topology of edition 3 the lines, the journal and the options are those of `cmh serve --help`, but there is no port for
+clients: standard input is the client. `connect` is a bad line then, since links dial by themselves.
 ";
 
 const SERVE_LINES: &str = "\
@@ -76,12 +79,14 @@ The site connects to the others by itself. It prints `listening` once it listens
 or SIGINT, and its journal can be audited at any time.
 
 Of a topology of edition 3 the journal is a folder. With --new the site begins a journal there, and without it it goes on
-with the one that is there; links that were cut resume. --patience, --backlog and --quiet mean nothing then. Lines besides:
+with the one that is there; links that were cut resume. --patience, --backlog and --quiet mean nothing then. With
+--wait-for-peers each event is `refused 18` until each link has answered once. Lines besides:
   ask J K..      also of a process that waits already
   withdraw J K.. process J gives up these waits, or all of them where none is named
   leaving J      `leaving J K..`: whom J has left and can't ask again yet
   watch          also `! active J`, `! asked K J`, `! free J K`, `! link out S X` and `! link in S X`; a declaration is
                  `! declared J at N`, its cycle stood at stop N
+  tail N         the last N entries of the journal, 1 to 1000, as lines of `cmh show`, and then `ok`
 A link is `open`, `down N` (N messages are kept for it), `refused N`, `resting` or `closed 4`.
 ";
 
@@ -101,6 +106,19 @@ deadlock may not be found. With --strict that is no status 0: no site is started
 
 The journals are made anew in place of those of an earlier run. Where a site still writes to one of them, none is touched:
 that is `fault file out`.
+
+Of a topology of edition 3 the sites run in one thread, without ports and open files for links, so that the output of a
+script is the same each time. The journals are the folders `site-S` of DIR. Lines besides:
+  ask J K..      also of a process that waits already
+  withdraw J K.. process J gives up these waits, or all of them where none is named
+  kill S         site S stops at once, as at SIGKILL; events for it are answered `down` until it is started again
+  restart S      it goes on with its journal: `ok`, `up` where it runs, or the line of a fault
+  cut A B        the connection of the link from A to B ends, and none can be made; messages for it are kept
+  join A B       it can be made again, and they come
+  waits J, owed K, leaving J, links S, status S
+                 what `cmh serve` answers, here of the site of the process or of site S
+After the script it prints `link A B down N` for each link of a running site that keeps N messages, and then the audit.
+--strict and --notes change nothing.
 ";
 
 const LINK_FAULTS: &str = "\
@@ -119,7 +137,8 @@ With --notes the site tells on standard error what it notices by itself, in at m
 ";
 
 const SERVE_NOTES: &str = "\
-The site tells on standard error what it notices by itself, in at most ten lines a second. With --quiet it doesn't:
+The site tells on standard error what it notices by itself, in at most ten lines a second. With --quiet it doesn't. One of
+edition 3 tells with --notes, in other words, how its links change, which are refused and why, and why it is sealed:
 ";
 
 const CLUSTER_NOTES: &str = "\
@@ -144,7 +163,7 @@ const NOTES: &str =
 const TOPOLOGY_FILE: &str = "\
 `fault json`: the topology file is no JSON, or lacks a member, as in {\"edition\":1,\"sites\":[{\"site\":1,\"processes\":[1]}]}.
 Of sites that run each also has a `port` of its own, 1 to 65535. With --explain a second line says where it is wrong.
-One of edition 3 also has a `world`, which `cmh new-world` draws. `cmh serve` alone runs sites of it.
+One of edition 3 also has a `world`, which `cmh new-world` draws. `cmh site`, `cmh serve` and `cmh cluster` run sites of it.
 ";
 
 const SITE_STATUSES: &str = "\

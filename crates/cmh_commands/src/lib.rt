@@ -25,7 +25,7 @@ pub use crate::new_world::run_new_world;
 pub use crate::options::{
     AUDIT, BACKLOG, CLUSTER, DECLARATIONS, DRAW, EDITION, EDITION_THREE, EXPLAIN, FORMAT, FROM,
     JOURNAL, JOURNALS, KIND, NEW, NEW_WORLD, NOTES, OUT, PAGE, PATIENCE, PLAY, PORT, QUIET, RUN,
-    SCRIPT, SERVE, SHOW, SITE, STRICT, TO, TOPOLOGY, WHY, command,
+    SCRIPT, SERVE, SHOW, SITE, STRICT, TO, TOPOLOGY, WAIT_FOR_PEERS, WHY, command,
 };
 pub use crate::paging::{draw_or_page, play_page};
 pub use crate::playing::play_into;

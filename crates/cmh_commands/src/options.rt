@@ -50,6 +50,8 @@ pub const QUIET: &str = "quiet";
 
 pub const NEW: &str = "new";
 
+pub const WAIT_FOR_PEERS: &str = "wait-for-peers";
+
 pub const KIND: &str = "kind";
 
 pub const FORMAT: &str = "format";
@@ -172,6 +174,8 @@ fn site_command<'a>(alloc: Global, help: &'a Help) -> Result<Command<'a>, Error>
         .arg(topology_arg(alloc))?
         .arg(site_arg(alloc))?
         .arg(journal_arg(alloc))?
+        .arg(new_arg(alloc))?
+        .arg(wait_for_peers_arg(alloc))?
         .arg(site_patience_arg(alloc))?
         .arg(backlog_arg(alloc))?
         .arg(notes_arg(alloc))?
@@ -189,10 +193,12 @@ fn serve_command<'a>(alloc: Global, help: &'a Help) -> Result<Command<'a>, Error
         .arg(site_arg(alloc))?
         .arg(journal_arg(alloc))?
         .arg(new_arg(alloc))?
+        .arg(wait_for_peers_arg(alloc))?
         .arg(port_arg(alloc))?
         .arg(serve_patience_arg(alloc))?
         .arg(backlog_arg(alloc))?
         .arg(quiet_arg(alloc))?
+        .arg(serve_notes_arg(alloc))?
         .arg(explain_arg(alloc))?;
     Ok(command)
 }
@@ -361,6 +367,16 @@ fn new_arg<'a>(alloc: Global) -> Arg<'a> {
         .action(ArgAction::SetTrue)
 }
 
+/// Whether a site of edition 3 takes no event before it has met the other sites.
+fn wait_for_peers_arg<'a>(alloc: Global) -> Arg<'a> {
+    Arg::new(alloc, WAIT_FOR_PEERS)
+        .long(WAIT_FOR_PEERS)
+        .help(
+            "Of edition 3: refuses events until each link has answered, for a journal that was put back from a backup",
+        )
+        .action(ArgAction::SetTrue)
+}
+
 fn script_arg<'a>(alloc: Global) -> Arg<'a> {
     path_arg(alloc, SCRIPT, "FILE").help("The lines that the sites are given")
 }
@@ -409,6 +425,16 @@ fn notes_arg<'a>(alloc: Global) -> Arg<'a> {
     Arg::new(alloc, NOTES)
         .long(NOTES)
         .help("Tells on standard error what a site notices by itself, as a link that closes")
+        .action(ArgAction::SetTrue)
+}
+
+/// A service of editions 1 and 2 tells notes unless it is quiet.
+fn serve_notes_arg<'a>(alloc: Global) -> Arg<'a> {
+    Arg::new(alloc, NOTES)
+        .long(NOTES)
+        .help(
+            "Of edition 3: tells on standard error what the site notices by itself, as a link that is refused",
+        )
         .action(ArgAction::SetTrue)
 }
 

@@ -3,6 +3,7 @@
 use crate::inputs::{InputFile, Inputs, NotRead};
 use cmh_folder3::newest_segment;
 use std::alloc::AllocError;
+use std::fs::Metadata;
 use std::io::{ErrorKind, Read};
 use std::rt::Files;
 use std::{fs, io};
@@ -44,10 +45,22 @@ impl<'a, R: AllocGlobal + Files> Inputs for Disk<'a, R> {
 
     fn len_of(&self, path: &str) -> Result<Option<u64>, AllocError> {
         match fs::metadata(self.rt, path) {
-            Ok(found) if found.is_file() => Ok(Some(found.len())),
-            Err(error) if error.kind() == ErrorKind::OutOfMemory => Err(AllocError),
-            _ => Ok(None),
+            Ok(found) if found.is_dir() => match newest_segment(self.rt, self.rt.alloc(), path) {
+                Ok(Some(newest)) => len_in(fs::metadata(self.rt, newest.as_str())),
+                Ok(None) => Ok(None),
+                Err(error) => len_in(Err(error)),
+            },
+            found => len_in(found),
         }
+    }
+}
+
+/// How long the file is that was looked at.
+fn len_in(found: io::Result<Metadata>) -> Result<Option<u64>, AllocError> {
+    match found {
+        Ok(found) if found.is_file() => Ok(Some(found.len())),
+        Err(error) if error.kind() == ErrorKind::OutOfMemory => Err(AllocError),
+        _ => Ok(None),
     }
 }
 

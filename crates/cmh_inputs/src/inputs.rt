@@ -57,7 +57,8 @@ pub trait Inputs {
         ensures refused { IfErr result (λ fault. fault ≡ NotRead.Refused
             → (stored : Stored) → holds self.now ≡ Some stored → stored.journals path.now ≡ None) };
 
-    /// How long the file of a journal is by now. `None` where it can't be looked at, or is no file.
+    /// How long the file of a journal is by now; of a folder, its newest segment. `None` where it can't be looked at, or is
+    /// no file.
     fn len_of(&self, path: &str) -> Result<Option<u64>, AllocError>
         ensures { IfOk result (λ found. (len : ℕ) → found ≡ Some len
             → (stored : Stored) → holds self.now ≡ Some stored

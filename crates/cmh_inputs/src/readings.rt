@@ -7,7 +7,7 @@ ghost use Rattle.cmh_inputs.specs.FileFaults.{IsUnread};
 ghost use Rattle.cmh_inputs.specs.Readings.{AreNamed, AreNamedJournals, AreUnnamed, AreUnread};
 
 use crate::file_fault::FileFault;
-use crate::growing::as_stopped;
+use crate::growing::{as_stopped, segments_as_stopped};
 use crate::inputs::Inputs;
 use crate::reading::{read_journal, read_topology};
 use cmh_console::{TopologyFileFault, read_topology_file3};
@@ -23,7 +23,7 @@ pub struct AuditFiles {
 }
 
 /// Reads the files at the paths: the topology, and then the journals in their order. The journals of sites that run are
-/// cut where their sites might have stopped, all at once; no site of edition 3 runs.
+/// cut where their sites might have stopped, all at once.
 pub fn files_of<N: Inputs>(
     alloc: Global,
     inputs: &N,
@@ -40,14 +40,11 @@ pub fn files_of<N: Inputs>(
     let topology = read_topology(alloc, inputs, topology)?;
     let is_edition3 = says_world(alloc, &topology)?;
     let read = journals_of(alloc, inputs, journals)?;
-    if is_edition3 {
-        return Ok(AuditFiles {
-            topology,
-            is_edition3,
-            journals: read,
-        });
-    }
-    let journals = as_stopped(alloc, inputs, journals, read)?;
+    let journals = if is_edition3 {
+        segments_as_stopped(alloc, inputs, &topology, journals, read)?
+    } else {
+        as_stopped(alloc, inputs, journals, read)?
+    };
     Ok(AuditFiles {
         topology,
         is_edition3,

@@ -1,3 +1,4 @@
+pub mod TakenAgain
 pub mod AsBox
 pub mod Alone
 pub mod Ascends

@@ -1,6 +1,6 @@
 -- A site of edition 3 for a caller that keeps the journal: what it is, and what each call of it comes to. The journal is a
 -- segment of epoch 0 that begins with an empty base.
-use Rattle.std.specs.Prelude.{◌≡◌, ◌≢◌, ℕ, ◌<◌, ◌≤◌, List, [], ◌∷◌, ◌++◌, length, Option, None, Some, IsSome}
+use Rattle.std.specs.Prelude.{◌≡◌, ◌≢◌, ℕ, ◌<◌, ◌≤◌, Bool, true, false, List, [], ◌∷◌, ◌++◌, length, Option, None, Some, IsSome}
 use Rattle.cmh_model3.specs.Entries.{Entry as Step}
 use Rattle.cmh_model3.specs.Journals.{state_after}
 use Rattle.cmh_model3.specs.Rules.{after}
@@ -146,6 +146,28 @@ NotTook seat event room (Short needed) =
     (entry : Entry) × IsNext seat entry × (event ≡ event_spelling entry.event)
     × (needed ≡ length (bytes_of seat entry)) × (room < needed) × (needed ≤ longest_entry)
 NotTook seat event room Starved = IsReady seat
+
+-- ---- a step that is taken again
+
+-- In this state the site's controller takes the step of the entry, and its declaration names the stop.
+pub record IsEntryIn (home : ℕ → ℕ) (s : ℕ) (v : State) (entry : Entry) : Type 0 where
+  pub step : IsStep home s v (step_of entry)
+  pub stamped : entry ≡ entry_at v.clock (step_of entry)
+
+abbrev pub IsEntryOf : Seat → Entry → Type 0
+IsEntryOf seat entry = IsEntryIn (home_of seat.controller) seat.controller.site (state_of seat.controller) entry
+
+-- Whether the entry is that of a step of the site. If so the step is taken and the entry kept; if not nothing has changed.
+abbrev pub HasRetaken : Seat → Entry → Bool → Seat → Type 0
+HasRetaken old entry true new = IsEntryOf old entry × Keeps old entry new
+HasRetaken old entry false new = ¬ IsEntryOf old entry × IsUnchanged old new
+
+-- why a site takes no step, whatever the event
+abbrev pub IsNotReady : Seat → SeatFault → Type 0
+IsNotReady seat IsPrepared = IsSome seat.pending
+IsNotReady seat Full = (seat.pending ≡ None) × (seat.taken ≡ most_entries)
+IsNotReady seat Starved = IsReady seat
+IsNotReady seat other = ⊥
 
 -- ---- questions
 

@@ -2,6 +2,7 @@
 //! entries and messages. The caller keeps the journal and carries the messages.
 #![tactic(auto)]
 
+mod again;
 mod entries;
 mod fault;
 mod held;

@@ -1,7 +1,7 @@
 //! The connections that other sites dialled.
 
 use crate::socket::Socket;
-use crate::stepping::Site;
+use cmh_clients3::Site;
 use cmh_links3::{Incoming, Onward};
 use cmh_log3::SegmentFile;
 use std::alloc::Global;
@@ -15,6 +15,9 @@ const HELLO_PATIENCE: u64 = 5_000;
 /// How many batches of messages are taken in a turn, at most.
 const MOST_BATCHES: usize = 2;
 
+/// How many bytes a sender says at least that finds a journal fit, and a sender that does not says no more.
+const LEAST_SAID: usize = 2;
+
 /// A connection that another site dialled.
 #[derive(Drop)]
 pub(crate) struct Arrival {
@@ -23,6 +26,8 @@ pub(crate) struct Arrival {
     since: u64,
     /// Whether the last read filled its buffer.
     filled: bool,
+    /// How many bytes came after the hello was answered.
+    said: usize,
 }
 
 impl Arrival {
@@ -33,7 +38,17 @@ impl Arrival {
             socket,
             since: now,
             filled: false,
+            said: 0,
         }
+    }
+
+    /// The place of the peer that has said something after its hello was answered, so that it finds this journal fit: else it
+    /// would have refused to go on, by a refusal of two bytes.
+    pub fn goes_on_at(&self) -> Option<usize> {
+        if self.said < LEAST_SAID {
+            return None;
+        }
+        self.incoming.place()
     }
 
     pub fn socket(&mut self) -> &mut Socket {
@@ -65,6 +80,9 @@ impl Arrival {
         if !self.incoming.has_more() {
             let count = self.socket.read(scratch);
             self.filled = count == scratch.len();
+            if self.incoming.place().is_some() {
+                self.said = self.said.saturating_add(count);
+            }
             if count > 0 && self.incoming.hear(&scratch[..count]).is_err() {
                 return false;
             }

@@ -1,7 +1,7 @@
 //! The connections that the site dials: one to each other site.
 
 use crate::socket::Socket;
-use crate::stepping::Site;
+use cmh_clients3::Site;
 use cmh_links3::{Onward, Outgoing};
 use cmh_log3::SegmentFile;
 use mio::net::TcpStream;

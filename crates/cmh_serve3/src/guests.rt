@@ -1,8 +1,8 @@
 //! The clients of the site that connect.
 
 use crate::socket::Socket;
-use crate::talker::Talker;
 use cmh_client::MOST_QUEUED;
+use cmh_clients3::Talker;
 use std::alloc::Global;
 
 /// How many clients a site has at once; each further one is closed at once.

@@ -1,28 +1,29 @@
 //! The one thread of a site: what it waits for, and its turns.
 
 use crate::arrivals::{Arrival, MOST_ARRIVALS};
-use crate::batch::Batch;
 use crate::calls::Call;
+use crate::console::Console;
+use crate::descriptor::Descriptor;
+use crate::doors::{Doors, is_of_port};
 use crate::guests::{Guest, MOST_CLIENTS};
+use crate::places::{places, put_at, take_at};
 use crate::serve_fault::ServeFault;
 use crate::socket::Socket;
-use crate::stepping::Site;
+use crate::voice::SiteVoice;
+use cmh_clients3::{MOST_TOGETHER, Site, Talker};
+use cmh_console::{Ahead, Input, Output};
 use cmh_log3::SegmentFile;
-use cmh_node3::Node;
-use cmh_talk3::{EventReply, Figures};
+use cmh_talk3::Figures;
 use mio::net::{TcpListener, TcpStream};
 use mio::{Events, Interest, Poll, Token};
 use std::alloc::{AllocError, Global};
-use std::io::ErrorKind;
+use std::io::{BufRead, ErrorKind, Write};
 use std::net::Net;
 use std::sync::Wait;
 use std::time::{Clock, Duration};
 
-/// The port on which other sites connect.
-const LINKS: Token = Token(0);
-
-/// The port on which clients connect.
-const DOOR: Token = Token(1);
+/// Standard error.
+const ERRORS: Token = Token(4);
 
 /// The first of the connections that are dialled, of those that others dialled, and of clients.
 const FIRST_CALL: usize = 16;
@@ -42,16 +43,8 @@ const SHORT_WAIT: u64 = 20;
 
 const LONG_WAIT: u64 = 500;
 
-/// How many events one append takes.
-const TOGETHER: usize = crate::batch::MOST_TOGETHER;
-
-/// The ports of a site.
-#[derive(Drop)]
-pub(crate) struct Doors {
-    pub poll: Poll,
-    pub links: TcpListener,
-    pub clients: TcpListener,
-}
+/// The place of standard input among clients, behind those that connect.
+const CONSOLE: usize = MOST_CLIENTS;
 
 /// A site with its connections.
 #[derive(Drop)]
@@ -60,11 +53,14 @@ pub(crate) struct Hub<F: SegmentFile> {
     poll: Poll,
     events: Events,
     links: TcpListener,
-    clients: TcpListener,
+    clients: Option<TcpListener>,
     site: Site<F>,
     calls: Vec<Call>,
     arrivals: Vec<Option<Arrival>>,
     guests: Vec<Option<Guest>>,
+    console: Option<Console>,
+    /// Where notes go, if anybody wants them.
+    errors: Option<Descriptor>,
     scratch: Vec<u8>,
     /// The number of the next connection.
     next_line: u64,
@@ -76,59 +72,78 @@ pub(crate) struct Hub<F: SegmentFile> {
 
 /// What a hub works in. It is made before the site is opened, so that nothing that fails afterwards has to let the site go.
 #[derive(Drop)]
-pub(crate) struct Room {
+pub(crate) struct Spare {
     scratch: Vec<u8>,
-    replies: Vec<EventReply>,
-    batch: Batch,
     events: Events,
     guests: Vec<Option<Guest>>,
     arrivals: Vec<Option<Arrival>>,
 }
 
-impl Room {
-    pub fn new(alloc: Global) -> Result<Room, AllocError> {
-        let scratch = Vec::from_elem(alloc, 0, SCRATCH)?;
-        let replies = Vec::with_capacity(alloc, TOGETHER)?;
-        let batch = Batch::new(alloc)?;
-        let events = Events::with_capacity(alloc, 1024)?;
-        let guests = places(alloc, MOST_CLIENTS)?;
-        let arrivals = places(alloc, MOST_ARRIVALS)?;
-        Ok(Room {
-            scratch,
-            replies,
-            batch,
-            events,
-            guests,
-            arrivals,
+impl Spare {
+    pub fn new(alloc: Global) -> Result<Spare, AllocError> {
+        Ok(Spare {
+            scratch: Vec::from_elem(alloc, 0, SCRATCH)?,
+            events: Events::with_capacity(alloc, 1024)?,
+            guests: places(alloc, MOST_CLIENTS)?,
+            arrivals: places(alloc, MOST_ARRIVALS)?,
         })
     }
 }
 
+/// A site that waits for nothing yet.
+#[derive(Drop)]
+pub(crate) struct Parts<F: SegmentFile> {
+    pub site: Site<F>,
+    pub calls: Vec<Call>,
+    pub spare: Spare,
+    /// Whether its lines come from standard input.
+    pub has_console: bool,
+    /// Whether somebody wants its notes.
+    pub has_notes: bool,
+}
+
 impl<F: SegmentFile> Hub<F> {
-    pub fn new(alloc: Global, doors: Doors, node: Node<F>, calls: Vec<Call>, room: Room) -> Hub<F> {
+    pub fn new(alloc: Global, doors: Doors, parts: Parts<F>) -> Hub<F> {
         let Doors {
             poll,
             links,
             clients,
         } = doors;
-        let Room {
+        let Parts {
+            site,
+            calls,
+            spare,
+            has_console,
+            has_notes,
+        } = parts;
+        let console = if has_console {
+            Some(Console::new(alloc, poll.registry()))
+        } else {
+            None
+        };
+        let errors = if has_notes {
+            Some(Descriptor::new(poll.registry(), 2, ERRORS, Interest::WRITABLE))
+        } else {
+            None
+        };
+        let Spare {
             scratch,
-            replies,
-            batch,
             events,
             guests,
             arrivals,
-        } = room;
+        } = spare;
         Hub {
             alloc,
             poll,
             events,
             links,
             clients,
-            site: Site::new(alloc, node, batch, replies),
+            site,
             calls,
             arrivals,
             guests,
+            console,
+            errors,
             scratch,
             next_line: 1,
             first: 0,
@@ -136,19 +151,65 @@ impl<F: SegmentFile> Hub<F> {
         }
     }
 
-    /// Runs the site until it can't wait any more, and answers why.
-    pub fn run<R: Wait + Clock + Net>(&mut self, rt: &R) -> ServeFault {
+    /// Runs the site until its standard input has ended, or until it can't go on, and answers why.
+    pub fn run<R: Wait + Clock + Net, I: BufRead + Ahead, W: Write, V: SiteVoice>(
+        &mut self,
+        rt: &R,
+        input: &mut Input<I>,
+        out: &mut Output<W>,
+        voice: &V,
+    ) -> Result<(), ServeFault> {
         for _ in rt.forever() {
             let patience = self.patience();
             if self.poll.poll(&mut self.events, Some(patience)).is_err() {
-                return ServeFault::Listen;
+                return Err(ServeFault::Listen);
             }
             let Ok(since) = rt.monotonic() else {
-                return ServeFault::Listen;
+                return Err(ServeFault::Listen);
             };
-            self.turn(rt, millis(since));
+            self.look_at_all();
+            self.read_console(input)?;
+            self.turn(rt, since);
+            self.tell_notes(voice);
+            if self.write_console(out)? {
+                return Ok(());
+            }
         }
         unreachable!()
+    }
+
+    /// Reads lines of standard input.
+    fn read_console<I: BufRead + Ahead>(&mut self, input: &mut Input<I>) -> Result<(), ServeFault> {
+        match &mut self.console {
+            Some(console) => console.read(input, self.poll.registry()),
+            None => Ok(()),
+        }
+    }
+
+    /// Writes answers to standard output. Answers whether standard input has ended, and all is written.
+    fn write_console<W: Write>(&mut self, out: &mut Output<W>) -> Result<bool, ServeFault> {
+        let Some(console) = &mut self.console else {
+            return Ok(false);
+        };
+        console.write(out, self.poll.registry())?;
+        Ok(console.is_over())
+    }
+
+    /// Tells notes on standard error, as far as that does not wait.
+    fn tell_notes<V: SiteVoice>(&mut self, voice: &V) {
+        let Some(errors) = &mut self.errors else {
+            return;
+        };
+        for _ in 0..MOST_ROUNDS {
+            if !errors.is_ready() {
+                return;
+            }
+            let Some(note) = self.site.noting.next() else {
+                return;
+            };
+            voice.tell(&note);
+            errors.used(self.poll.registry());
+        }
     }
 
     /// How long to wait for the next event.
@@ -167,6 +228,22 @@ impl<F: SegmentFile> Hub<F> {
 
     /// Whether there is more to do at once.
     fn is_busy(&self) -> bool {
+        self.has_busy_console() || self.has_busy_connections()
+    }
+
+    fn has_busy_console(&self) -> bool {
+        let has_lines = match &self.console {
+            Some(console) => console.is_busy(),
+            None => false,
+        };
+        let has_notes = match &self.errors {
+            Some(errors) => errors.is_ready() && self.site.noting.has_note(),
+            None => false,
+        };
+        has_lines || has_notes
+    }
+
+    fn has_busy_connections(&self) -> bool {
         self.calls.iter().any(|call| call.is_busy())
             || self.arrivals.iter().any(|arrival| match arrival {
                 Some(arrival) => arrival.is_busy(),
@@ -179,8 +256,8 @@ impl<F: SegmentFile> Hub<F> {
     }
 
     /// Does what can be done at once.
-    fn turn<R: Net>(&mut self, net: &R, now: u64) {
-        self.look_at_all();
+    fn turn<R: Net>(&mut self, net: &R, since: Duration) {
+        let now = millis(since);
         if self.may_accept {
             self.may_accept = self.accept_links(now) | self.accept_clients();
         }
@@ -192,6 +269,7 @@ impl<F: SegmentFile> Hub<F> {
             }
         }
         self.call_sites(net, now);
+        self.site.look(since.as_secs());
         self.tell_clients();
         self.write_clients();
     }
@@ -201,7 +279,15 @@ impl<F: SegmentFile> Hub<F> {
         for event in self.events.iter() {
             let Token(number) = event.token();
             if number < FIRST_CALL {
-                self.may_accept = true;
+                self.may_accept |= is_of_port(event.token());
+                if let Some(console) = &mut self.console {
+                    console.ready(event.token());
+                }
+                if let Some(errors) = &mut self.errors {
+                    if event.token() == ERRORS {
+                        errors.ready();
+                    }
+                }
             } else if let Some(socket) = socket_at(
                 number,
                 &mut self.calls,
@@ -253,7 +339,10 @@ impl<F: SegmentFile> Hub<F> {
 
     fn accept_clients(&mut self) -> bool {
         for _ in 0..MOST_CLIENTS {
-            match self.clients.accept() {
+            let Some(clients) = &self.clients else {
+                return false;
+            };
+            match clients.accept() {
                 Ok((stream, _)) => self.let_client_in(stream),
                 Err(error) => return may_accept_more(error.kind()),
             }
@@ -289,6 +378,9 @@ impl<F: SegmentFile> Hub<F> {
             self.is_called(arrival.place());
         }
         if goes_on {
+            if let Some(place) = arrival.goes_on_at() {
+                self.site.meeting.is_heard(place);
+            }
             put_at(&mut self.arrivals, place, arrival);
         } else {
             arrival.end(&mut self.site);
@@ -316,8 +408,8 @@ impl<F: SegmentFile> Hub<F> {
     /// Takes events of clients as far as one append takes them, and answers them. Answers whether there were any.
     fn round(&mut self) -> bool {
         let figures = self.figures();
-        let most = TOGETHER.div_ceil(self.speakers().max(1));
-        let count = self.guests.len().max(1);
+        let most = MOST_TOGETHER.div_ceil(self.speakers().max(1));
+        let count = CONSOLE + 1;
         self.site.batch.clear();
         let first = self.first;
         self.first = first.saturating_add(1) % count;
@@ -327,10 +419,8 @@ impl<F: SegmentFile> Hub<F> {
                 self.first = place;
                 break;
             }
-            if let Some(Some(guest)) = self.guests.get_mut(place) {
-                guest
-                    .talker
-                    .take_lines(place, most, &mut self.site, &figures);
+            if let Some(talker) = talker_at(&mut self.guests, &mut self.console, place) {
+                talker.take_lines(place, most, &mut self.site, &figures);
             }
         }
         if self.site.batch.is_empty() {
@@ -347,22 +437,31 @@ impl<F: SegmentFile> Hub<F> {
             Some(guest) => guest.talker.has_lines(),
             None => false,
         });
-        speaking.count()
+        let console = match &self.console {
+            Some(console) => usize::from(console.talker.has_lines()),
+            None => 0,
+        };
+        speaking.count().saturating_add(console)
     }
 
     fn figures(&self) -> Figures {
         let clients = self.guests.iter().filter(|guest| guest.is_some());
         Figures {
-            clients: clients.count(),
+            clients: clients
+                .count()
+                .saturating_add(usize::from(self.console.is_some())),
         }
     }
 
-    /// Says the replies to the clients that wait for them.
+    /// Says the replies to the clients that wait for them. A client for which there is none is closed.
     fn answer_clients(&mut self) {
         let site = &self.site;
-        for (place, reply) in site.batch.places().iter().zip(&site.replies) {
-            if let Some(Some(guest)) = self.guests.get_mut(*place) {
-                guest.talker.answer(*reply);
+        for (number, place) in site.batch.places().iter().enumerate() {
+            if let Some(talker) = talker_at(&mut self.guests, &mut self.console, *place) {
+                match site.replies.get(number) {
+                    Some(reply) => talker.answer(*reply),
+                    None => talker.give_up(),
+                }
             }
         }
     }
@@ -381,15 +480,14 @@ impl<F: SegmentFile> Hub<F> {
 
     /// Tells those who watch what happened.
     fn tell_clients(&mut self) {
-        self.site.teller.tell_links(&self.site.node);
         if self.site.teller.news().is_empty() {
             return;
         }
         let mut watchers = false;
-        for guest in self.guests.iter_mut() {
-            if let Some(guest) = guest {
-                watchers |= guest.talker.watches();
-                guest.talker.tell(self.site.teller.news());
+        for place in 0..=CONSOLE {
+            if let Some(talker) = talker_at(&mut self.guests, &mut self.console, place) {
+                watchers |= talker.watches();
+                talker.tell(self.site.teller.news());
             }
         }
         self.site.teller.told(watchers);
@@ -407,6 +505,24 @@ impl<F: SegmentFile> Hub<F> {
     }
 }
 
+/// The client at a place.
+fn talker_at<'a>(
+    guests: &'a mut Vec<Option<Guest>>,
+    console: &'a mut Option<Console>,
+    place: usize,
+) -> Option<&'a mut Talker> {
+    if place == CONSOLE {
+        return match console {
+            Some(console) => Some(&mut console.talker),
+            None => None,
+        };
+    }
+    match guests.get_mut(place) {
+        Some(Some(guest)) => Some(&mut guest.talker),
+        _ => None,
+    }
+}
+
 /// Whether a link is open, or stays closed until the site starts again.
 fn is_settled(state: cmh_resume3::State) -> bool {
     match state {
@@ -417,30 +533,6 @@ fn is_settled(state: cmh_resume3::State) -> bool {
 
 fn millis(since: Duration) -> u64 {
     u64::try_from(since.as_millis()).unwrap_or(u64::MAX)
-}
-
-/// What stands at a place, which is empty then.
-fn take_at<T: Drop>(places: &mut Vec<Option<T>>, place: usize) -> Option<T> {
-    match places.get_mut(place) {
-        Some(item) => item.take(),
-        None => None,
-    }
-}
-
-/// Puts something at a place.
-fn put_at<T: Drop>(places: &mut Vec<Option<T>>, place: usize, item: T) {
-    if let Some(old) = places.get_mut(place) {
-        *old = Some(item);
-    }
-}
-
-/// So many empty places.
-fn places<T: Drop>(alloc: Global, count: usize) -> Result<Vec<Option<T>>, AllocError> {
-    let mut places = Vec::with_capacity(alloc, count)?;
-    for _ in 0..count {
-        places.push(None)?;
-    }
-    Ok(places)
 }
 
 /// Whether more connections may wait on a port after this error.
@@ -485,37 +577,4 @@ fn socket_at<'a>(
 /// The token of the connection that is dialled to the peer at a place.
 pub(crate) fn call_token(place: usize) -> Token {
     Token(FIRST_CALL.saturating_add(place))
-}
-
-/// Listens for other sites and for clients.
-pub(crate) fn listen<R: Net>(net: &R, links: u16, clients: u16) -> Result<Doors, ServeFault> {
-    let Ok(poll) = Poll::new(net) else {
-        return Err(ServeFault::Listen);
-    };
-    let links = listen_on(net, &poll, links, LINKS)?;
-    let clients = listen_on(net, &poll, clients, DOOR)?;
-    Ok(Doors {
-        poll,
-        links,
-        clients,
-    })
-}
-
-fn listen_on<R: Net>(
-    net: &R,
-    poll: &Poll,
-    port: u16,
-    token: Token,
-) -> Result<TcpListener, ServeFault> {
-    let address = std::net::SocketAddr::from((std::net::Ipv4Addr::LOCALHOST, port));
-    let Ok(mut listener) = TcpListener::bind(net, address) else {
-        return Err(ServeFault::Listen);
-    };
-    match poll
-        .registry()
-        .register(&mut listener, token, Interest::READABLE)
-    {
-        Ok(()) => Ok(listener),
-        Err(_) => Err(ServeFault::Listen),
-    }
 }

@@ -3,21 +3,22 @@
 #![tactic(auto)]
 
 mod arrivals;
-mod batch;
 mod calls;
+mod console;
+mod descriptor;
+mod doors;
 mod guests;
 mod hub;
 mod opening;
+mod places;
 mod ports;
-mod replying;
 mod serve_fault;
 mod serving;
 mod setting;
 mod socket;
-mod stepping;
-mod talker;
-mod telling;
+mod voice;
 
 pub use crate::serve_fault::ServeFault;
-pub use crate::serving::{ServeStart, run_service3};
+pub use crate::serving::{ServeStart, run_service3, run_site3};
 pub use crate::setting::is_of_edition3;
+pub use crate::voice::SiteVoice;

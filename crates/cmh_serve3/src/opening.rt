@@ -1,11 +1,12 @@
 //! The site as its journal has it.
 
 use crate::serve_fault::ServeFault;
-use cmh_disk3::{DiskFile, DiskFolder, JournalFolder, Start, open_site};
+use crate::serving::ServeStart;
+use cmh_clients3::{Batch, Meeting, Noting, Site, Teller};
+use cmh_disk3::{DiskFile, DiskFolder, SegmentReader, open_site};
 use cmh_node3::Node;
-use cmh_runs::SiteId;
 use cmh_topology3::Topology;
-use std::alloc::Global;
+use std::alloc::{AllocError, Global};
 use std::fs::File;
 use std::rt::Files;
 
@@ -13,16 +14,64 @@ use std::rt::Files;
 const MOST_BYTES: u64 = 1 << 40;
 
 /// Opens a site on the folder of its journal. Nothing is said to anyone before all that was read is on the disk for good.
-pub(crate) fn open_node<R: Files<File = File>>(
+pub(crate) fn open<R: Files<File = File>>(
     rt: &R,
     alloc: Global,
     topology: &Topology,
-    site: SiteId,
-    folder: &str,
-    start: Start,
-) -> Result<Node<DiskFile>, ServeFault> {
-    let mut folder = DiskFolder::lock(rt, alloc, folder, MOST_BYTES, start)?;
-    let station = open_site(alloc, topology, site, &mut folder, start)?;
-    let node = Node::new(alloc, topology, site, station)?;
-    Ok(node)
+    start: &ServeStart<'_>,
+    batch: Batch,
+    has_notes: bool,
+) -> Result<Site<DiskFile>, ServeFault> {
+    let (node, reader) = open_node(rt, alloc, topology, start)?;
+    let meeting = meeting_of(alloc, &node, start.waits_for_peers)?;
+    let noting = noting_of(alloc, &node, &meeting, has_notes)?;
+    Ok(Site {
+        alloc,
+        node,
+        reader,
+        batch,
+        replies: Vec::new(alloc),
+        teller: Teller::new(alloc),
+        meeting,
+        noting,
+    })
+}
+
+/// The site, and the file of its journal to look at.
+fn open_node<R: Files<File = File>>(
+    rt: &R,
+    alloc: Global,
+    topology: &Topology,
+    start: &ServeStart<'_>,
+) -> Result<(Node<DiskFile>, SegmentReader), ServeFault> {
+    let mut folder = DiskFolder::lock(rt, alloc, start.journal, MOST_BYTES, start.start)?;
+    let station = open_site(alloc, topology, start.site, &mut folder, start.start)?;
+    let node = Node::new(alloc, topology, start.site, station)?;
+    let reader = folder.reader(alloc)?;
+    Ok((node, reader))
+}
+
+/// Which links its clients' events wait for.
+fn meeting_of(
+    alloc: Global,
+    node: &Node<DiskFile>,
+    waits_for_peers: bool,
+) -> Result<Meeting, AllocError> {
+    if !waits_for_peers {
+        return Ok(Meeting::none(alloc));
+    }
+    Meeting::with(alloc, node.peers().len())
+}
+
+/// What is noted of it, if anybody wants notes.
+fn noting_of(
+    alloc: Global,
+    node: &Node<DiskFile>,
+    meeting: &Meeting,
+    has_notes: bool,
+) -> Result<Noting, AllocError> {
+    if !has_notes {
+        return Ok(Noting::none(alloc));
+    }
+    Noting::of(alloc, node, meeting)
 }

@@ -31,7 +31,9 @@ pub enum ServeFault {
     JournalUnlawful(u64),
     /// A port can't be listened on, or the site can't wait any more.
     Listen,
-    /// It can't say that it listens.
+    /// A line of standard input can't be read.
+    Input,
+    /// It can't say that it listens, or an answer on standard output.
     Output,
     /// Memory or a thread was refused, and no answer can say so.
     Memory,
@@ -65,6 +67,7 @@ impl fmt::Display for ServeFault {
             ServeFault::JournalOther => write!(f, "fault journal other"),
             ServeFault::JournalUnlawful(entry) => write!(f, "fault journal unlawful at {entry}"),
             ServeFault::Listen => write!(f, "fault listen"),
+            ServeFault::Input => write!(f, "fault input"),
             ServeFault::Output => write!(f, "fault output"),
             ServeFault::Memory => write!(f, "fault memory"),
         }

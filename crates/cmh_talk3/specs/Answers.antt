@@ -13,7 +13,7 @@ use Rattle.cmh_node3.specs.declared.sealed.Sealed.{Sealed}
 use Rattle.cmh_node3.specs.declared.stepping.NotStepped.{NotStepped}
 use Rattle.cmh_peers3.specs.declared.peer.Peer.{Peer}
 use Rattle.cmh_talk3.specs.Links.{into_state, out_state, states_of}
-use Rattle.cmh_talk3.specs.Numbers.{reply_of, reply_of_none}
+use Rattle.cmh_talk3.specs.Numbers.{reply_of, reply_of_none, reply_while_waiting}
 use Rattle.cmh_talk3.specs.Texts.{event_text, reply_text}
 use Rattle.cmh_talk3.specs.declared.deed.Deed.{Deed}
 use Rattle.cmh_talk3.specs.declared.deed.Question.{Question}
@@ -155,9 +155,10 @@ abbrev pub AnswersQuestion : Question → List ℕ → Type 0
 AnswersQuestion (asks.Tail count) text = ⊤
 AnswersQuestion question text = (at : Standing) × (reply : Reply) × Answers at question reply × (text ≡ reply_text reply)
 
--- the reply to an answer of a node for one event, or to why it took none
+-- the reply to an answer of a node for one event, or to why it took none; or that it was given none yet
 abbrev pub IsReply : EventReply → Type 0
 IsReply reply = ((answer : Result Outcome (Reason Rule)) × (reply ≡ reply_of answer)) ⊎ ((why : NotStepped) × (reply ≡ reply_of_none why))
+    ⊎ (reply ≡ reply_while_waiting)
 
 abbrev pub AnswersDeed : Deed → List ℕ → Type 0
 AnswersDeed deed text = (reply : EventReply) × IsReply reply × (text ≡ event_text reply)

@@ -41,3 +41,7 @@ reply_of (Err refusal) = Refused (number_of refusal)
 
 abbrev pub reply_of_none : NotStepped → EventReply
 reply_of_none why = Refused (number_of_none why)
+
+-- to each event while the site waits for its peers
+abbrev pub reply_while_waiting : EventReply
+reply_while_waiting = Refused 18

@@ -18,7 +18,7 @@ pub use crate::language::Lines;
 pub use crate::link_state::{IntoState, LinkStates, OutState, into_state, out_state};
 pub use crate::news::News;
 pub use crate::reply::{EventReply, Figures, Reply, Status};
-pub use crate::replying::{reply_of, reply_of_none};
+pub use crate::replying::{reply_of, reply_of_none, reply_while_waiting};
 pub use crate::said::{Said, parse};
 pub use crate::telling::{
     LeftPair, declared_before, left_pairs, link_news, news_of_own, news_of_taken,

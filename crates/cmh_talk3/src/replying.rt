@@ -30,6 +30,13 @@ pub fn reply_of_none(why: NotStepped) -> EventReply
     }
 }
 
+/// The reply to each event that comes before the site has met the other sites, where it waits for that.
+pub fn reply_while_waiting() -> EventReply
+    ensures { result ≡ spec.reply_while_waiting }
+{
+    EventReply::Refused(18)
+}
+
 /// The reply to a step that was taken.
 fn taken(outcome: &Outcome) -> EventReply
     ensures { result ≡ spec.taken outcome.now }

@@ -3,7 +3,8 @@ docs/rules.md and docs/formats.md."""
 from ctypes import byref, c_size_t, c_uint8, c_uint16, c_uint64
 
 import libcmh
-from libcmh import Entry3, Refused, Site3
+from libcmh import Entry3, Refused, Site3, got3, sent3
+from segments import mark_of
 
 WORLD, ROWS = bytes(16), {1: [1, 2], 2: [3, 4]}
 
@@ -135,7 +136,90 @@ def long_entry():
     expect('the longest', libcmh._library.cmh_site3_entry_max(), 1701897)
 
 
+def place(*of):
+    """The code that a site is not opened with, and the place that is told."""
+    try:
+        Site3.open(*of)
+    except Refused as refused:
+        return refused.code, refused.place
+    return 0
+
+
+def chained(journal, body):
+    """The journal with one entry more."""
+    framed = len(body).to_bytes(4, 'big') + body
+    return journal + framed + mark_of(journal[-8:] + framed)
+
+
+def head_of(site, world, epoch=0):
+    head = b'CMHJ\x03' + site.to_bytes(2, 'big') + world + epoch.to_bytes(4, 'big') + bytes(4) + b'\x00\x00\x00\x1c' + bytes(28)
+    return head + mark_of(head)
+
+
+def again():
+    first = Site3(WORLD, ROWS, 1)
+    asked = [first.ask(1, [2, 3]), first.ask(2, [1])]
+    journal = first.head() + b''.join(entry.bytes for entry in asked)
+    opened, end = Site3.open(WORLD, ROWS, 1, journal)
+    expect('it stands where it stood', (end, opened.declared(), opened.waits(1), opened.owed(1)),
+           (len(journal), first.declared(), first.waits(1), first.owed(1)))
+    expect('and steps on', opened.withdraw(1, [2, 3]).bytes, first.withdraw(1, [2, 3]).bytes)
+    expect('a head alone', (Site3.open(WORLD, ROWS, 1, HEAD)[1], head_of(1, WORLD)), (71, HEAD))
+    expect('each part of an entry is cut', {Site3.open(WORLD, ROWS, 1, journal[:at])[1] for at in range(71 + len(asked[0].bytes), len(journal))},
+           {71 + len(asked[0].bytes)})
+    expect('each part of a head is none', {place(WORLD, ROWS, 1, HEAD[:at]) for at in range(71)}, {(51, None)})
+    expect('so is another byte', {place(WORLD, ROWS, 1, HEAD[:at] + bytes([HEAD[at] ^ 1]) + HEAD[at + 1:]) for at in range(71)}, {(51, None)})
+    expect('an entry in the middle', [place(WORLD, ROWS, 1, journal[:at] + bytes([journal[at] ^ 1]) + journal[at + 1:]) for at in (71, 80, 120)],
+           [(52, 71)] * 3)
+    expect('a long tail', [place(WORLD, ROWS, 1, journal + bytes(more)) for more in (1701897, 1701898)], [0, (52, len(journal))])
+    expect('a body that is none', place(WORLD, ROWS, 1, chained(journal, b'\x09')), (52, len(journal)))
+    expect('of others', [place(WORLD, ROWS, 2, journal), place(b'\x01' * 16, ROWS, 1, journal), place(WORLD, ROWS, 1, head_of(1, WORLD, 1))],
+           [(53, None)] * 3)
+    expect('unlawful', [place(WORLD, ROWS, 1, chained(journal, body)) for body in
+                        (b'\x02\x00\x01\x00\x04', asked[0].bytes[4:-8], b'\x07\x00\x02\x01\x00\x01\x06\x00\x01' + bytes(8))], [(54, 3)] * 3)
+    expect('another stamp', place(WORLD, ROWS, 1, chained(HEAD + asked[0].bytes, asked[1].bytes[4:-9] + b'\x07')), (54, 2))
+    expect('of other rows', place(WORLD, {1: [1, 2]}, 1, journal), (54, 1))
+    expect('what is said first', [place(bytes(15), {}, 3, b''), place(WORLD, {1: [0]}, 3, b''), place(WORLD, ROWS, 3, b''), place(WORLD, ROWS, 2, b'')],
+           [(50, None), (34, None), (2, None), (51, None)])
+    handle, where, words = libcmh._Handle(), c_uint64(77), libcmh._rows(ROWS)
+    reopen = lambda of: (libcmh._library.cmh_site3_open(byref(handle), WORLD, 16, *words, 1, of, len(of), byref(where)), where.value)
+    expect('nothing else is told', [reopen(b''), reopen(journal), reopen(b'')], [(51, 77), (0, len(journal)), (23, len(journal))])
+    libcmh._library.cmh_site3_free(byref(handle))
+
+
+def links():
+    first, second = Site3(WORLD, ROWS, 1), Site3(WORLD, ROWS, 2)
+    sent = [message for _to, message in first.ask(1, [3]).sendings + first.ask(2, [4]).sendings]
+    one = first.head() + Site3(WORLD, ROWS, 1).ask(1, [3]).bytes
+    journal = Site3.open(WORLD, ROWS, 1, one)[0]
+    one += journal.ask(2, [4]).bytes
+    got = [second.got(1, message).bytes for message in sent]
+    journals = [second.head() + b''.join(got[:count]) for count in range(len(got) + 1)]
+    marks = [int.from_bytes(mark_of(b''.join(sent[:count])), 'big') for count in range(len(sent) + 1)]
+    expect('messages', len(sent), 4)
+    expect('got', [got3(each, 1) for each in journals], list(enumerate(marks)))
+    expect('of nobody', [got3(journals[4], 2), got3(one, 2)], [(0, marks[0])] * 2)
+    expect('sent', [sent3(one, 2, count, mark) for count, mark in enumerate(marks)], [b''.join(sent[count:]) for count in range(5)])
+    expect('to nobody', sent3(one, 9999, 0, marks[0]), b'')
+    expect('more', [code(sent3, one, 2, 5, marks[4]), code(sent3, one, 2, 2**64 - 1, 0), code(sent3, HEAD, 2, 1, marks[1])], [67] * 3)
+    expect('others', [code(sent3, one, 2, 4, marks[4] ^ 1), code(sent3, one, 2, 3, marks[4]), code(sent3, one, 2, 0, 0)], [68] * 3)
+    expect('no number', [code(got3, b'', number) for number in (0, 10000)] + [code(sent3, b'', number, 0, 0) for number in (0, 10000)], [28] * 4)
+    wrong = [b'', HEAD[:70], one[:80] + b'\xee' + one[81:], chained(one, b'\x09'), head_of(1, WORLD, 1)]
+    expect('no journals', [code(got3, each, 2) for each in wrong] + [code(sent3, each, 2, 9, 9) for each in wrong], [51, 51, 52, 52, 53] * 2)
+    expect('a tail is not looked at', [got3(journals[4][:-1], 1), got3(journals[4] + bytes(9), 1)], [(3, marks[3]), (4, marks[4])])
+    out, count = (c_uint8 * 72)(*[0xee] * 72), c_size_t(77)
+    rest = lambda room, got: (libcmh._library.cmh_journal3_sent(one, len(one), 2, got, marks[0], out, room, byref(count)), count.value)
+    expect('too short', ([rest(room, 0) for room in (0, 71)], bytes(out)), ([(21, 72)] * 2, b'\xee' * 72))
+    count.value = 77
+    expect('refused', (rest(72, 9), bytes(out)), ((67, 77), b'\xee' * 72))
+    expect('enough', (rest(72, 0), bytes(out)), ((0, 72), b''.join(sent)))
+    count, mark = c_uint64(77), c_uint64(77)
+    expect('nothing is told', (libcmh._library.cmh_journal3_got(b'', 0, 1, byref(count), byref(mark)), count.value, mark.value), (51, 77, 77))
+
+
 openings()
+again()
+links()
 example()
 entries()
 steps()

@@ -174,10 +174,10 @@ static void run3(struct journal *one, struct journal *two, struct journal *text)
 {
     static const uint16_t rows[] = {1, 2, 1, 3, 2, 1, 2};
     static const uint8_t world[CMH_WORLD_LEN];
-    cmh_site3 a = {0}, b = {0};
+    cmh_site3 a = {0}, b = {0}, again = {0};
     uint8_t event[64];
     uint16_t holder = 2, declared = 77;
-    uint64_t stamp = 77;
+    uint64_t stamp = 77, place = 77, got, mark;
 
     one->len = two->len = text->len = 0;
     CALL(cmh_site3_new(&a, world, sizeof world, rows, sizeof rows / sizeof *rows, 1));
@@ -215,6 +215,17 @@ static void run3(struct journal *one, struct journal *two, struct journal *text)
     carry(&a, one, 2, 1);
     CALL(cmh_site3_waits(&a, 1, processes, 64, &count));
     EXPECT(count == 0);
+
+    /* site 2 starts again, and the link to it goes on: nothing is left to send */
+    CALL(cmh_site3_open(&again, world, sizeof world, rows, sizeof rows / sizeof *rows, 2, two->bytes, two->len, &place));
+    EXPECT(place == two->len);
+    CALL(cmh_site3_owed(&again, 2, processes, 64, &count));
+    EXPECT(count == 0);
+    CALL(cmh_journal3_got(two->bytes, two->len, 1, &got, &mark));
+    EXPECT(got == 4);
+    CALL(cmh_journal3_sent(one->bytes, one->len, 2, got, mark, out, ROOM, &count));
+    EXPECT(count == 0);
+    cmh_site3_free(&again);
     cmh_site3_free(&a);
     cmh_site3_free(&b);
 }

@@ -90,22 +90,32 @@ static void fullest3(void)
     uint16_t holders[TARGETS3];
     uint8_t event[4 + 2 * TARGETS3], head[CMH_SITE3_HEAD_LEN];
     size_t room = cmh_site3_entry_max(), count, sendings, len;
-    uint8_t *entry = malloc(room);
+    size_t kept = CMH_SITE3_HEAD_LEN, most = 16 * 1024 * 1024;
+    uint8_t *entry = malloc(room), *journal = malloc(most), *messages = malloc(most);
     cmh_sending *sent = malloc(room / 16 * sizeof *sent);
     uint16_t declared;
-    uint64_t stamp;
-    cmh_site3 site = {0};
-    EXPECT(entry && sent);
+    uint64_t stamp, place, got, mark;
+    cmh_site3 site = {0}, again = {0};
+    EXPECT(entry && sent && journal && messages);
     for (unsigned i = 0; i < MEMBERS3; i++) rows[2 + i] = (uint16_t)(1 + i);
     rows[2 + MEMBERS3] = 2;
     rows[3 + MEMBERS3] = TARGETS3;
     for (unsigned i = 0; i < TARGETS3; i++) rows[4 + MEMBERS3 + i] = holders[i] = (uint16_t)(1001 + i);
     MEASURE("3: new, 256", MOST, EXPECT(cmh_site3_new(&site, world, sizeof world, rows, sizeof rows / sizeof *rows, 1) == CMH_OK));
     MEASURE("3: head", MOST, EXPECT(cmh_site3_head(&site, head, sizeof head) == CMH_OK));
+    memcpy(journal, head, sizeof head);
     for (unsigned asker = 2; asker <= MEMBERS3; asker++) {
         len = spell_ask(event, asker, TARGETS3, holders);
         MEASURE("3: ask for 255", MOST, EXPECT(cmh_site3_step(&site, event, len, entry, room, &count) == CMH_OK));
+        EXPECT(kept + count <= most);
+        memcpy(journal + kept, entry, count);
+        kept += count;
     }
+    MEASURE("3: open", MOST, EXPECT(cmh_site3_open(&again, world, sizeof world, rows, sizeof rows / sizeof *rows, 1, journal, kept, &place) == CMH_OK));
+    EXPECT(place == kept);
+    cmh_site3_free(&again);
+    MEASURE("3: got", MOST, EXPECT(cmh_journal3_got(journal, kept, 2, &got, &mark) == CMH_OK && got == 0));
+    MEASURE("3: sent", MOST, EXPECT(cmh_journal3_sent(journal, kept, 2, got, mark, messages, most, &count) == CMH_OK && count > 0));
     for (unsigned i = 0; i < TARGETS3; i++) holders[i] = (uint16_t)(2 + i);
     len = spell_ask(event, 1, TARGETS3, holders);
     MEASURE("3: prepare", MOST, EXPECT(cmh_site3_prepare(&site, event, len, entry, room, &count) == CMH_OK));
@@ -124,6 +134,8 @@ static void fullest3(void)
     MEASURE("3: free", MOST, cmh_site3_free(&site));
     free(entry);
     free(sent);
+    free(journal);
+    free(messages);
 }
 
 int main(void)

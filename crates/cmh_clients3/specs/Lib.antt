@@ -1,0 +1,3 @@
+pub mod Batches
+pub mod Events
+pub mod Replies

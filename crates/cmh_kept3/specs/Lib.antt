@@ -1,0 +1,4 @@
+pub mod Readings
+pub mod Kept
+pub mod TwoReads
+pub mod Inner
