@@ -17,3 +17,4 @@ pub mod TakenBack
 pub mod RowsBack
 pub mod PutRows
 pub mod WaysBack
+pub mod Restored

@@ -4,4 +4,5 @@ pub mod Refusals
 pub mod Steps
 pub mod WaysBack
 pub mod Replays
+pub mod Restoring
 pub mod Inner

@@ -13,6 +13,7 @@ mod pair_table;
 mod prepared;
 mod refusal;
 mod replayed;
+mod restoring;
 mod rows;
 mod second_half;
 mod sending;
