@@ -1,0 +1,4 @@
+pub mod Ordered
+pub mod Further
+pub mod Searched
+pub mod Stages

@@ -1,0 +1,33 @@
+use Rattle.std.proofs.Common.{◌+◌, List, take, drop, rules, sym, subst}
+use Rattle.cmh_segment3.specs.declared.rows.Pair.{Pair}
+use Rattle.cmh_controller3.specs.Controller.{home_of, state_of}
+use Rattle.cmh_controller3.specs.Restoring.{Takes}
+use Rattle.cmh_bases3.specs.Bases.{AreLeft}
+use Rattle.cmh_bases3.specs.Inner.Lists.{with_left}
+use Rattle.cmh_bases3.proofs.Further.{no_left, refused, left_refused, left_taken}
+use Rattle.cmh_bases3.proofs.Ordered.{split_there, taken_more}
+use Rattle.cmh_bases3.proofs.rows.put_leaving.Goals as goal
+
+pub loop-row-init : goal.loop-row-init
+loop-row-init c = no_left c.args.controller.now c.requires.none
+
+pub returns-in_err-put_leaving-clause-refused : goal.returns-in_err-put_leaving-clause-refused
+returns-in_err-put_leaving-clause-refused c =
+    let start = c.args.controller.now in
+    let rows = c.args.rows.now in
+    let i = c.loop-row.row-index in
+    let row = c.row-item.result in
+    let split = split_there rows i row c.loop-row-test.true c.row-item.is in
+    let why = refused c.in_err-put_leaving.field-0.0 (λ fails all. left_refused start c.loop-row.controller (take i rows) row (drop (i + 1) rows) c.loop-row.invariant fails
+    (subst (λ (l : List Pair). AreLeft (home_of start) start.site l) split all)) c.in_err-put_leaving.ensures.refused in
+    search rules
+
+pub loop-row-preserved : goal.loop-row-preserved
+loop-row-preserved c =
+    let start = c.args.controller.now in
+    let rows = c.args.rows.now in
+    let i = c.loop-row.row-index in
+    let row = c.row-item.result in
+    let split = split_there rows i row c.loop-row-test.true c.row-item.is in
+    subst (λ (l : List Pair). Takes (AreLeft (home_of start) start.site l) (with_left l (state_of start)) start c.put_leaving.new.self) (sym (taken_more rows i row c.loop-row-test.true c.row-item.is))
+    (left_taken start c.loop-row.controller (take i rows) row (drop (i + 1) rows) c.loop-row.invariant c.put_leaving.new.self c.in_ok-put_leaving.ensures.ok)
