@@ -48,7 +48,7 @@ beside_says P (r ∷ rows) all j k h = go (r.first == j) refl h (beside_says P r
       | inr there ↦ later there
     ]
 
-pair_says : (P : ℕ → ℕ → Type 0) (rows : List Pair) → AllByRecursion (λ (row : Pair). P row.first row.second) rows → (a b : ℕ) → has_pair rows a b ≡ true → P a b
+pub pair_says : (P : ℕ → ℕ → Type 0) (rows : List Pair) → AllByRecursion (λ (row : Pair). P row.first row.second) rows → (a b : ℕ) → has_pair rows a b ≡ true → P a b
 pair_says P [] all a b h = absurd (true≢false (sym h))
 pair_says P (r ∷ rows) all a b h = elim (or_cases ((r.first == a) && (r.second == b)) (has_pair rows a b) h) [
   | inl here ↦

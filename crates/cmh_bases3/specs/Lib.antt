@@ -1,2 +1,3 @@
 pub mod Bases
+pub mod Laws
 pub mod Inner

@@ -5,7 +5,9 @@
 #![tactic(auto)]
 
 mod controller;
+mod laws;
 mod replies;
 mod rows;
 
 pub use crate::controller::controller_of;
+pub use crate::laws::following_law;

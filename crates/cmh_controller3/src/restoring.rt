@@ -100,23 +100,23 @@ impl Controller {
         Ok(())
     }
 
-    /// The greatest stamp of a probe of the origin that went on at a process. That is blocked.
-    pub fn put_mark(&mut self, process: ProcId, origin: ProcId, stamp: Stamp) -> Result<(), Refusal>
-        ensures ok { IfOk result (λ _. Takes (is_blocked (state_of self.old) process ≡ true)
-            (with_mark (state_of self.old) process origin stamp) self.old self.new) }
-        ensures refused { IfErr result (RefusesFact (is_blocked (state_of self.old) process ≡ true)) }
+    /// The greatest stamp of a probe of the origin that went on at a process, which is blocked.
+    pub fn put_mark(&mut self, at: ProcId, origin: ProcId, stamp: Stamp) -> Result<(), Refusal>
+        ensures ok { IfOk result (λ _. Takes (is_blocked (state_of self.old) at ≡ true)
+            (with_mark (state_of self.old) at origin stamp) self.old self.new) }
+        ensures refused { IfErr result (RefusesFact (is_blocked (state_of self.old) at ≡ true)) }
         ensures err { OnErr result (self.new ≡ self.old) }
     {
-        if !self.waits.is_blocked(process) {
+        if !self.waits.is_blocked(at) {
             return Err(Refusal::Unlawful);
         }
-        let Ok(()) = self.marks.put(process, origin, stamp) else {
+        let Ok(()) = self.marks.put(at, origin, stamp) else {
             return Err(Refusal::Memory);
         };
         Ok(())
     }
 
-    /// That a process is declared deadlocked. It is blocked.
+    /// That a process, which is blocked, is declared deadlocked.
     pub fn put_declared(&mut self, process: ProcId) -> Result<(), Refusal>
         ensures ok { IfOk result (λ _. Takes (is_blocked (state_of self.old) process ≡ true)
             (with_declared (state_of self.old) process) self.old self.new) }
