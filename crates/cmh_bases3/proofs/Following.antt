@@ -1,5 +1,5 @@
 -- The base of where a lawful journal leads from a base is again one with which the site can begin.
-use Rattle.std.proofs.Common.{◌≡◌, ◌≢◌, ℕ, ◌*◌, ◌^◌, ◌≤◌, Bool, true, false, not, ◌&&◌, ◌||◌, List, [], ◌∷◌, ◌++◌, length, map, cond, ◌==◌, if◌then◌else◌, refl, sym, ap, ◌∙◌, subst, inl, inr, arith}
+use Rattle.std.proofs.Common.{◌≡◌, ◌≢◌, ℕ, ◌*◌, ◌^◌, ◌<◌, ◌≤◌, Bool, true, false, not, ◌&&◌, ◌||◌, List, [], ◌∷◌, ◌++◌, length, map, cond, ◌==◌, if◌then◌else◌, refl, sym, ap, ◌∙◌, subst, inl, inr, arith}
 use Rattle.std.specs.List.{AllByRecursion, filter}
 use Rattle.std.proofs.lemmas.Bool.{and_parts, cases_Bool, cases_eq, eq-eqb, eqb-true, ne_eqb, or_cases, true≢false}
 use Rattle.cmh_runs.specs.Number.{IsNumber}
@@ -8,6 +8,7 @@ use Rattle.cmh_model3.specs.Lists.{in_list, is_nonempty}
 use Rattle.cmh_model3.specs.Rules.{most_waits}
 use Rattle.cmh_model3.specs.State.{State, is_blocked}
 use Rattle.cmh_topology3.specs.Topology.{IsWellFormed, Topology, site_of}
+use Rattle.cmh_wire3.specs.Wire.{IsLong}
 use Rattle.cmh_segment3.specs.Base.{IsBase, IsStampedPairRow}
 use Rattle.cmh_segment3.specs.States.{all_numbers, base_of, beside, pairs_where, stamp_at, stamp_of, stamped_pairs, stamped_where, state_in, turned_to}
 use Rattle.cmh_segment3.specs.declared.base.Base.{Base}
@@ -18,8 +19,8 @@ use Rattle.cmh_segment3.specs.declared.rows.StampedPair.{StampedPair}
 use Rattle.cmh_segment3.proofs.States.{state_comes_back}
 use Rattle.cmh_segment3.proofs.Turns.{NamesProcesses, Reached, reached, turned}
 use Rattle.cmh_bases3.specs.Bases.{IsBaseOf}
-use Rattle.cmh_bases3.specs.Laws.{BasesFollow, NothingIsBase}
-use Rattle.cmh_bases3.proofs.Stages.{pair_says}
+use Rattle.cmh_bases3.specs.Laws.{BasesAreStates, BasesFollow, NothingIsBase}
+use Rattle.cmh_bases3.proofs.Lawful.{pair_says, weaker, within}
 
 -- ---- what holds of all rows
 
@@ -80,10 +81,6 @@ mark_says P (r ∷ rows) all a b some = elim (cases_Bool ((r.first == a) && (r.s
   | inr miss ↦ mark_says P rows all.1 a b (λ none. some (ap (λ z. if z then r.stamp else stamp_at rows a b) miss ∙ none))
 ]
 
-weaker : {X : Type 0} (P Q : X → Type 0) (xs : List X) → ((x : X) → P x → Q x) → AllByRecursion P xs → AllByRecursion Q xs
-weaker P Q [] so all = tt
-weaker P Q (x ∷ xs) so all = (so x all.0, weaker P Q xs so all.1)
-
 names : (t : Topology) (s epoch : ℕ) (base : Base) → IsBase base → IsBaseOf t s epoch base → NamesProcesses (site_of t) s (state_in epoch base)
 names t s epoch base are is = record {
   leaving = λ j k h. (pair_says (λ a b. (site_of t a ≡ s) × (site_of t b ≢ 0) × (site_of t b ≢ s)) base.leaving is.leaving j k h).1;
@@ -141,7 +138,13 @@ module _ (t : Topology) (formed : IsWellFormed t) (s : ℕ) (site : s ≢ 0) (ne
 pub nothing_is : (t : Topology) → NothingIsBase t
 nothing_is t s epoch = record { stamps = tt; waits = (tt, λ j. omega arith); leaving = tt; owed = tt; replies = tt; marks = tt; declared = tt }
 
+long : (epoch : ℕ) → epoch < 2 ^ 32 → IsLong (epoch * 2 ^ 32)
+long epoch few = omega (arith, few)
+
+pub bases_are_states : (t : Topology) → BasesAreStates t
+bases_are_states t s epoch base few are is = within t s epoch base are is (long epoch few)
+
 pub bases_follow : (t : Topology) → IsWellFormed t → BasesFollow t
-bases_follow t formed s epoch next base steps stop links site are is within lawful have ahead =
+bases_follow t formed s epoch next base steps stop links site few are is lawful have ahead =
     is_base t formed s site next (state_after (site_of t) s (state_in epoch base) steps)
-    (reached t formed s site (state_in epoch base) steps (record { within = within; names = names t s epoch base are is }) lawful have) ahead stop links
+    (reached t formed s site (state_in epoch base) steps (record { within = within t s epoch base are is (long epoch few); names = names t s epoch base are is }) lawful have) ahead stop links

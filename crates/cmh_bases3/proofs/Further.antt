@@ -9,7 +9,7 @@ use Rattle.cmh_model3.specs.State.{State, is_blocked}
 use Rattle.cmh_topology3.specs.Topology.{Topology, site_of}
 use Rattle.cmh_controller3.specs.Controller.{Controller, home_of, state_of}
 use Rattle.cmh_controller3.specs.Restoring as one
-use Rattle.cmh_controller3.specs.Restoring.{MayLeave, MayOwe, MayStamp, MayWait, RefusesFact, Takes}
+use Rattle.cmh_controller3.specs.Restoring.{MayLeave, MayOwe, MayStamp, MayWait, ForbidsFact, RefusesFact, Takes}
 use Rattle.cmh_controller3.specs.Tables.{pairs_of}
 use Rattle.cmh_controller3.specs.WaysBack.{owed_back}
 use Rattle.cmh_controller3.specs.declared.refusal.Refusal.{Refusal}
@@ -37,6 +37,10 @@ refused Leaving fails f = f
 refused AlreadyWaits fails f = f
 refused NotWaiting fails f = f
 refused ClockSpent fails f = f
+
+-- the same where a row takes no memory
+pub forbidden : {One All : Type 0} (reason : Refusal) → ((One → ⊥) → All → ⊥) → ForbidsFact One reason → RefusesUnless All reason
+forbidden {One} {All} reason fails f = subst (RefusesUnless All) (sym f.0) (fails f.1)
 
 -- what holds of a controller that has moved on holds at the site and in the state that it came to
 module _ (Holds : (ℕ → ℕ) → ℕ → State → Type 0) (v : State) (start mid : Controller) (topology : mid.topology ≡ start.topology) (site : mid.site ≡ start.site) (state : state_of mid ≡ v) where

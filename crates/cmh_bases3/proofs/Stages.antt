@@ -1,9 +1,7 @@
 -- A controller that has taken no step takes one list of a base after the other.
-use Rattle.std.proofs.Common.{◌≡◌, ◌≢◌, ℕ, ◌*◌, ◌^◌, ◌≤◌, ◌==◌, Bool, true, false, ◌&&◌, ◌||◌, List, [], ◌∷◌, if◌then◌else◌, refl, sym, ap, ◌∙◌, subst, inl, inr}
+use Rattle.std.proofs.Common.{◌≡◌, ℕ, ◌*◌, ◌^◌, ◌≤◌, ◌==◌, Bool, true, false, ◌&&◌, ◌||◌, List, if◌then◌else◌, refl, sym, ap, ◌∙◌, subst}
 use Rattle.std.proofs.Math.Path.{fun_ext}
-use Rattle.std.proofs.lemmas.Bool.{and_parts, eqb-true, or_cases, true≢false}
-use Rattle.std.specs.List.{AllByRecursion}
-use Rattle.cmh_model3.specs.Laws.{JournalFacts}
+use Rattle.std.proofs.lemmas.Bool.{and_parts, eqb-true, true≢false}
 use Rattle.cmh_model3.specs.Lists.{in_list}
 use Rattle.cmh_model3.specs.State.{State, empty_state}
 use Rattle.cmh_wire3.specs.Wire.{IsLong}
@@ -12,6 +10,7 @@ use Rattle.cmh_controller3.specs.Restoring.{Takes, with_clock}
 use Rattle.cmh_controller3.specs.WaysBack.{owed_back}
 use Rattle.cmh_controller3.specs.declared.refusal.Refusal.{Refusal}
 use Rattle.cmh_controller3.specs.declared.refusal.Refusal.TheVariants.{UnknownProcess, NotHere, BadTargets, Blocked, NotBlocked, NotOwed, Unlawful, Memory, Leaving, AlreadyWaits, NotWaiting, ClockSpent}
+use Rattle.cmh_segment3.specs.Base.{IsBase}
 use Rattle.cmh_segment3.specs.States.{beside, has_pair, stamp_of, state_in}
 use Rattle.cmh_segment3.specs.declared.base.Base.{Base}
 use Rattle.cmh_segment3.specs.declared.rows.Pair.{Pair}
@@ -20,6 +19,7 @@ use Rattle.cmh_segment3.specs.declared.rows.StampedPair.{StampedPair}
 use Rattle.cmh_bases3.specs.Bases.{AreDeclared, AreLeft, AreMarks, AreOwed, AreStamps, AreWaits, IsBaseOf, IsRestored, OweWhoWaits, RefusesUnless, waits_in}
 use Rattle.cmh_bases3.specs.Inner.Lists.{with_declared, with_left, with_marks, with_owed, with_stamps, with_waits}
 use Rattle.cmh_bases3.proofs.Further.{from_there, to_there}
+use Rattle.cmh_bases3.proofs.Lawful.{beside_says, within}
 
 -- what is not a list of what is asked is no part of a base
 passed_on : {All Whole : Type 0} (reason : Refusal) → (Whole → All) → RefusesUnless All reason → RefusesUnless Whole reason
@@ -35,27 +35,6 @@ passed_on Leaving part f = f
 passed_on AlreadyWaits part f = f
 passed_on NotWaiting part f = f
 passed_on ClockSpent part f = f
-
--- what all rows of a list say of their processes
-beside_says : (P : ℕ → ℕ → Type 0) (rows : List StampedPair) → AllByRecursion (λ (row : StampedPair). P row.first row.second) rows → (j k : ℕ) → in_list (beside j rows) k ≡ true → P j k
-beside_says P [] all j k h = absurd (true≢false (sym h))
-beside_says P (r ∷ rows) all j k h = go (r.first == j) refl h (beside_says P rows all.1 j k)
-  where
-    go : (z : Bool) → (r.first == j) ≡ z → in_list (if z then r.second ∷ beside j rows else beside j rows) k ≡ true → (in_list (beside j rows) k ≡ true → P j k) → P j k
-    go false e h later = later h
-    go true e h later = elim (or_cases (r.second == k) (in_list (beside j rows) k) h) [
-      | inl here ↦ subst (P j) (eqb-true r.second k here) (subst (λ a. P a r.second) (eqb-true r.first j e) all.0)
-      | inr there ↦ later there
-    ]
-
-pub pair_says : (P : ℕ → ℕ → Type 0) (rows : List Pair) → AllByRecursion (λ (row : Pair). P row.first row.second) rows → (a b : ℕ) → has_pair rows a b ≡ true → P a b
-pair_says P [] all a b h = absurd (true≢false (sym h))
-pair_says P (r ∷ rows) all a b h = elim (or_cases ((r.first == a) && (r.second == b)) (has_pair rows a b) h) [
-  | inl here ↦
-      let parts = and_parts (r.first == a) (r.second == b) here in
-      subst (P a) (eqb-true r.second b parts.1) (subst (λ x. P x r.second) (eqb-true r.first a parts.0) all.0)
-  | inr there ↦ pair_says P rows all.1 a b there
-]
 
 module _ (start : Controller) (epoch : ℕ) (base : Base) where
   abbrev home : ℕ → ℕ
@@ -201,15 +180,11 @@ module _ (start : Controller) (epoch : ℕ) (base : Base) where
   whole_is : OweWhoWaits home s base.owed base.waits → whole ≡ state_in epoch base
   whole_is replies = ap (λ (f : ℕ → ℕ → Bool). record whole { owed = f }) (owed_is replies)
 
-  pub restored : (c : Controller) → At whole c → IsBaseOf start.topology s epoch base → IsLong (epoch * 2 ^ 32) → JournalFacts (home_of c) c.site (state_of c) → IsRestored start.topology s epoch base c
-  restored c at is long facts = record {
+  pub restored : (c : Controller) → At whole c → IsBase base → IsBaseOf start.topology s epoch base → IsLong (epoch * 2 ^ 32) → IsRestored start.topology s epoch base c
+  restored c at are is long = record {
     base_is = is;
     topology = at.topology;
     site = at.site;
     state = at.state ∙ whole_is is.replies;
-    within = record {
-      facts = subst (JournalFacts home s) (whole_is is.replies) (from_there JournalFacts whole start c at.topology at.site at.state facts);
-      askers = λ k j h. (pair_says (λ a b. (home a ≡ s) × (home b ≢ 0) × (home b ≡ s → in_list (beside b base.waits) a ≡ true)) base.owed is.owed k j h).1;
-      clock = long;
-    };
+    within = within start.topology s epoch base are is long;
   }

@@ -32,10 +32,9 @@ pub fn controller_of(
     ensures ok { IfOk result (IsRestored topology.now site epoch base.now) }
     ensures refused { IfErr result (RefusesUnless (IsBaseOf topology.now site epoch base.now)) }
 {
-    let Ok(controller) = Controller::empty(alloc, topology, site) else {
+    let Ok(mut controller) = Controller::empty(alloc, topology, site) else {
         return Err(Refusal::Memory);
     };
-    let mut controller = controller;
     put_base(&mut controller, epoch, base)?;
     Ok(controller)
 }
@@ -61,7 +60,6 @@ fn put_base(controller: &mut Controller, epoch: Epoch, base: &Base) -> Result<()
     put_owed(controller, owed)?;
     put_marks(controller, base.dependents.as_slice())?;
     put_declared(controller, base.declared.as_slice())?;
-    controller.facts();
     Ok(())
 }
 

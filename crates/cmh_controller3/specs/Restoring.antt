@@ -75,3 +75,7 @@ abbrev pub RefusesFact : Type 0 → Refusal → Type 0
 RefusesFact Allowed Unlawful = Allowed → ⊥
 RefusesFact Allowed Memory = Allowed
 RefusesFact Allowed reason = ⊥
+
+-- the same for a fact that takes no memory
+abbrev pub ForbidsFact : Type 0 → Refusal → Type 0
+ForbidsFact Allowed reason = (reason ≡ Unlawful) × (Allowed → ⊥)

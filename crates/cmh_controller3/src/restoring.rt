@@ -4,10 +4,9 @@
 //! the others.
 
 ghost use Rattle.std.specs.Prelude.{◌≡◌, ◌↔◌, ◌≤◌, true, IfErr, IfOk, IsTrue, OnErr};
-ghost use Rattle.cmh_model3.specs.Laws.{JournalFacts};
 ghost use Rattle.cmh_model3.specs.State.{is_blocked};
 ghost use Rattle.cmh_controller3.specs.Controller.{home_of, state_of};
-ghost use Rattle.cmh_controller3.specs.Restoring.{MayLeave, MayOwe, MayStamp, MayWait, RefusesFact, Takes, with_clock, with_declared, with_leaving, with_mark, with_owed, with_stamp, with_wait};
+ghost use Rattle.cmh_controller3.specs.Restoring.{ForbidsFact, MayLeave, MayOwe, MayStamp, MayWait, RefusesFact, Takes, with_clock, with_declared, with_leaving, with_mark, with_owed, with_stamp, with_wait};
 
 use crate::changes::stamp_at;
 use crate::controller::{Controller, MOST_WAITS};
@@ -15,11 +14,11 @@ use crate::refusal::Refusal;
 use cmh_model3::{ProcId, Stamp};
 
 impl Controller {
-    /// Sets the clock, but not back.
+    /// Sets the clock, but not back. It takes no memory.
     pub fn put_clock(&mut self, clock: Stamp) -> Result<(), Refusal>
         ensures ok { IfOk result (λ _. Takes ((state_of self.old).clock ≤ clock)
             (with_clock (state_of self.old) clock) self.old self.new) }
-        ensures refused { IfErr result (RefusesFact ((state_of self.old).clock ≤ clock)) }
+        ensures refused { IfErr result (ForbidsFact ((state_of self.old).clock ≤ clock)) }
         ensures err { OnErr result (self.new ≡ self.old) }
     {
         if clock < self.clock {
@@ -29,12 +28,12 @@ impl Controller {
         Ok(())
     }
 
-    /// The stamp of the newest ask of a process.
+    /// The stamp of the newest ask of a process. It takes no memory.
     pub fn put_stamp(&mut self, process: ProcId, stamp: Stamp) -> Result<(), Refusal>
         ensures ok { IfOk result (λ _. Takes
             (MayStamp (home_of self.old) self.old.site (state_of self.old) process stamp)
             (with_stamp (state_of self.old) process stamp) self.old self.new) }
-        ensures refused { IfErr result (RefusesFact
+        ensures refused { IfErr result (ForbidsFact
             (MayStamp (home_of self.old) self.old.site (state_of self.old) process stamp)) }
         ensures err { OnErr result (self.new ≡ self.old) }
     {
@@ -116,11 +115,11 @@ impl Controller {
         Ok(())
     }
 
-    /// That a process, which is blocked, is declared deadlocked.
+    /// That a process, which is blocked, is declared deadlocked. It takes no memory.
     pub fn put_declared(&mut self, process: ProcId) -> Result<(), Refusal>
         ensures ok { IfOk result (λ _. Takes (is_blocked (state_of self.old) process ≡ true)
             (with_declared (state_of self.old) process) self.old self.new) }
-        ensures refused { IfErr result (RefusesFact (is_blocked (state_of self.old) process ≡ true)) }
+        ensures refused { IfErr result (ForbidsFact (is_blocked (state_of self.old) process ≡ true)) }
         ensures err { OnErr result (self.new ≡ self.old) }
     {
         if !self.waits.is_blocked(process) {
@@ -128,13 +127,6 @@ impl Controller {
         }
         self.declared[process.get() as usize] = true;
         Ok(())
-    }
-
-    /// What a controller keeps is a state of the rules. It does nothing.
-    pub fn facts(&self)
-        ensures { JournalFacts (home_of self.now) self.now.site (state_of self.now) }
-    {
-        let _site = self.site;
     }
 
     // ---- which facts it takes

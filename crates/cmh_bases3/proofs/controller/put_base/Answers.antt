@@ -79,7 +79,7 @@ returns-clause-ok c =
     (subst (λ (rows : List Pair). OweWhoWaits (site_of c.topology.result.now) c.site.result rows base.waits) c.as_slice-owed.ensures
     (subst (λ (rows : List StampedPair). OweWhoWaits (site_of c.topology.result.now) c.site.result c.as_slice-owed.result.now rows) c.as_slice-waits.ensures
     (c.if-not-owe_who_waits.ensures.0 refl)))) in
-    restored start c.args.epoch base c.put_declared.new.controller declared.1 (record {
+    restored start c.args.epoch base c.put_declared.new.controller declared.1 c.requires.base (record {
       stamps = stamps.0;
       waits = waits.0;
       leaving = left.0;
@@ -87,4 +87,4 @@ returns-clause-ok c =
       replies = replies;
       marks = marks.0;
       declared = declared.0;
-    }) (subst IsLong c.first_stamp.ensures.clock c.first_stamp.ensures.long) c.facts.ensures
+    }) (subst IsLong c.first_stamp.ensures.clock c.first_stamp.ensures.long)

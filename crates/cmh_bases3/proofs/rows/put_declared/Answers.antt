@@ -4,7 +4,7 @@ use Rattle.cmh_controller3.specs.Controller.{state_of}
 use Rattle.cmh_controller3.specs.Restoring.{Takes}
 use Rattle.cmh_bases3.specs.Bases.{AreDeclared}
 use Rattle.cmh_bases3.specs.Inner.Lists.{with_declared}
-use Rattle.cmh_bases3.proofs.Further.{no_declared, refused, declared_refused, declared_taken}
+use Rattle.cmh_bases3.proofs.Further.{no_declared, forbidden, declared_refused, declared_taken}
 use Rattle.cmh_bases3.proofs.Ordered.{split_there, taken_more}
 use Rattle.cmh_bases3.proofs.rows.put_declared.Goals as goal
 
@@ -18,7 +18,7 @@ returns-in_err-put_declared-clause-refused c =
     let i = c.loop-row.row-index in
     let row = c.row-item.result in
     let split = split_there rows i row c.loop-row-test.true c.row-item.is in
-    let why = refused c.in_err-put_declared.field-0.0 (λ fails all. declared_refused start c.loop-row.controller (take i rows) row (drop (i + 1) rows) c.loop-row.invariant fails
+    let why = forbidden c.in_err-put_declared.field-0.0 (λ fails all. declared_refused start c.loop-row.controller (take i rows) row (drop (i + 1) rows) c.loop-row.invariant fails
     (subst (λ (l : List Stamped). AreDeclared (state_of start).waits l) split all)) c.in_err-put_declared.ensures.refused in
     search rules
 

@@ -6,7 +6,7 @@ use Rattle.cmh_controller3.specs.Controller.{home_of, state_of}
 use Rattle.cmh_controller3.specs.Restoring.{Takes}
 use Rattle.cmh_bases3.specs.Bases.{AreStamps}
 use Rattle.cmh_bases3.specs.Inner.Lists.{with_stamps}
-use Rattle.cmh_bases3.proofs.Further.{no_stamps, refused, stamp_refused, stamp_taken}
+use Rattle.cmh_bases3.proofs.Further.{no_stamps, forbidden, stamp_refused, stamp_taken}
 use Rattle.cmh_bases3.proofs.Ordered.{split_there, taken_more}
 use Rattle.cmh_bases3.proofs.rows.put_stamps.Goals as goal
 
@@ -21,7 +21,7 @@ returns-in_err-put_stamp-clause-refused c =
     let row = c.row-item.result in
     let split = split_there rows i row c.loop-row-test.true c.row-item.is in
     let up = subst (λ (l : List Stamped). IsAscending (map stamped_place l)) split c.requires.ascending in
-    let why = refused c.in_err-put_stamp.field-0.0 (λ fails all. stamp_refused start c.loop-row.controller (take i rows) row (drop (i + 1) rows) up c.loop-row.invariant fails
+    let why = forbidden c.in_err-put_stamp.field-0.0 (λ fails all. stamp_refused start c.loop-row.controller (take i rows) row (drop (i + 1) rows) up c.loop-row.invariant fails
     (subst (λ (l : List Stamped). AreStamps (home_of start) start.site (state_of start).clock l) split all)) c.in_err-put_stamp.ensures.refused in
     search rules
 
