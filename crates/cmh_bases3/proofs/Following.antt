@@ -1,16 +1,17 @@
--- The base of where a lawful journal leads from a base is again one with which the site can begin.
+-- The base of a state of the rules is one with which the site can begin.
 use Rattle.std.proofs.Common.{◌≡◌, ◌≢◌, ℕ, ◌*◌, ◌^◌, ◌<◌, ◌≤◌, Bool, true, false, not, ◌&&◌, ◌||◌, List, [], ◌∷◌, ◌++◌, length, map, cond, ◌==◌, if◌then◌else◌, refl, sym, ap, ◌∙◌, subst, inl, inr, arith}
 use Rattle.std.specs.List.{AllByRecursion, filter}
 use Rattle.std.proofs.lemmas.Bool.{and_parts, cases_Bool, cases_eq, eq-eqb, eqb-true, ne_eqb, or_cases, true≢false}
 use Rattle.cmh_runs.specs.Number.{IsNumber}
-use Rattle.cmh_model3.specs.Journals.{state_after}
+use Rattle.cmh_model3.specs.Laws.{JournalFacts}
 use Rattle.cmh_model3.specs.Lists.{in_list, is_nonempty}
 use Rattle.cmh_model3.specs.Rules.{most_waits}
 use Rattle.cmh_model3.specs.State.{State, is_blocked}
 use Rattle.cmh_topology3.specs.Topology.{IsWellFormed, Topology, site_of}
 use Rattle.cmh_wire3.specs.Wire.{IsLong}
 use Rattle.cmh_segment3.specs.Base.{IsBase, IsStampedPairRow}
-use Rattle.cmh_segment3.specs.States.{all_numbers, base_of, beside, pairs_where, stamp_at, stamp_of, stamped_pairs, stamped_where, state_in, turned_to}
+use Rattle.cmh_segment3.specs.States.{BeginsEpoch, all_numbers, base_of, beside, pairs_where, stamp_at, stamp_of, stamped_pairs, stamped_where, state_in, turned_to}
+use Rattle.cmh_segment3.specs.WholeEntries.{IsWithin}
 use Rattle.cmh_segment3.specs.declared.base.Base.{Base}
 use Rattle.cmh_segment3.specs.declared.links.LinkState.{LinkState}
 use Rattle.cmh_segment3.specs.declared.rows.Pair.{Pair}
@@ -19,7 +20,7 @@ use Rattle.cmh_segment3.specs.declared.rows.StampedPair.{StampedPair}
 use Rattle.cmh_segment3.proofs.States.{state_comes_back}
 use Rattle.cmh_segment3.proofs.Turns.{NamesProcesses, Reached, reached, turned}
 use Rattle.cmh_bases3.specs.Bases.{IsBaseOf}
-use Rattle.cmh_bases3.specs.Laws.{BasesAreStates, BasesFollow, NothingIsBase}
+use Rattle.cmh_bases3.specs.Laws.{BasesAreStates, BasesFollow, NamesKnown, NothingIsBase, StatesHaveBases, state_at_end}
 use Rattle.cmh_bases3.proofs.Lawful.{pair_says, weaker, within}
 
 -- ---- what holds of all rows
@@ -90,18 +91,12 @@ names t s epoch base are is = record {
 
 -- ---- the base of a state that a journal reached
 
-module _ (t : Topology) (formed : IsWellFormed t) (s : ℕ) (site : s ≢ 0) (next : ℕ) (v : State) (r : Reached t formed s site v) (ahead : v.clock ≤ next * 2 ^ 32) (stop : ℕ → ℕ) (links : List LinkState) where
-  abbrev home : ℕ → ℕ
-  home = site_of t
-
-  abbrev w : State
-  w = turned_to next v
-
+module _ (t : Topology) (s epoch : ℕ) (v : State) (stop : ℕ → ℕ) (links : List LinkState) (held : IsWithin (site_of t) s v) (known : NamesKnown (site_of t) s v) (begins : BeginsEpoch epoch v) where
   abbrev base : Base
-  base = base_of w stop links
+  base = base_of v stop links
 
-  back : state_in next base ≡ w
-  back = state_comes_back next w stop links (turned t formed s site next v r)
+  back : state_in epoch base ≡ v
+  back = state_comes_back epoch v stop links begins
 
   waits_back : (j : ℕ) → beside j base.waits ≡ v.waits j
   waits_back j = ap (λ (u : State). u.waits j) back
@@ -113,27 +108,45 @@ module _ (t : Topology) (formed : IsWellFormed t) (s : ℕ) (site : s ≢ 0) (ne
     | inr none ↦ absurd (blocked none)
   ]
 
-  pub is_base : IsBaseOf t s next base
+  pub is_base : IsBaseOf t s epoch base
   is_base = record {
-    stamps = all_stamped _ (λ j. not (w.stamp j == 0)) w.stamp all_numbers (λ j h. (r.names.asked j (not_zero (v.stamp j) h), let low = (r.within.facts.stamps j j).1 in omega (arith, low, ahead)));
+    stamps = all_stamped _ (λ j. not (v.stamp j == 0)) v.stamp all_numbers (λ j h. (known.asked j (not_zero (v.stamp j) h), let low = (held.facts.stamps j j).1 in let clock = begins.clock in omega (arith, low, clock)));
     waits = (
-      all_stamped_pairs _ w.waits w.since (λ a b h.
-          let at = r.within.facts.waits_home a b h in
-          let since = (r.within.facts.stamps a b).0 in
+      all_stamped_pairs _ v.waits v.since (λ a b h.
+          let at = held.facts.waits_home a b h in
+          let since = (held.facts.stamps a b).0 in
           let same : stamp_of base.stamps a ≡ v.stamp a = ap (λ (u : State). u.stamp a) back in
           (at.0, at.1, at.2, omega (arith, since, same))) all_numbers,
-      λ j. subst (λ (ks : List ℕ). length ks ≤ most_waits) (sym (waits_back j)) (r.within.facts.few_waits j),
+      λ j. subst (λ (ks : List ℕ). length ks ≤ most_waits) (sym (waits_back j)) (held.facts.few_waits j),
     );
-    leaving = all_pairs _ w.leaving all_numbers (λ a b h. let away = r.within.facts.leaving_away a b h in (away.0, r.names.leaving a b h, away.1)) all_numbers;
-    owed = all_pairs _ w.owed all_numbers (λ k j h.
-        let at = r.within.facts.owed_home k j h in
-        (at, r.within.askers k j h, λ here. ap (λ ks. in_list ks k) (waits_back j) ∙ r.within.facts.local j k here at ∙ h)) all_numbers;
-    replies = all_stamped_pairs _ w.waits w.since (λ a b h here.
-        ap (λ (u : State). u.owed b a) back ∙ sym (r.within.facts.local a b (r.within.facts.waits_home a b h).0 here) ∙ h) all_numbers;
-    marks = all_stamped_pairs _ (λ k. filter (λ i. not (w.marks k i == 0)) all_numbers) w.marks (λ k i h.
-        has_wait k (λ active. not_zero (v.marks k i) (passes (λ i. not (w.marks k i == 0)) all_numbers i h) (r.within.facts.no_marks k i active))) all_numbers;
-    declared = all_stamped _ w.declared stop all_numbers (λ i h. has_wait i (λ active. true≢false (sym h ∙ r.within.facts.undeclared i active)));
+    leaving = all_pairs _ v.leaving all_numbers (λ a b h. let away = held.facts.leaving_away a b h in (away.0, known.leaving a b h, away.1)) all_numbers;
+    owed = all_pairs _ v.owed all_numbers (λ k j h.
+        let at = held.facts.owed_home k j h in
+        (at, held.askers k j h, λ here. ap (λ ks. in_list ks k) (waits_back j) ∙ held.facts.local j k here at ∙ h)) all_numbers;
+    replies = all_stamped_pairs _ v.waits v.since (λ a b h here.
+        ap (λ (u : State). u.owed b a) back ∙ sym (held.facts.local a b (held.facts.waits_home a b h).0 here) ∙ h) all_numbers;
+    marks = all_stamped_pairs _ (λ k. filter (λ i. not (v.marks k i == 0)) all_numbers) v.marks (λ k i h.
+        has_wait k (λ active. not_zero (v.marks k i) (passes (λ i. not (v.marks k i == 0)) all_numbers i h) (held.facts.no_marks k i active))) all_numbers;
+    declared = all_stamped _ v.declared stop all_numbers (λ i h. has_wait i (λ active. true≢false (sym h ∙ held.facts.undeclared i active)));
   }
+
+-- what holds of a state holds of it when its clock was set forward to an epoch
+turned_facts : (home : ℕ → ℕ) (s epoch : ℕ) (v : State) → JournalFacts home s v → v.clock ≤ epoch * 2 ^ 32 → JournalFacts home s (turned_to epoch v)
+turned_facts home s epoch v f ahead = record {
+  waits_home = f.waits_home;
+  waits_ascend = f.waits_ascend;
+  few_waits = f.few_waits;
+  no_stamp = f.no_stamp;
+  stamps = λ j k. ((f.stamps j k).0, let low = (f.stamps j k).1 in omega (arith, low, ahead));
+  no_marks = f.no_marks;
+  undeclared = f.undeclared;
+  owed_home = f.owed_home;
+  leaving_away = f.leaving_away;
+  local = f.local;
+}
+
+pub states_have_bases : (t : Topology) → StatesHaveBases t
+states_have_bases t s epoch v stop links within names begins = is_base t s epoch v stop links within names begins
 
 pub nothing_is : (t : Topology) → NothingIsBase t
 nothing_is t s epoch = record { stamps = tt; waits = (tt, λ j. omega arith); leaving = tt; owed = tt; replies = tt; marks = tt; declared = tt }
@@ -145,6 +158,10 @@ pub bases_are_states : (t : Topology) → BasesAreStates t
 bases_are_states t s epoch base few are is = within t s epoch base are is (long epoch few)
 
 pub bases_follow : (t : Topology) → IsWellFormed t → BasesFollow t
-bases_follow t formed s epoch next base steps stop links site few are is lawful have ahead =
-    is_base t formed s site next (state_after (site_of t) s (state_in epoch base) steps)
-    (reached t formed s site (state_in epoch base) steps (record { within = within t s epoch base are is (long epoch few); names = names t s epoch base are is }) lawful have) ahead stop links
+bases_follow t formed s epoch next base steps stop links site few more are is lawful have ahead =
+    let v : State = state_at_end t s epoch base steps in
+    let r : Reached t formed s site v = reached t formed s site (state_in epoch base) steps (record { within = within t s epoch base are is (long epoch few); names = names t s epoch base are is }) lawful have in
+    is_base t s next (turned_to next v) stop links
+    (record { facts = turned_facts (site_of t) s next v r.within.facts ahead; askers = r.within.askers; clock = long next more })
+    (record { leaving = r.names.leaving; asked = r.names.asked })
+    (turned t formed s site next v r)

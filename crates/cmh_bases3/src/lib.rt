@@ -10,4 +10,4 @@ mod replies;
 mod rows;
 
 pub use crate::controller::controller_of;
-pub use crate::laws::following_law;
+pub use crate::laws::bases_law;
