@@ -16,5 +16,6 @@ pub mod Back
 pub mod TakenBack
 pub mod RowsBack
 pub mod PutRows
+pub mod Readings
 pub mod WaysBack
 pub mod Restored

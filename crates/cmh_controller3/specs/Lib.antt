@@ -1,5 +1,6 @@
 pub mod Tables
 pub mod Controller
+pub mod Readings
 pub mod Refusals
 pub mod Steps
 pub mod WaysBack

@@ -11,6 +11,7 @@ mod mark_table;
 mod outcome;
 mod pair_table;
 mod prepared;
+mod reading;
 mod refusal;
 mod replayed;
 mod restoring;
@@ -21,6 +22,7 @@ mod targets;
 mod way_back;
 
 pub use crate::controller::Controller;
+pub use crate::mark_row::Mark;
 pub use crate::outcome::{Declaration, Outcome};
 pub use crate::prepared::Prepared;
 pub use crate::refusal::Refusal;

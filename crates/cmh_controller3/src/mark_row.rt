@@ -47,6 +47,14 @@ impl MarkRow {
         }
     }
 
+    /// The marks.
+    pub fn as_slice(&self) -> &[Mark]
+        ensures value { result.now ≡ self.now }
+        ensures ascending { IsAscending (origins_of result.now) }
+    {
+        &self.marks
+    }
+
     /// The stamp of the origin's mark, and 0 where it has none.
     pub fn get(&self, origin: ProcId) -> Stamp
         ensures { result ≡ stamp_in self.now origin }

@@ -1,10 +1,11 @@
 //! The marks of a site's processes.
 
 ghost use Rattle.std.specs.Prelude.{◌≡◌, ◌<◌, ℕ, length, IfOk, OnOk, OnErr};
-ghost use Rattle.cmh_model3.specs.Lists.{set_at};
+ghost use Rattle.cmh_model3.specs.Lists.{IsAscending, set_at};
+ghost use Rattle.cmh_controller3.specs.Inner.Marks.{origins_of};
 ghost use Rattle.cmh_controller3.specs.Tables.{marks_of, stamp_in};
 
-use crate::mark_row::MarkRow;
+use crate::mark_row::{Mark, MarkRow};
 use cmh_model3::{ProcId, Stamp};
 use std::alloc::{AllocError, Global};
 use std::marker::Model;
@@ -46,6 +47,17 @@ impl MarkTable {
         match self.rows.get(process.get() as usize) {
             Some(row) => row.get(origin),
             None => Stamp::new(0),
+        }
+    }
+
+    /// The marks of a process, ascending by their origins.
+    pub fn row(&self, process: ProcId) -> &[Mark]
+        ensures ascending { IsAscending (origins_of result.now) }
+        ensures stamps { (i : ℕ) → stamp_in result.now i ≡ marks_of self.now process i }
+    {
+        match self.rows.get(process.get() as usize) {
+            Some(row) => row.as_slice(),
+            None => &[],
         }
     }
 
