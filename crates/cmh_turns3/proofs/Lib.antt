@@ -1,0 +1,5 @@
+pub mod Numbers
+pub mod Rows
+pub mod Turns
+pub mod Places
+pub mod Whole

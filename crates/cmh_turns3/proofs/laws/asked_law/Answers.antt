@@ -1,0 +1,12 @@
+use Rattle.std.proofs.Common.{refl}
+use Rattle.cmh_turns3.proofs.Turns.{bases_asked, stay_asked}
+use Rattle.cmh_turns3.proofs.laws.asked_law.Goals as goal
+
+pub returns-clause-first : goal.returns-clause-first
+returns-clause-first c = record { asked = λ j h. absurd (h refl) }
+
+pub returns-clause-bases : goal.returns-clause-bases
+returns-clause-bases c = bases_asked
+
+pub returns-clause-stays : goal.returns-clause-stays
+returns-clause-stays c = stay_asked c.args.topology.now c.sites.ensures.well_formed

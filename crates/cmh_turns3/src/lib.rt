@@ -1,0 +1,14 @@
+//! Turns of a site of edition 3: the base with which its next epoch begins.
+//!
+//! `base_of` reads a controller, and gives the base of its state. By the law of turns that base says just the state that a
+//! turn of the controller leads to.
+#![tactic(auto)]
+
+mod base;
+mod kinds;
+mod laws;
+mod pairs;
+mod stamped;
+
+pub use crate::base::base_of;
+pub use crate::laws::asked_law;
