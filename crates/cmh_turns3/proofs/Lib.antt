@@ -3,3 +3,4 @@ pub mod Rows
 pub mod Turns
 pub mod Places
 pub mod Whole
+pub mod FittingLinks
