@@ -1,10 +1,10 @@
 -- The rows of a base of a state are in order, and not too many.
-use Rattle.std.proofs.Common.{◌≡◌, ℕ, zero, suc, ◌+◌, ◌*◌, ◌^◌, ◌<◌, ◌≤◌, Bool, true, false, cond, List, [], ◌∷◌, ◌++◌, length, map, refl, sym, ap, ◌∙◌, subst, arith, length-append}
+use Rattle.std.proofs.Common.{◌≡◌, ℕ, zero, suc, ◌+◌, ◌*◌, ◌<◌, ◌≤◌, Bool, true, false, cond, List, [], ◌∷◌, ◌++◌, length, map, refl, sym, ap, ◌∙◌, subst, arith, length-append}
 use Rattle.std.specs.List.{AllByRecursion, filter, flat_map}
 use Rattle.std.proofs.lemmas.List.{length-map, map-append}
 use Rattle.byteorder.specs.Endian.{big_bytes}
 use Rattle.cmh_model3.specs.Lists.{IsAscending}
-use Rattle.cmh_segment3.specs.Rows.{AreRows, rows_spelling}
+use Rattle.cmh_segment3.specs.Rows.{rows_spelling}
 use Rattle.cmh_segment3.specs.States.{all_numbers, count_from}
 use Rattle.cmh_turns3.proofs.Numbers.{all_in, filter_ascends, in_number, numbers_ascend}
 

@@ -1,5 +1,5 @@
 -- The rows of the base of a state are those of the site's processes.
-use Rattle.std.proofs.Common.{◌≡◌, ◌≢◌, ℕ, zero, suc, ◌+◌, ◌-◌, ◌<◌, ◌≤◌, ◌==◌, ◌||◌, not, Bool, true, false, cond, List, [], ◌∷◌, ◌++◌, ◌⊎◌, length, get_or, map, take, if◌then◌else◌, refl, sym, ap, ◌∙◌, subst, inl, inr, arith, append-nil}
+use Rattle.std.proofs.Common.{◌≡◌, ◌≢◌, ℕ, ◌+◌, ◌-◌, ◌<◌, ◌≤◌, ◌==◌, ◌||◌, not, Bool, true, false, cond, List, [], ◌∷◌, ◌++◌, ◌⊎◌, length, get_or, map, take, if◌then◌else◌, refl, sym, ap, ◌∙◌, subst, inl, inr, arith, append-nil}
 use Rattle.std.proofs.Math.Path.{fun_ext}
 use Rattle.std.specs.List.{AllByRecursion, filter, flat_map}
 use Rattle.std.specs.List.Sorted.{IsStrictlyIncreasing}
@@ -17,7 +17,6 @@ use Rattle.cmh_model3.specs.Lists.{IsAscending, in_list, is_nonempty}
 use Rattle.cmh_model3.specs.State.{State, is_blocked}
 use Rattle.cmh_segment3.specs.States.{all_numbers, count_from, pairs_where, stamped_pairs, stamped_where}
 use Rattle.cmh_segment3.specs.declared.rows.Stamped.{Stamped}
-use Rattle.cmh_segment3.specs.declared.rows.StampedPair.{StampedPair}
 use Rattle.cmh_waits3.proofs.Lists.{in_above}
 use Rattle.cmh_waits3.specs.Rows.{since_in, targets_of}
 use Rattle.cmh_waits3.specs.declared.wait.Wait.{Wait}

@@ -9,7 +9,7 @@ use Rattle.cmh_model3.specs.declared.event.Event.{Event}
 use Rattle.cmh_model3.specs.declared.event.Event.TheVariants.{Ask, Reply, Withdraw, Got, Turn}
 use Rattle.cmh_model3.specs.declared.frame.Frame.TheVariants.{Request, Reply as Reply_frame, Withdraw as Withdraw_frame, Probe}
 use Rattle.cmh_model3.specs.Lists.{set_at, set_pair, without}
-use Rattle.cmh_model3.specs.Rules.{Accepts, changed, probe_acts}
+use Rattle.cmh_model3.specs.Rules.{Accepts, after, changed, probe_acts}
 use Rattle.cmh_model3.specs.State.{State, is_blocked, waits_for, with_waits}
 use Rattle.cmh_model3.proofs.Marks.{some_in}
 use Rattle.cmh_topology3.specs.Topology.{IsWellFormed, Topology, site_of}
@@ -17,7 +17,7 @@ use Rattle.cmh_segment3.proofs.Sendings.{number_at}
 use Rattle.cmh_segment3.specs.Base.{IsStampedRow}
 use Rattle.cmh_segment3.specs.States.{BeginsEpoch, stamp_of, turned_to}
 use Rattle.cmh_segment3.specs.declared.rows.Stamped.{Stamped}
-use Rattle.cmh_turns3.specs.Turns.{AskedByNumbers, BasesAskedByNumbers, StayAskedByNumbers}
+use Rattle.cmh_turns3.specs.Turns.{AskedByNumbers, BasesAskedByNumbers, JournalsAskedByNumbers, StayAskedByNumbers}
 
 -- ---- the state of a controller
 
@@ -79,6 +79,11 @@ module _ (t : Topology) (formed : IsWellFormed t) (s : ℕ) (v : State) (site : 
 
 pub stay_asked : (t : Topology) → IsWellFormed t → StayAskedByNumbers t
 stay_asked t formed s v event declared site by_numbers accepted = record { asked = asked_after t formed s v site by_numbers event accepted }
+
+pub journals_asked : (t : Topology) → IsWellFormed t → JournalsAskedByNumbers t
+journals_asked t formed s v [] site by_numbers lawful = by_numbers
+journals_asked t formed s v (step ∷ steps) site by_numbers lawful =
+    journals_asked t formed s (after (site_of t) s v step.event step.declared) steps site (stay_asked t formed s v step.event step.declared site by_numbers lawful.0) lawful.2
 
 pub bases_asked : BasesAskedByNumbers
 bases_asked epoch base each = record { asked = λ j h. in_rows base.stamps j each h }

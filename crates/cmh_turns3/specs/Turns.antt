@@ -1,8 +1,10 @@
 -- Which states begin an epoch again with their base.
-use Rattle.std.specs.Prelude.{◌≢◌, ℕ, Option}
+use Rattle.std.specs.Prelude.{◌≢◌, ℕ, List, Option}
 use Rattle.std.specs.List.{AllByRecursion}
 use Rattle.cmh_runs.specs.Number.{IsNumber}
 use Rattle.cmh_model3.specs.declared.event.Event.{Event}
+use Rattle.cmh_model3.specs.Entries as model
+use Rattle.cmh_model3.specs.Journals.{LawfulFrom, state_after}
 use Rattle.cmh_model3.specs.Rules.{Accepts, after}
 use Rattle.cmh_model3.specs.State.{State, empty_state}
 use Rattle.cmh_topology3.specs.Topology.{Topology, site_of}
@@ -19,6 +21,12 @@ abbrev pub StayAskedByNumbers : Topology → Type 0
 StayAskedByNumbers t =
     (s : ℕ) (v : State) (event : Event) (declared : Option ℕ) → s ≢ 0 → AskedByNumbers v → Accepts (site_of t) s v event
     → AskedByNumbers (after (site_of t) s v event declared)
+
+-- so after each lawful journal
+abbrev pub JournalsAskedByNumbers : Topology → Type 0
+JournalsAskedByNumbers t =
+    (s : ℕ) (v : State) (steps : List model.Entry) → s ≢ 0 → AskedByNumbers v → LawfulFrom (site_of t) s v steps
+    → AskedByNumbers (state_after (site_of t) s v steps)
 
 -- in the first state
 abbrev pub BeginAskedByNumbers : Type 0

@@ -1,9 +1,3 @@
-use Rattle.std.proofs.Common.{◌≡◌, ◌∙◌, ◌-◌, ◌^◌, List, length, min, ap, subst}
-use Rattle.std.specs.List.{AllByRecursion}
-use Rattle.cmh_model3.specs.Lists.{IsAscending}
-use Rattle.cmh_segment3.specs.Base.{link_row}
-use Rattle.cmh_segment3.specs.Rows.{rows_spelling}
-use Rattle.cmh_segment3.specs.declared.links.LinkState.{LinkState}
 use Rattle.cmh_turns3.proofs.FittingLinks.{fit_short, short_fit}
 use Rattle.cmh_turns3.proofs.links.links_fit.Goals as goal
 
