@@ -1,5 +1,5 @@
 -- What is known of every controller that is read.
-use Rattle.std.proofs.Common.{◌≡◌, ◌≢◌, ◌∙◌, ◌&&◌, ◌==◌, ◌<◌, ℕ, Bool, true, false, if◌then◌else◌, Option, None, Some, unwrap_or, refl, sym, arith}
+use Rattle.std.proofs.Common.{◌≡◌, ◌≢◌, ◌∙◌, ◌&&◌, ◌==◌, ℕ, Bool, true, false, if◌then◌else◌, Option, None, Some, unwrap_or, refl, sym, arith}
 use Rattle.std.proofs.lemmas.Bool.{eqb-true}
 use Rattle.cmh_runs.specs.Number.{IsNumber}
 use Rattle.cmh_model3.specs.Lists.{in_list}

@@ -1,7 +1,7 @@
 //! Turns of a site of edition 3: the base with which its next epoch begins.
 //!
-//! `base_of` reads a controller, and gives the base of its state. By the law of turns that base says just the state that a
-//! turn of the controller leads to.
+//! `base_of` reads a controller, and gives the base of its state, which says just the state that a turn of the controller
+//! leads to. It can be written where its links can, which `links_fit` answers.
 #![tactic(auto)]
 
 mod base;

@@ -18,7 +18,7 @@ const MOST_LINK_BYTES: u64 = 1 << 30;
 const LINK_BYTES: u64 = 42;
 
 /// Whether the rows of links can stand in a base: the grammar allows them, they are in order, and they have 2^30 bytes at
-/// most. So little is kept of any link but of one whose other site does not acknowledge.
+/// most. Nothing else limits how many messages a link keeps, where the other site does not acknowledge them.
 pub fn links_fit(links: &Rows<LinkState>) -> bool
     ensures { IsTrue result ↔ FitLinks links.now }
 {
