@@ -1,10 +1,10 @@
 //! The base of a running controller.
 
-ghost use Rattle.std.specs.Prelude.{◌≡◌, ℕ, IfOk};
+ghost use Rattle.std.specs.Prelude.{◌≡◌, ℕ, IfOk, OnOk};
 ghost use Rattle.cmh_controller3.specs.Controller.{state_of};
 ghost use Rattle.cmh_segment3.specs.Base.{IsBase};
 ghost use Rattle.cmh_segment3.specs.States as spec;
-ghost use Rattle.cmh_segment3.specs.States.{stamp_of, state_in, turned_to};
+ghost use Rattle.cmh_segment3.specs.States.{BeginsEpoch, stamp_of, state_in, turned_to};
 ghost use Rattle.cmh_turns3.specs.Links.{FitLinks};
 ghost use Rattle.cmh_turns3.specs.Turns.{AskedByNumbers};
 
@@ -27,6 +27,8 @@ pub fn base_of(
     links: Rows<LinkState>,
 ) -> Result<Base, AllocError>
     ensures value { IfOk result (λ base. base ≡ spec.base_of (state_of controller.now) (stamp_of stops.now) links) }
+    ensures begins { OnOk result (AskedByNumbers (state_of controller.now)
+        → (epoch : ℕ) → BeginsEpoch epoch (turned_to epoch (state_of controller.now))) }
     ensures state { IfOk result (λ base. AskedByNumbers (state_of controller.now)
         → (epoch : ℕ) → state_in epoch base ≡ turned_to epoch (state_of controller.now)) }
     ensures whole { IfOk result (λ base. FitLinks links → IsBase base) }
