@@ -1,7 +1,7 @@
 -- A merge that cannot go on has taken as much as any list in order can have.
 use Rattle.std.proofs.Common.{◌≡◌, ◌≢◌, ℕ, ◌<◌, List, [], ◌∷◌, ◌++◌, length, inl, inr, sym, ap, subst, refl, ◌∙◌, append_assoc, append-nil}
 use Rattle.std.proofs.lemmas.Bool.{cases_eq}
-use Rattle.std.proofs.lemmas.List.{append_cancel_left}
+use Rattle.std.proofs.lemmas.List.{append_cancel_left, append_cancel_right}
 use Rattle.cmh_runs.specs.declared.entry.Entry.{Entry}
 use Rattle.cmh_runs.specs.declared.entry.WorldEvent.{WorldEvent}
 use Rattle.cmh_runs.specs.Journals.{receipts_of, sendings_of}
@@ -9,7 +9,7 @@ use Rattle.cmh_runs.specs.Runs.{IsBeginningOf, entries_of, sendings}
 use Rattle.cmh_runs.proofs.Beginnings.{beginning_more, beginning_nil, beginning_trans, grow}
 use Rattle.cmh_runs.proofs.Journals.{entries_elsewhere, entries_here, entries_of-append, receipts_of-append, receipts_of-beginning, sendings_of-beginning}
 use Rattle.cmh_merge.specs.Queues.{Queues, waiting}
-use Rattle.cmh_merge.specs.Merges.{IsInOrderFrom, IsMergeFrom, NoneFromItself, journal_of}
+use Rattle.cmh_merge.specs.Merges.{IsInOrderFrom, IsMergeFrom, LeavesUnderWay, NoneFromItself, journal_of}
 use Rattle.cmh_merge.specs.Inner.Merging.{IsMerging, StuckAt}
 use Rattle.cmh_merge.proofs.SiteLists.{place_of_some}
 
@@ -97,3 +97,11 @@ module _ {E F : Type 0} (got : ℕ → E → List F) where
       rest = m.rest;
       most = λ own others in_order within. confluence first (journal_of sites journals) held own (λ s. (journal_of sites left s, m.rest s)) stuck_here others in_order within;
     }
+
+  -- what is in the queues is what any list of what was taken leaves under way
+  pub left_under_way : (first : ℕ → ℕ → List F) (sites : List ℕ) (journals left : List (List (Entry E F))) (queues : Queues F) (order : List ℕ)
+      → IsMerging got sites first journals left queues order → LeavesUnderWay got first sites journals left (waiting queues)
+  left_under_way first sites journals left queues order m events rest a b =
+      let same : (s : ℕ) → entries_of s m.events ≡ entries_of s events =
+      λ s. append_cancel_right (entries_of s m.events) (entries_of s events) (journal_of sites left s) (m.rest s ∙ sym (rest s)) in
+      ap (λ es. receipts_of got a es ++ waiting queues a b) (sym (same b)) ∙ m.under_way a b ∙ ap (λ es. first a b ++ sendings_of b es) (same a)

@@ -41,6 +41,14 @@ module _ {E F : Type 0} (got : ℕ → E → List F) where
           → ((s : ℕ) → IsBeginningOf (entries_of s others) (journal_of sites journals s))
           → (s : ℕ) → IsBeginningOf (entries_of s others) (entries_of s events)
 
+    -- `last` says what is under way on each link behind what was taken: whatever list has just that, what came on a link
+    -- and what is under way at the end is what was under way and was sent.
+    abbrev pub LeavesUnderWay : List ℕ → List (List (Entry E F)) → List (List (Entry E F)) → (ℕ → ℕ → List F) → Type 0
+    LeavesUnderWay sites journals left last =
+        (events : List (WorldEvent E F))
+        → ((s : ℕ) → entries_of s events ++ journal_of sites left s ≡ journal_of sites journals s)
+        → (a b : ℕ) → receipts got a b events ++ last a b ≡ first a b ++ sendings a b events
+
   -- ---- journals that begin with their world
 
   -- nothing is under way before its first step

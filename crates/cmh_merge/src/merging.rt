@@ -2,7 +2,7 @@
 
 ghost use Rattle.std.specs.Prelude.{◌≡◌, ℕ, ◌<◌, false, List, length, IfOk, MatchBool, map};
 ghost use Rattle.cmh_runs.specs.declared.entry.Entry.{Entry};
-ghost use Rattle.cmh_merge.specs.Merges.{AreDistinct, IsMerge, IsMergeFrom};
+ghost use Rattle.cmh_merge.specs.Merges.{AreDistinct, IsMerge, IsMergeFrom, LeavesUnderWay};
 ghost use Rattle.cmh_merge.specs.Queues.{waiting};
 ghost use Rattle.cmh_merge.specs.Inner.Merging.{GoesOn, StuckAt, TakesAt};
 ghost use Rattle.cmh_merge.specs.Walks.{lefts_of, sites_of};
@@ -15,11 +15,13 @@ use std::alloc::{AllocError, Global};
 
 /// What was taken of the journals.
 #[derive(Drop)]
-pub struct Merged<W> {
+pub struct Merged<W, F> {
     /// The walks that were given, past what was taken.
     pub walks: Vec<SiteWalk<W>>,
     /// The site of each entry, in the order in which they were taken.
     pub order: Vec<SiteId>,
+    /// The frames that are under way after them.
+    pub queues: Queues<F>,
 }
 
 /// Takes entries of the journals of all sites as long as any can be taken: an entry that got nothing, or the next frame of
@@ -27,7 +29,7 @@ pub struct Merged<W> {
 pub fn merge<E, F: Copy + Drop, W: Walk<E, F>>(
     alloc: Global,
     walks: Vec<SiteWalk<W>>,
-) -> Result<Merged<W>, AllocError>
+) -> Result<Merged<W, F>, AllocError>
     requires distinct { AreDistinct (sites_of walks.items) }
     ensures sites { IfOk result (λ merged. sites_of merged.walks.items ≡ sites_of walks.items) }
     ensures merged { IfOk result (λ merged. IsMerge W.got (sites_of walks.items) (lefts_of W.left walks.items)
@@ -43,11 +45,13 @@ pub fn merge_from<E, F: Copy + Drop, W: Walk<E, F>>(
     alloc: Global,
     queues: Queues<F>,
     walks: Vec<SiteWalk<W>>,
-) -> Result<Merged<W>, AllocError>
+) -> Result<Merged<W, F>, AllocError>
     requires distinct { AreDistinct (sites_of walks.items) }
     ensures sites { IfOk result (λ merged. sites_of merged.walks.items ≡ sites_of walks.items) }
     ensures merged { IfOk result (λ merged. IsMergeFrom W.got (waiting queues) (sites_of walks.items)
         (lefts_of W.left walks.items) (lefts_of W.left merged.walks.items) merged.order.items) }
+    ensures under_way { IfOk result (λ merged. LeavesUnderWay W.got (waiting queues) (sites_of walks.items)
+        (lefts_of W.left walks.items) (lefts_of W.left merged.walks.items) (waiting merged.queues)) }
 {
     let mut walks = walks;
     let mut queues = queues;
@@ -57,7 +61,11 @@ pub fn merge_from<E, F: Copy + Drop, W: Walk<E, F>>(
     while moves {
         moves = pass(&mut walks, &mut queues, &mut order, &mut sent)?;
     }
-    Ok(Merged { walks, order })
+    Ok(Merged {
+        walks,
+        order,
+        queues,
+    })
 }
 
 /// Takes of each site in turn what can be taken. Says whether anything was.

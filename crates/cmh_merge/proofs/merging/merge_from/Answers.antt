@@ -3,7 +3,7 @@ use Rattle.cmh_merge.specs.Walks.{lefts_of, sites_of}
 use Rattle.cmh_merge.specs.Merges.{AreDistinct}
 use Rattle.cmh_merge.specs.Queues.{waiting}
 use Rattle.cmh_merge.specs.Inner.Merging.{IsMerging, StuckAt}
-use Rattle.cmh_merge.proofs.Confluence.{merged}
+use Rattle.cmh_merge.proofs.Confluence.{left_under_way, merged}
 use Rattle.cmh_merge.proofs.Going.{merging_start}
 use Rattle.cmh_merge.proofs.WalkLists.{length_lefts, length_sites}
 use Rattle.cmh_merge.proofs.merging.merge_from.Goals as goal
@@ -39,3 +39,9 @@ returns-clause-merged g c =
     merged W.got (waiting c.args.queues) (sites_of c.args.walks.items) (lefts_of W.left c.args.walks.items) (lefts_of W.left c.loop-moves.walks.items) c.loop-moves.queues c.loop-moves.order.items
     (length_lefts W.left c.loop-moves.walks.items ∙ long) now.merging
     (λ k l. now.stuck c.loop-moves-test.false k (omega (arith, l, long)))
+
+pub returns-clause-under_way : goal.returns-clause-under_way
+returns-clause-under_way g c =
+    let W = g.W.Walk in
+    left_under_way W.got (waiting c.args.queues) (sites_of c.args.walks.items) (lefts_of W.left c.args.walks.items) (lefts_of W.left c.loop-moves.walks.items) c.loop-moves.queues c.loop-moves.order.items
+    c.loop-moves.invariant.merging
