@@ -5,7 +5,8 @@ use Rattle.std.proofs.lemmas.Bool.{eqb-true, or_cases, or_parts}
 use Rattle.cmh_frames.specs.Rows.{repeats}
 use Rattle.cmh_topology3.specs.Topology.{Topology, is_site, sites_of}
 use Rattle.cmh_segment3.specs.declared.segment.Segment.{Segment}
-use Rattle.cmh_audit3.specs.Set.{IsSet, has_site, is_known, is_of_world, lacks_site, sites_in}
+use Rattle.cmh_audit3.specs.declared.set.SetFault.{SetFault}
+use Rattle.cmh_audit3.specs.Set.{AreOfWorld, IsSet, fault_or, has_site, is_known, is_of_world, lacks_site, sites_in}
 
 none_if : {X : Type 0} (b : Bool) (x : X) (o : Option X) → (if b then Some x else o) ≡ None → (b ≡ false) × (o ≡ None)
 none_if true x o e = absurd (cc e)
@@ -15,7 +16,7 @@ not_false : (b : Bool) → not b ≡ false → b ≡ true
 not_false true h = refl
 not_false false h = absurd (true≢false h)
 
-known_in : (t : Topology) (gs : List Segment) → list_any (λ (g : Segment). not (is_known t g)) gs ≡ false → (s : ℕ) → has_site (sites_in gs) s ≡ true → is_site t s ≡ true
+pub known_in : (t : Topology) (gs : List Segment) → list_any (λ (g : Segment). not (is_known t g)) gs ≡ false → (s : ℕ) → has_site (sites_in gs) s ≡ true → is_site t s ≡ true
 known_in t [] h s there = absurd (true≢false (sym there))
 known_in t (g ∷ gs) h s there =
     let parts = or_parts (not (is_known t g)) (list_any (λ (g : Segment). not (is_known t g)) gs) h in
@@ -35,17 +36,24 @@ covered_in (x ∷ sites) there h s known =
 
 -- of segments that are a set, no site is repeated, each is known, and none is missing
 pub record SetParts (t : Topology) (gs : List Segment) : Type 0 where
+  pub no_stranger : list_any (λ (g : Segment). not (is_known t g)) gs ≡ false
   pub once : repeats (sites_in gs) ≡ false
   pub known : (s : ℕ) → has_site (sites_in gs) s ≡ true → is_site t s ≡ true
   pub covered : (s : ℕ) → is_site t s ≡ true → has_site (sites_in gs) s ≡ true
 
-pub set_parts : (t : Topology) (gs : List Segment) → IsSet t gs → SetParts t gs
-set_parts t gs set =
-    let a = none_if (list_any (λ (g : Segment). not (is_of_world t.world g)) gs) _ _ set in
+none_parts : (t : Topology) (gs : List Segment) (other : Option SetFault) → fault_or t gs other ≡ None → SetParts t gs
+none_parts t gs other none =
+    let a = none_if (list_any (λ (g : Segment). not (is_of_world t.world g)) gs) _ _ none in
     let b = none_if (list_any (λ (g : Segment). not (is_known t g)) gs) _ _ a.1 in
     let c = none_if (repeats (sites_in gs)) _ _ b.1 in
     let d = none_if (lacks_site (sites_of t) (sites_in gs)) _ _ c.1 in
-    record { once = c.0; known = known_in t gs b.0; covered = covered_in (sites_of t) (sites_in gs) d.0 }
+    record { no_stranger = b.0; once = c.0; known = known_in t gs b.0; covered = covered_in (sites_of t) (sites_in gs) d.0 }
+
+pub set_parts : (t : Topology) (gs : List Segment) → IsSet t gs → SetParts t gs
+set_parts t gs set = none_parts t gs _ set
+
+pub world_parts : (t : Topology) (gs : List Segment) → AreOfWorld t gs → SetParts t gs
+world_parts t gs of_world = none_parts t gs None of_world
 
 same_if_both : (a b : Bool) → (a ≡ true → b ≡ true) → (b ≡ true → a ≡ true) → a ≡ b
 same_if_both true b to from = sym (to refl)

@@ -3,7 +3,7 @@ use Rattle.std.specs.Prelude.{◌≡◌, ℕ, List, [], ◌∷◌, ◌==◌, if�
 use Rattle.cmh_model3.specs.Entries.{WorldEvent}
 use Rattle.cmh_model3.specs.Journals.{LawfulFrom}
 use Rattle.cmh_model3.specs.Runs.{IsRun, entries_of}
-use Rattle.cmh_model3.specs.State.{empty_state}
+use Rattle.cmh_model3.specs.State.{State, empty_state}
 use Rattle.cmh_topology3.specs.Topology.{Topology, site_of}
 use Rattle.cmh_segment3.specs.declared.entry.Entry.{Entry}
 use Rattle.cmh_segment3.specs.declared.segment.Segment.{Segment}
@@ -15,11 +15,15 @@ abbrev pub journal_of : List Segment → ℕ → List Entry
 journal_of [] s = []
 journal_of (g ∷ segments) s = if g.header.site == s then g.entries else journal_of segments s
 
--- They are entries of the site's written controller: their steps are lawful, and each declaration has the stamp of the stop
--- at which the cycle stood.
-pub record AreLawful (t : Topology) (s : ℕ) (entries : List Entry) : Type 0 where
-  pub steps : LawfulFrom (site_of t) s empty_state (map step_of entries)
-  pub stamps : entries_from 0 (map step_of entries) ≡ entries
+-- They are entries of the site's written controller from this state: their steps are lawful, and each declaration has the
+-- stamp of the stop at which the cycle stood.
+pub record AreLawfulFrom (t : Topology) (s : ℕ) (v : State) (entries : List Entry) : Type 0 where
+  pub steps : LawfulFrom (site_of t) s v (map step_of entries)
+  pub stamps : entries_from v.clock (map step_of entries) ≡ entries
+
+-- from the first state
+abbrev pub AreLawful : Topology → ℕ → List Entry → Type 0
+AreLawful t s entries = AreLawfulFrom t s empty_state entries
 
 -- The journals, given by site number, are those of the list: each has just the entries of the steps that its site has there.
 abbrev pub AreJournalsOf : List WorldEvent → (ℕ → List Entry) → Type 0

@@ -48,15 +48,23 @@ abbrev pub begins_world : Segment → Bool
 begins_world g = (g.header.epoch == 0) && is_empty_base g.base
 
 -- The first fault that holds over all segments: one of another world, one of a site that the topology doesn't have, two of
--- one site, none of some site, or one that doesn't begin a journal.
-abbrev pub fault_of : Topology → List Segment → Option SetFault
-fault_of t segments =
+-- one site, or none of some site; and where there is none of these, what is given.
+abbrev pub fault_or : Topology → List Segment → Option SetFault → Option SetFault
+fault_or t segments other =
     if list_any (λ (g : Segment). not (is_of_world t.world g)) segments then Some OtherWorld
     else (if list_any (λ (g : Segment). not (is_known t g)) segments then Some UnknownSite
     else (if repeats (sites_in segments) then Some RepeatedSite
     else (if lacks_site (sites_of t) (sites_in segments) then Some MissingSite
-    else (if list_any (λ (g : Segment). not (begins_world g)) segments then Some LaterEpoch
-    else None))))
+    else other)))
+
+-- each segment is of a site of this world, and each site has just one
+abbrev pub AreOfWorld : Topology → List Segment → Type 0
+AreOfWorld t segments = fault_or t segments None ≡ None
+
+-- the first fault, with that of one that doesn't begin a journal as the last
+abbrev pub fault_of : Topology → List Segment → Option SetFault
+fault_of t segments =
+    fault_or t segments (if list_any (λ (g : Segment). not (begins_world g)) segments then Some LaterEpoch else None)
 
 -- each segment begins the journal of a site of this world, and each site has just one
 abbrev pub IsSet : Topology → List Segment → Type 0

@@ -4,6 +4,7 @@ use Rattle.std.specs.List.{AllByRecursion}
 use Rattle.std.specs.List.Sorted.{IsStrictlyIncreasing}
 use Rattle.cmh_model3.specs.Entries.{WorldEvent}
 use Rattle.cmh_model3.specs.Runs.{IsBeginningOf, IsRun, entries_of}
+use Rattle.cmh_model3.specs.State.{State, empty_state}
 use Rattle.cmh_topology3.specs.Topology.{Topology, site_of}
 use Rattle.cmh_segment3.specs.declared.entry.Entry.{Entry}
 use Rattle.cmh_segment3.specs.declared.segment.Segment.{Segment}
@@ -11,7 +12,7 @@ use Rattle.cmh_segment3.specs.Steps.{entries_from}
 use Rattle.cmh_audit3.specs.declared.stops.Reason.{Reason}
 use Rattle.cmh_audit3.specs.declared.stops.Reason.TheVariants.{Unlawful, NotSent}
 use Rattle.cmh_audit3.specs.declared.stops.Stop.{Stop}
-use Rattle.cmh_audit3.specs.Journals.{AreLawful, ComeFromRun, journal_of}
+use Rattle.cmh_audit3.specs.Journals.{AreLawfulFrom, ComeFromRun, journal_of}
 
 -- the entries of a site before its stop; all where it has none
 abbrev pub before_stop : List Stop → ℕ → List Entry → List Entry
@@ -20,15 +21,19 @@ before_stop (stop ∷ stops) s entries = if stop.site == s then take (stop.entry
 
 -- Why a site stops at an entry: by the entries up to it, it is none that its controller makes; or it is one, so what it got
 -- was not sent before the other stops.
-abbrev pub IsReason : Topology → ℕ → List Entry → Reason → Type 0
-IsReason t s entries Unlawful = ¬ AreLawful t s entries
-IsReason t s entries NotSent = AreLawful t s entries
+abbrev pub IsReasonFrom : Topology → ℕ → State → List Entry → Reason → Type 0
+IsReasonFrom t s v entries Unlawful = ¬ AreLawfulFrom t s v entries
+IsReasonFrom t s v entries NotSent = AreLawfulFrom t s v entries
 
--- a stop is at an entry of its site's segment, for this reason
-pub record IsStop (t : Topology) (segments : List Segment) (stop : Stop) : Type 0 where
+-- A stop is at an entry of its site's segment, for this reason, where each site begins in its state among these.
+pub record IsStopFrom (t : Topology) (states : ℕ → State) (segments : List Segment) (stop : Stop) : Type 0 where
   pub least : 1 ≤ stop.entry
   pub within : stop.entry ≤ length (journal_of segments stop.site)
-  pub reason : IsReason t stop.site (take stop.entry (journal_of segments stop.site)) stop.reason
+  pub reason : IsReasonFrom t stop.site (states stop.site) (take stop.entry (journal_of segments stop.site)) stop.reason
+
+-- where all begin in the first state
+abbrev pub IsStop : Topology → List Segment → Stop → Type 0
+IsStop t segments stop = IsStopFrom t (λ s. empty_state) segments stop
 
 -- The stops of segments: what stands before them comes from a run, and no run of beginnings of the segments has more.
 pub record AreStops (t : Topology) (segments : List Segment) (stops : List Stop) : Type 0 where

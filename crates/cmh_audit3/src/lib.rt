@@ -5,7 +5,9 @@
 #![tactic(auto)]
 
 mod file;
+mod judgement;
 mod lawful;
+mod order;
 mod queues;
 mod run;
 mod set;
@@ -15,8 +17,10 @@ mod verdict;
 mod walk;
 
 pub use crate::file::{FileFault, read_file};
+pub use crate::judgement::{Judged, judge};
+pub use crate::order::Order;
 pub use crate::run::run_of;
-pub use crate::set::{SetFault, check_set};
+pub use crate::set::{SetFault, check_set, check_world};
 pub use crate::stops::{Reason, Stop, Stops};
-pub use crate::verdict::{AuditMemory, Order, Verdict, audit};
+pub use crate::verdict::{AuditMemory, Verdict, audit};
 pub use cmh_segment3::{Segment, SegmentFault};

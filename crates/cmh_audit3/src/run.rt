@@ -7,8 +7,8 @@ ghost use Rattle.cmh_topology3.specs.Topology.{site_of};
 ghost use Rattle.cmh_audit3.specs.Journals.{AreJournalsOf, journal_of};
 ghost use Rattle.cmh_audit3.specs.Verdicts.{IsOrderOf};
 
+use crate::order::Order;
 use crate::queues::Queues;
-use crate::verdict::Order;
 use cmh_model3::{Event, Message, WorldEvent};
 use cmh_segment3::Segment;
 use std::alloc::{AllocError, Global};

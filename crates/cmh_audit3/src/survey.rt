@@ -1,18 +1,19 @@
 //! What segments come to each by itself.
 
-ghost use Rattle.std.specs.Prelude.{◌≡◌, IfOk, map};
+ghost use Rattle.std.specs.Prelude.{◌≡◌, ℕ, length, IfOk, map};
 ghost use Rattle.cmh_merge.specs.Walks as walks;
+ghost use Rattle.cmh_model3.specs.State.{State};
+ghost use Rattle.cmh_topology3.specs.Topology as topologies;
 ghost use Rattle.cmh_segment3.specs.Entries.{step_of};
-ghost use Rattle.cmh_audit3.specs.Inner.Lawful.{AreLawfulLengths, StandIfLawful};
-ghost use Rattle.cmh_audit3.specs.Inner.Survey.{steps_within};
+ghost use Rattle.cmh_audit3.specs.Inner.Survey.{IsSurvey, steps_within};
 ghost use Rattle.cmh_audit3.specs.Set.{sites_in};
+ghost use Rattle.cmh_audit3.specs.Standing.{StandIn};
 
-use crate::lawful::{Lawful, lawful_length};
+use crate::lawful::lawful_length;
 use crate::walk::SegmentWalk;
 use cmh_controller3::Controller;
 use cmh_merge::SiteWalk;
 use cmh_segment3::Segment;
-use cmh_topology3::Topology;
 use std::alloc::{AllocError, Global};
 
 /// What segments come to each by itself.
@@ -29,29 +30,30 @@ pub struct Survey<'a> {
 /// Steps the controller of each segment's site through its entries.
 pub fn survey_of<'a>(
     alloc: Global,
-    topology: &Topology,
     segments: &'a [Segment],
+    controllers: Vec<Controller>,
 ) -> Result<Survey<'a>, AllocError>
-    ensures limits { IfOk result (λ survey. AreLawfulLengths topology.now segments.now survey.limits.items) }
+    requires { length controllers.items ≡ length segments.now }
+    ensures as_many { IfOk result (λ survey. length survey.limits.items ≡ length segments.now) }
     ensures sites { IfOk result (λ survey. walks.sites_of survey.walks.items ≡ sites_in segments.now) }
     ensures walks { IfOk result (λ survey. walks.lefts_of (λ w. map step_of w) survey.walks.items
         ≡ steps_within segments.now survey.limits.items) }
-    ensures controllers { IfOk result (λ survey. StandIfLawful topology.now segments.now survey.controllers.items) }
+    ensures lawful { IfOk result (λ survey. (t : topologies.Topology) (states : ℕ → State)
+        → StandIn t states segments.now controllers.items
+        → IsSurvey t states segments.now survey.limits.items survey.controllers.items) }
 {
+    let mut controllers = controllers;
     let mut limits = Vec::new(alloc);
     let mut walks = Vec::new(alloc);
-    let mut controllers = Vec::new(alloc);
-    for segment in segments {
-        let site = segment.header.site;
+    for (place, segment) in segments.iter().enumerate() {
         let entries = segment.entries.as_slice();
-        let Lawful { length, controller } = lawful_length(alloc, topology, site, entries)?;
+        let length = lawful_length(&mut controllers[place], entries)?;
         let (front, _) = entries.split_at(length);
         limits.push(length)?;
         walks.push(SiteWalk {
-            site,
+            site: segment.header.site,
             walk: SegmentWalk::new(front),
         })?;
-        controllers.push(controller)?;
     }
     Ok(Survey {
         limits,

@@ -1,20 +1,21 @@
 //! The auditor's verdict.
 
-ghost use Rattle.std.specs.Prelude.{◌≡◌, ◌↔◌, IfErr, IfOk};
+ghost use Rattle.std.specs.Prelude.{◌↔◌, IfErr, IfOk};
+ghost use Rattle.cmh_model3.specs.State.{empty_state};
 ghost use Rattle.cmh_audit3.specs.Journals.{ComeFromRun, journal_of};
 ghost use Rattle.cmh_audit3.specs.Set.{IsSet};
+ghost use Rattle.cmh_audit3.specs.Standing.{StandIn};
 ghost use Rattle.cmh_audit3.specs.Stops.{AreStops};
 ghost use Rattle.cmh_audit3.specs.Verdicts.{ControllersStand, IsAccepted, IsOrderOf, as_result};
 
-use crate::stops::{Stops, stops_of};
-use crate::survey::{Survey, survey_of};
+use crate::judgement::{Judged, judge};
+use crate::order::Order;
+use crate::stops::Stops;
 use cmh_controller3::Controller;
-use cmh_merge::merge;
-use cmh_model3::SiteId;
+use cmh_merge::Queues;
 use cmh_segment3::Segment;
 use cmh_topology3::Topology;
 use std::alloc::{AllocError, Global};
-use std::marker::Model;
 use thiserror::Error;
 
 /// Memory was refused, so there is no verdict.
@@ -25,34 +26,6 @@ pub struct AuditMemory;
 impl From<AllocError> for AuditMemory {
     fn from(_: AllocError) -> Self {
         AuditMemory
-    }
-}
-
-/// The site of each entry of a run, in the order of the run.
-#[derive(Debug, Drop)]
-pub struct Order {
-    sites: Vec<SiteId>,
-}
-
-impl Model for Order {
-    ghost use Rattle.std.specs.Prelude.{List, ℕ};
-
-    ghost Value = { List ℕ };
-
-    ghost view = { λ o. o.sites.items };
-}
-
-impl Order {
-    pub(crate) fn new(sites: Vec<SiteId>) -> Self
-        ensures { result ≡ sites.items }
-    {
-        Order { sites }
-    }
-
-    pub fn as_slice(&self) -> &[SiteId]
-        ensures { result.now ≡ self.now }
-    {
-        &self.sites
     }
 }
 
@@ -94,19 +67,31 @@ pub fn audit(
     // The stops are the furthest that any run of these segments' beginnings gets.
     ensures stops { IfOk result (λ v. IfErr (as_result v) (AreStops topology.now segments.now)) }
 {
-    let Survey {
-        limits,
-        walks,
+    let controllers = new_controllers(alloc, topology, segments)?;
+    let Judged {
+        order,
         controllers,
-    } = survey_of(alloc, topology, segments)?;
-    let merged = merge(alloc, walks)?;
-    let stops = stops_of(alloc, topology.sites(), segments, &limits, &merged.walks)?;
+        stops,
+        ..
+    } = judge(alloc, topology, segments, controllers, Queues::new(alloc))?;
     if stops.as_slice().is_empty() {
-        Ok(Verdict::Accepted {
-            order: Order::new(merged.order),
-            controllers,
-        })
+        Ok(Verdict::Accepted { order, controllers })
     } else {
-        Ok(Verdict::Refused(Stops::new(stops)))
+        Ok(Verdict::Refused(stops))
     }
+}
+
+/// The controllers of the segments' sites before their first step.
+fn new_controllers(
+    alloc: Global,
+    topology: &Topology,
+    segments: &[Segment],
+) -> Result<Vec<Controller>, AllocError>
+    ensures { IfOk result (λ controllers. StandIn topology.now (λ s. empty_state) segments.now controllers.items) }
+{
+    let mut controllers = Vec::new(alloc);
+    for segment in segments {
+        controllers.push(Controller::empty(alloc, topology, segment.header.site)?)?;
+    }
+    Ok(controllers)
 }

@@ -2,6 +2,9 @@
 use Rattle.std.specs.Prelude.{ℕ, ◌+◌, ◌-◌, ◌==◌, nat_lt, List, [], ◌∷◌, ◌++◌, length, take, map, if◌then◌else◌, Option, None, Some}
 use Rattle.std.specs.Option.{option_to_list}
 use Rattle.cmh_model3.specs.Entries as model
+use Rattle.cmh_model3.specs.State.{State}
+use Rattle.cmh_topology3.specs.Topology.{Topology}
+use Rattle.cmh_controller3.specs.Controller.{Controller}
 use Rattle.cmh_segment3.specs.declared.segment.Segment.{Segment}
 use Rattle.cmh_segment3.specs.Entries.{step_of}
 use Rattle.cmh_merge.specs.Merges as merge
@@ -10,12 +13,18 @@ use Rattle.cmh_audit3.specs.declared.stops.Reason.{Reason}
 use Rattle.cmh_audit3.specs.declared.stops.Reason.TheVariants.{Unlawful, NotSent}
 use Rattle.cmh_audit3.specs.Journals.{journal_of}
 use Rattle.cmh_audit3.specs.Set.{sites_in}
+use Rattle.cmh_audit3.specs.Inner.Lawful.{AreLawfulLengths, StandIfLawful}
 
 -- of each segment the steps of its first entries, so many as the limit says
 abbrev pub steps_within : List Segment → List ℕ → List (List model.Entry)
 steps_within [] limits = []
 steps_within (g ∷ segments) [] = []
 steps_within (g ∷ segments) (n ∷ limits) = map step_of (take n g.entries) ∷ steps_within segments limits
+
+-- how far the entries of segments are lawful from these states, and where the controllers stand
+pub record IsSurvey (t : Topology) (states : ℕ → State) (segments : List Segment) (limits : List ℕ) (controllers : List Controller) : Type 0 where
+  pub lengths : AreLawfulLengths t states segments limits
+  pub stand : StandIfLawful t states segments controllers
 
 -- the limit of a site's segment
 abbrev pub limit_at : List Segment → List ℕ → ℕ → ℕ
