@@ -1,0 +1,4 @@
+pub mod Agreed
+pub mod Queueing
+pub mod Standing
+pub mod Ends

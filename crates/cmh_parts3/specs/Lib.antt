@@ -1,0 +1,4 @@
+pub mod Set
+pub mod Links
+pub mod Worlds
+pub mod Verdicts
