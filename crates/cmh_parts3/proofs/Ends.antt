@@ -29,7 +29,7 @@ pub from_bases : (t : Topology) (gs : List Segment) (cs : List Controller) (site
     → ((a b : ℕ) → first a b ≡ between sites gs a b) → ((states : ℕ → State) → StandIn t states gs cs → IsJudgement t states first gs judged) → IsJudgement t (state_at gs) (between (sites_of t) gs) gs judged
 from_bases t gs cs sites first judged set stand are same judgement =
     subst (λ f. IsJudgement t (state_at gs) f gs judged) (λ i a b. (same a b ∙ (λ j. between (are j) gs a b)) i)
-    (judgement (state_at gs) (stand_in t gs cs (world_parts t gs set.sites).once stand))
+    (judgement (state_at gs) (stand_in t gs cs (world_parts t gs set.of_world).once stand))
 
 run_from : (t : Topology) (gs : List Segment) (events : List WorldEvent) → AreInOrder t (state_at gs) (between (sites_of t) gs) events → IsRunFrom (site_of t) (world_of t gs) events
 run_from t gs events run = record { lawful = run.lawful; in_order = run.in_order }

@@ -6,9 +6,11 @@
 #![tactic(auto)]
 
 mod links;
+mod set;
 mod under_way;
 mod verdict;
 
 pub use crate::links::{Link, disagreement};
+pub use crate::set::are_of_epoch;
 pub use crate::under_way::queues_of;
 pub use crate::verdict::{EpochVerdict, audit_epoch};

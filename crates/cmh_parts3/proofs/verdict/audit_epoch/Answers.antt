@@ -18,16 +18,16 @@ pub queues_of-requires : goal.queues_of-requires
 queues_of-requires c = rise_distinct c.sites-sites.result.now c.sites-sites.ensures.ascending
 
 pub judge-requires-clause-known : goal.judge-requires-clause-known
-judge-requires-clause-known c = (world_parts c.args.topology.now c.args.segments.now c.requires.set.sites).no_stranger
+judge-requires-clause-known c = (world_parts c.args.topology.now c.args.segments.now c.requires.set.of_world).no_stranger
 
 pub judge-requires-clause-once : goal.judge-requires-clause-once
-judge-requires-clause-once c = (world_parts c.args.topology.now c.args.segments.now c.requires.set.sites).once
+judge-requires-clause-once c = (world_parts c.args.topology.now c.args.segments.now c.requires.set.of_world).once
 
 pub judge-requires-clause-controllers : goal.judge-requires-clause-controllers
 judge-requires-clause-controllers c =
     let t = c.args.topology.now in
     let gs = c.args.segments.now in
-    as_many_stand t (state_at gs) gs c.args.controllers.items (stand_in t gs c.args.controllers.items (world_parts t gs c.requires.set.sites).once c.requires.stand)
+    as_many_stand t (state_at gs) gs c.args.controllers.items (stand_in t gs c.args.controllers.items (world_parts t gs c.requires.set.of_world).once c.requires.stand)
 
 -- the bases do not agree
 pub returns-in-Some-clause-refused : goal.returns-in-Some-clause-refused
