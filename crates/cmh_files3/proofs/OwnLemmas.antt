@@ -20,8 +20,7 @@ use Rattle.cmh_segment3.specs.Entries.{step_of}
 use Rattle.cmh_segment3.specs.Steps.{entries_from, entry_at}
 use Rattle.cmh_audit3.specs.Inner.Lawful.{recorded}
 use Rattle.cmh_audit3.specs.Journals.{AreLawful}
-use Rattle.cmh_audit3.proofs.Lengths.{Going, entries-append, goes_on, records_it}
-use Rattle.cmh_audit3.proofs.Merged.{lawful_beginning}
+use Rattle.cmh_audit3.proofs.Lengths.{Going, entries-append, goes_on, lawful_beginning, records_it}
 use Rattle.cmh_files3.specs.Reasons.{Makes, process_of}
 use Rattle.cmh_files3.proofs.TurnLemmas.{take_next}
 
@@ -42,7 +41,7 @@ made_by old new event o took = record {
   stop = λ d is. recorded_stop o.declared (declared_at old.kept.clock event) took.stop d is;
 }
 
-module _ (t : Topology) (s : ℕ) (entries : List Entry) (i : ℕ) (e : Entry) (old : Controller) (h : i < length entries) (is : e ≡ get_or entries i e) (r : Going t s entries i old) (lawful : AreLawful t s entries) where
+module _ (t : Topology) (s : ℕ) (entries : List Entry) (i : ℕ) (e : Entry) (old : Controller) (h : i < length entries) (is : e ≡ get_or entries i e) (r : Going t s empty_state entries i old) (lawful : AreLawful t s entries) where
   abbrev front : List Entry
   front = take i entries
 
@@ -55,7 +54,7 @@ module _ (t : Topology) (s : ℕ) (entries : List Entry) (i : ℕ) (e : Entry) (
   with_it : AreLawful t s (front ++ e ∷ [])
   with_it =
       subst (λ es. AreLawful t s es) (take_next entries i e h is)
-      (lawful_beginning t s (take (i + 1) entries) (drop (i + 1) entries) (subst (λ es. AreLawful t s es) (sym (take-append-drop (i + 1) entries)) lawful))
+      (lawful_beginning t s empty_state (take (i + 1) entries) (drop (i + 1) entries) (subst (λ es. AreLawful t s es) (sym (take-append-drop (i + 1) entries)) lawful))
 
   more_steps : map step_of (front ++ e ∷ []) ≡ steps ++ step_of e ∷ []
   more_steps = map-append step_of front (e ∷ [])
@@ -66,8 +65,8 @@ module _ (t : Topology) (s : ℕ) (entries : List Entry) (i : ℕ) (e : Entry) (
       ∙ ap (entries_from 0) (sym more_steps) ∙ with_it.stamps
 
   -- the controller takes the next entry as it is recorded
-  pub steps_on : (new : Controller) (o : Outcome) → Steps old e.event o new → Going t s entries (i + 1) new
+  pub steps_on : (new : Controller) (o : Outcome) → Steps old e.event o new → Going t s empty_state entries (i + 1) new
   steps_on new o took =
       let last = lawful_rest (rules_of (site_of t) s) empty_state steps (step_of e ∷ []) (subst (λ xs. LawfulFrom (site_of t) s empty_state xs) more_steps with_it.steps) in
-      let same = records_it t s entries i e old h is r new o took last.0 last.1 (push_eq front front (entry_at led.clock (step_of e)) e stamps).1 in
-      goes_on t s entries i e old h is r new o took same.0 same.1
+      let same = records_it t s empty_state entries i e old h is r new o took last.0 last.1 (push_eq front front (entry_at led.clock (step_of e)) e stamps).1 in
+      goes_on t s empty_state entries i e old h is r new o took same.0 same.1
