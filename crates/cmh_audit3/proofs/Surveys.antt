@@ -1,8 +1,8 @@
 -- Segments beside the limits of what is lawful of them, and read by site.
-use Rattle.std.proofs.Common.{◌≡◌, ℕ, zero, suc, ◌+◌, ◌<◌, ◌==◌, Bool, true, false, List, [], ◌∷◌, ◌++◌, length, take, drop, set, map, get_or, if◌then◌else◌, inl, inr, refl, sym, ap, ◌∙◌, subst, arith, add-one, drop-cons, length-append, length-set}
+use Rattle.std.proofs.Common.{◌≡◌, ℕ, zero, suc, ◌+◌, ◌<◌, ◌==◌, Bool, true, false, List, [], ◌∷◌, ◌++◌, length, take, drop, set, map, get_or, if◌then◌else◌, inl, inr, refl, sym, ap, ◌∙◌, subst, arith, length-append, length-set}
 use Rattle.std.specs.Prelude.{slice_index_or}
 use Rattle.std.proofs.lemmas.Bool.{cases_eq, eq-eqb, ne_eqb, or_left, or_parts, or_right, true≢false}
-use Rattle.std.proofs.lemmas.List.{drop-set-lt, map-append, take_more, take_more_set}
+use Rattle.std.proofs.lemmas.List.{drop-set-lt, drop_more, map-append, take_more, take_more_set}
 use Rattle.std.proofs.lemmas.Slice.Zip.{all_zipped_more}
 use Rattle.cmh_frames.specs.Rows.{repeats}
 use Rattle.cmh_merge.specs.Merges.{AreDistinct}
@@ -41,9 +41,6 @@ within_more [] [] g n same = refl
 within_more [] (m ∷ ns) g n same = absurd (omega (arith, same))
 within_more (x ∷ gs) [] g n same = absurd (omega (arith, same))
 within_more (x ∷ gs) (m ∷ ns) g n same = ap (λ l. map step_of (take m x.entries) ∷ l) (within_more gs ns g n (let e : suc (length ns) ≡ suc (length gs) = same in omega (arith, e)))
-
-drop_at : {X : Type 0} (xs : List X) (i : ℕ) (x : X) → i < length xs → x ≡ get_or xs i x → drop i xs ≡ x ∷ drop (i + 1) xs
-drop_at xs i x l is = drop-cons xs i x l ∙ (λ j. sym is j ∷ drop (sym (add-one i) j) xs)
 
 -- Of the first segments the limits are known, and their controllers stand behind the entries; the others stand as they began.
 pub record Half (t : Topology) (states : ℕ → State) (segments : List Segment) (i : ℕ) (limits : List ℕ) (controllers : List Controller) : Type 0 where
@@ -89,8 +86,8 @@ module _ (segments : List Segment) (begun : List Controller) (i : ℕ) (limits :
   half_more t states half =
       let s = g.header.site in
       let rest : StandIn t states (g ∷ drop (i + 1) segments) (old ∷ drop (i + 1) controllers) =
-      subst (λ gs. StandIn t states gs (old ∷ drop (i + 1) controllers)) (drop_at segments i g l is)
-      (subst (λ cs. StandIn t states (drop i segments) cs) (drop_at controllers i old within old_is) half.rest) in
+      subst (λ gs. StandIn t states gs (old ∷ drop (i + 1) controllers)) (drop_more segments i g l ∙ ap (λ x. x ∷ drop (i + 1) segments) (sym is))
+      (subst (λ cs. StandIn t states (drop i segments) cs) (drop_more controllers i old within ∙ ap (λ x. x ∷ drop (i + 1) controllers) (sym old_is)) half.rest) in
       let at = rest.0 in
       let here : (P : Topology → ℕ → State → Type 0) → P old.topology old.site (state_of old) → P t s (states s) =
       λ P p. subst (λ w. P t s w) at.state (subst (λ x. P t x (state_of old)) at.site (subst (λ u. P u old.site (state_of old)) at.topology p)) in

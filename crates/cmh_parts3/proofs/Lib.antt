@@ -2,3 +2,4 @@ pub mod Agreed
 pub mod Queueing
 pub mod Standing
 pub mod Ends
+pub mod Turning

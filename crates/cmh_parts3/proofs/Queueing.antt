@@ -1,8 +1,8 @@
 -- What is under way is put into the queues, site by site.
-use Rattle.std.proofs.Common.{◌≡◌, ℕ, suc, ◌+◌, ◌<◌, ◌==◌, ◌&&◌, ◌||◌, Bool, true, false, List, [], ◌∷◌, ◌++◌, length, take, drop, get_or, if◌then◌else◌, inl, inr, refl, sym, ap, ◌∙◌, subst, arith, append_assoc, append-nil, add-one, drop-cons}
+use Rattle.std.proofs.Common.{◌≡◌, ℕ, suc, ◌+◌, ◌<◌, ◌==◌, ◌&&◌, ◌||◌, Bool, true, false, List, [], ◌∷◌, ◌++◌, length, take, drop, get_or, if◌then◌else◌, inl, inr, refl, sym, ap, ◌∙◌, subst, arith, append_assoc, append-nil}
 use Rattle.std.specs.List.Sorted.{IsStrictlyIncreasing}
 use Rattle.std.proofs.lemmas.Bool.{cases_eq, eqb-true, ne_eqb, or_parts}
-use Rattle.std.proofs.lemmas.List.{take_more}
+use Rattle.std.proofs.lemmas.List.{drop_more, take_more}
 use Rattle.std.proofs.lemmas.List.Folds.{list_any_none}
 use Rattle.std.proofs.lemmas.List.Kept.{AllPairs-from_increasing}
 use Rattle.std.specs.List.{AllPairs}
@@ -20,11 +20,6 @@ pairs_distinct (x ∷ xs) rise =
 
 pub rise_distinct : (xs : List ℕ) → IsStrictlyIncreasing xs → repeats xs ≡ false
 rise_distinct xs rise = pairs_distinct xs (AllPairs-from_increasing xs rise)
-
--- ---- the sites that are left
-
-drop_at : {X : Type 0} (xs : List X) (i : ℕ) (x : X) → i < length xs → x ≡ get_or xs i x → drop i xs ≡ x ∷ drop (i + 1) xs
-drop_at xs i x l is = drop-cons xs i x l ∙ (λ j. sym is j ∷ drop (sym (add-one i) j) xs)
 
 module _ {F : Type 0} where
   -- what is given where both hold
@@ -82,7 +77,7 @@ module _ {F : Type 0} where
   from_more all before old new from sites i to messages l is are so_far sent = record { distinct = parts.1; sent = more }
     where
       left : drop i sites ≡ to ∷ drop (i + 1) sites
-      left = drop_at sites i to l is
+      left = drop_more sites i to l ∙ ap (λ x. x ∷ drop (i + 1) sites) (sym is)
 
       parts : (has_site (drop (i + 1) sites) to ≡ false) × (repeats (drop (i + 1) sites) ≡ false)
       parts = or_parts (has_site (drop (i + 1) sites) to) (repeats (drop (i + 1) sites)) (subst (λ xs. repeats xs ≡ false) left so_far.distinct)
@@ -125,7 +120,7 @@ module _ {F : Type 0} where
   between_more all old new sites i from l is so_far sent = record { distinct = parts.1; sent = more }
     where
       left : drop i sites ≡ from ∷ drop (i + 1) sites
-      left = drop_at sites i from l is
+      left = drop_more sites i from l ∙ ap (λ x. x ∷ drop (i + 1) sites) (sym is)
 
       parts : (has_site (drop (i + 1) sites) from ≡ false) × (repeats (drop (i + 1) sites) ≡ false)
       parts = or_parts (has_site (drop (i + 1) sites) from) (repeats (drop (i + 1) sites)) (subst (λ xs. repeats xs ≡ false) left so_far.distinct)

@@ -5,11 +5,13 @@
 //! of the next one can be held against that.
 #![tactic(auto)]
 
+mod laws;
 mod links;
 mod set;
 mod under_way;
 mod verdict;
 
+pub use crate::laws::turn_law;
 pub use crate::links::{Link, disagreement};
 pub use crate::set::are_of_epoch;
 pub use crate::under_way::queues_of;
