@@ -95,6 +95,20 @@ impl ReceiverEnd {
         }
     }
 
+    /// How many messages are in the journal, synced or not.
+    pub fn got(&self) -> u64
+        ensures { result ≡ self.now.got }
+    {
+        self.got
+    }
+
+    /// The mark of the messages in the journal.
+    pub fn mark(&self) -> Mark
+        ensures { result ≡ self.now.mark }
+    {
+        self.mark
+    }
+
     /// Whether all of its messages are synced, as they are between two batches of the station.
     pub fn is_synced(&self) -> bool
         ensures { IsTrue result ↔ (self.now.unsynced ≡ 0) }

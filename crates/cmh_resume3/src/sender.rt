@@ -1,6 +1,6 @@
 //! The sender's end of a link.
 
-ghost use Rattle.std.specs.Prelude.{◌≡◌, ◌++◌, ◌∷◌, [], ◌<◌, ◌≤◌, ◌+◌, ◌^◌, if◌then◌else◌, nat_le, length, take, drop, IsTrue, ◌↔◌, OnErr, OnOk, Err};
+ghost use Rattle.std.specs.Prelude.{◌≡◌, ◌++◌, ◌∷◌, [], ◌<◌, ◌≤◌, ◌+◌, ◌^◌, if◌then◌else◌, nat_le, length, take, drop, IsTrue, ◌↔◌, IfOk, OnErr, OnOk, Err};
 ghost use Rattle.cmh_wire3.specs.Mark.{mark_on};
 ghost use Rattle.cmh_wire3.specs.Wire.{spelled};
 ghost use Rattle.cmh_resume3.specs.Within.{IsWithin};
@@ -9,6 +9,7 @@ ghost use Rattle.cmh_resume3.specs.Sender.{GivesNext, HearsAcknowledgement, Hear
 use cmh_hello3::{Acknowledgement, Answer, Mismatch, Refusal};
 use cmh_model3::Message;
 use cmh_wire3::{Epoch, Mark, encode};
+use std::alloc::{AllocError, Global};
 use std::collections::VecDeque;
 use std::marker::Model;
 
@@ -138,6 +139,32 @@ impl SenderEnd {
         ensures { result ≡ length self.now.kept }
     {
         self.kept.len()
+    }
+
+    /// How many messages the receiver is known to have synced. They and those that are kept can be counted.
+    pub fn acked(&self) -> u64
+        ensures count { result ≡ self.now.acked }
+        ensures countable { sent self.now < 2 ^ 64 }
+    {
+        self.acked
+    }
+
+    /// The mark of the messages that the receiver is known to have synced.
+    pub fn mark(&self) -> Mark
+        ensures { result ≡ self.now.mark }
+    {
+        self.mark
+    }
+
+    /// A copy of the messages that it keeps, in their order.
+    pub fn kept_messages(&self, alloc: Global) -> Result<Vec<Message>, AllocError>
+        ensures { IfOk result (λ messages. messages.items ≡ self.now.kept) }
+    {
+        let (first, second) = self.kept.as_slices();
+        let mut messages = Vec::with_capacity(alloc, self.kept.len())?;
+        messages.extend_from_slice(first)?;
+        messages.extend_from_slice(second)?;
+        Ok(messages)
     }
 
     /// A message of the link is synced. After an error the end is as it was.
