@@ -1,11 +1,13 @@
 -- What entries got, piece by piece, as a receiver's end counts it.
-use Rattle.std.proofs.Common.{◌≡◌, ℕ, ◌+◌, ◌^◌, ◌<◌, Bool, true, false, Some, List, [], ◌∷◌, ◌++◌, length, take, get_or, refl, sym, ap, ◌∙◌, arith, append-nil, length-append}
+use Rattle.std.proofs.Common.{◌≡◌, ℕ, ◌+◌, ◌^◌, ◌<◌, ◌≤◌, ◌==◌, if◌then◌else◌, Bool, true, false, Some, List, [], ◌∷◌, ◌++◌, length, take, drop, get_or, refl, sym, ap, ◌∙◌, arith, append-nil, length-append, take-append-drop}
 use Rattle.std.proofs.lemmas.List.{length-take-le, take_more}
 use Rattle.cmh_runs.proofs.Journals.{receipts_of-append}
 use Rattle.cmh_model3.specs.Entries.{Entry}
 use Rattle.cmh_model3.specs.Journals.{message_from, receipts_of}
+use Rattle.cmh_model3.specs.declared.event.Event.{Event}
+use Rattle.cmh_model3.specs.declared.event.Event.TheVariants.{Ask, Reply, Withdraw, Got, Turn}
 use Rattle.cmh_model3.specs.declared.frame.Message.{Message}
-use Rattle.cmh_wire3.specs.Mark.{mark_of, mark_on}
+use Rattle.cmh_wire3.specs.Mark.{mark_on}
 use Rattle.cmh_wire3.specs.Wire.{spelled, spelling}
 use Rattle.cmh_resume3.proofs.Ends.{marked_more}
 use Rattle.cmh_resume3.specs.Receiver.{IsUntaken, Receiver, with_message}
@@ -35,15 +37,43 @@ pub receipt_same : (from : ℕ) (es : List Entry) (i : ℕ) (e : Entry) → i < 
 receipt_same from es i e inside is got =
     receipts_next from es i e inside is ∙ ap (λ (l : List Message). receipts_of from (take i es) ++ l) got ∙ append-nil (receipts_of from (take i es))
 
-pub count_more : (xs ys : List Message) (m : Message) (n k : ℕ) → ys ≡ xs ++ m ∷ [] → n ≡ length xs → k ≡ n + 1 → k ≡ length ys
-count_more xs ys m n k is count next = omega (arith, ap (λ (l : List Message). length l) is, length-append xs (m ∷ []))
+pub count_more : (b : ℕ) (xs ys : List Message) (m : Message) (n k : ℕ) → ys ≡ xs ++ m ∷ [] → n ≡ b + length xs → k ≡ n + 1 → k ≡ b + length ys
+count_more b xs ys m n k is count next = omega (arith, ap (λ (l : List Message). length l) is, length-append xs (m ∷ []), count, next)
 
-pub mark_more : (xs ys : List Message) (m : Message) (n k : ℕ) → ys ≡ xs ++ m ∷ [] → n ≡ mark_of (spelled xs) → k ≡ mark_on n (spelling m) → k ≡ mark_of (spelled ys)
-mark_more xs ys m n k is mark next =
+pub mark_more : (b : ℕ) (xs ys : List Message) (m : Message) (n k : ℕ) → ys ≡ xs ++ m ∷ [] → n ≡ mark_on b (spelled xs) → k ≡ mark_on n (spelling m) → k ≡ mark_on b (spelled ys)
+mark_more b xs ys m n k is mark next =
     next ∙ ap (λ (z : ℕ). mark_on z (spelling m)) mark
-    ∙ ap (mark_on (mark_of (spelled xs))) (sym (append-nil (spelling m)))
-    ∙ sym (marked_more _ xs (m ∷ []))
-    ∙ ap (λ (l : List Message). mark_of (spelled l)) (sym is)
+    ∙ ap (mark_on (mark_on b (spelled xs))) (sym (append-nil (spelling m)))
+    ∙ sym (marked_more b xs (m ∷ []))
+    ∙ ap (λ (l : List Message). mark_on b (spelled l)) (sym is)
+
+-- a beginning of the entries got no more than all
+pub fewer_receipts : (from : ℕ) (es : List Entry) (i : ℕ) → length (receipts_of from (take i es)) ≤ length (receipts_of from es)
+fewer_receipts from es i =
+    let all = ap (λ (l : List Entry). length (receipts_of from l)) (take-append-drop i es) in
+    let both = ap (λ (l : List Message). length l) (receipts_of-append message_from from (take i es) (drop i es)) in
+    let lengths = length-append (receipts_of from (take i es)) (receipts_of from (drop i es)) in
+    omega (arith, all, both, lengths)
+
+one_at_most : (from : ℕ) (event : Event) → length (message_from from event) ≤ 1
+one_at_most from (Ask asker targets) = omega arith
+one_at_most from (Reply holder asker) = omega arith
+one_at_most from (Got sender clock frame) = one (sender == from)
+  where
+    one : (b : Bool) → length {A = Message} (if b then record { clock = clock; frame = frame } ∷ [] else []) ≤ 1
+    one true = omega arith
+    one false = omega arith
+one_at_most from (Withdraw asker targets) = omega arith
+one_at_most from (Turn clock) = omega arith
+
+-- entries got no more messages than there are entries
+pub few_receipts : (from : ℕ) (es : List Entry) → length (receipts_of from es) ≤ length es
+few_receipts from [] = omega arith
+few_receipts from (e ∷ es) =
+    let later = few_receipts from es in
+    let one = one_at_most from e.event in
+    let both = length-append (message_from from e.event) (receipts_of from es) in
+    omega (arith, later, one, both)
 
 -- ---- messages that are taken one by one
 

@@ -1,3 +1,4 @@
 pub mod Giving
 pub mod Counting
+pub mod Linking
 pub mod Standing

@@ -1,3 +1,4 @@
 pub mod Peers
+pub mod Links
 pub mod Happenings
 pub mod Changes
