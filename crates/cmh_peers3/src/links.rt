@@ -30,8 +30,8 @@ pub enum Unmet {
 // ---- from a base
 
 /// A peer for each of these sites. The links are those of a base, and the entries those behind it in this site's journal:
-/// all that they got is counted, and of what they sent nothing was given to a sender's end yet. A site that has no row is
-/// one of which the base knows nothing.
+/// all that they got is counted, and of what they sent nothing was given to a sender's end yet. A site without a row is one
+/// to which nothing was sent and from which nothing was got.
 pub fn peers_from(
     alloc: Global,
     them: &[SiteId],
@@ -64,7 +64,6 @@ fn meet(
     ensures ok { IfOk result (λ peer. peer ≡ met_from links.now entries.now site) }
     ensures full { result ≡ Err Unmet.Full → 2 ^ 64 ≤ (got_since links.now entries.now site).got }
 {
-    let _number = site.get();
     let Some(into) = receipts(incoming_at(links, site), entries, site) else {
         return Err(Unmet::Full);
     };
@@ -114,6 +113,7 @@ fn sender_at(alloc: Global, links: &[LinkState], site: SiteId) -> Result<SenderE
     }
 }
 
+/// A sender's end of what was sent.
 fn sender_of(alloc: Global, sent: &Outgoing) -> Result<SenderEnd, AllocError>
     requires { sent.now.acked + length sent.now.kept < 2 ^ 64 }
     ensures { IfOk result (λ out. out ≡ spec.sender_of sent.now) }
@@ -123,14 +123,13 @@ fn sender_of(alloc: Global, sent: &Outgoing) -> Result<SenderEnd, AllocError>
     Ok(SenderEnd::new(sent.acked, sent.mark, VecDeque::from_vec(kept)))
 }
 
-/// What was got from a site, where the entries come after what was got before; `None` where it can't be counted.
+/// What was got from a site: what was got before, and then what the entries got. `None` where it can't be counted.
 fn receipts(before: Incoming, entries: &[Entry<Event, Message>], from: SiteId) -> Option<Incoming>
     ensures { MatchOption result (2 ^ 64 ≤ (with_receipts (receipts_of from entries.now) before).got)
         (λ all. all ≡ with_receipts (receipts_of from entries.now) before) }
 {
-    let Incoming { got, mark } = before;
-    let mut count = got;
-    let mut mark = mark;
+    let mut count = before.got;
+    let mut mark = before.mark;
     for entry in entries {
         match got_from(from, &entry.event) {
             Some(message) => {
@@ -164,8 +163,8 @@ fn got_from(site: SiteId, event: &Event) -> Option<Message>
 
 // ---- to a base
 
-/// What the ends know of each link, as a base has it. The grammar allows it where the peers are in order and keep messages
-/// of the grammar: what else it asks the types say.
+/// What the ends know of each link, as a base has it. The grammar allows these rows where the peers are in order and keep
+/// messages of the grammar. What else it asks, the types say.
 pub fn links_of(alloc: Global, peers: &[Peer]) -> Result<Rows<LinkState>, AllocError>
     ensures links { IfOk result (λ links. links ≡ map spec.link_of peers.now) }
     ensures rows { IfOk result (λ links. CanBeRows peers.now → AreRows IsLinkRow link_place links) }
@@ -177,6 +176,7 @@ pub fn links_of(alloc: Global, peers: &[Peer]) -> Result<Rows<LinkState>, AllocE
     Ok(Rows::new(links))
 }
 
+/// What the ends know of a link.
 fn link_of(alloc: Global, peer: &Peer) -> Result<LinkState, AllocError>
     ensures link { IfOk result (λ link. link ≡ spec.link_of peer.now) }
     ensures row { OnOk result (AllByRecursion IsMessage peer.now.out.kept → IsLinkRow (spec.link_of peer.now)) }
