@@ -24,12 +24,13 @@ use Rattle.cmh_controller3.proofs.Kept.{AsLarge}
 
 -- what every controller keeps holds of what has led back to a state in which it held
 pub back_kept : (home : ℕ → ℕ) (s : ℕ) (v : State) (mid new : Kept) → IsKept home s mid → JournalFacts home s v → state_kept home s new ≡ v
-    → AsLarge mid new → ((k j : ℕ) → pairs_of new.owed k j ≡ true → (home j ≢ 0) × (home j ≢ s)) → IsKept home s new
-back_kept home s v mid new kept facts is large askers = record {
+    → AsLarge mid new → ((k j : ℕ) → pairs_of new.owed k j ≡ true → (home j ≢ 0) × (home j ≢ s)) → ((p : ℕ) → stamps_of new.stamps p ≢ 0 → home p ≡ s) → IsKept home s new
+back_kept home s v mid new kept facts is large askers asked = record {
   site = kept.site;
   facts = subst (JournalFacts home s) (sym is) facts;
   members = λ p. kept.members p ∙ ap (λ ms. in_list ms p) (sym large.members);
   askers = askers;
+  asked = asked;
   leaving_room = subst (HasRoom home s) (sym large.leaving) kept.leaving_room;
   owed_room = subst (HasRoom home s) (sym large.owed) kept.owed_room;
   marks_room = subst (HasRoom home s) (sym large.marks) kept.marks_room;

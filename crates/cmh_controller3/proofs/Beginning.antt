@@ -63,6 +63,7 @@ module _ (home : ℕ → ℕ) (s : ℕ) (ms : List ℕ) (kept : Kept) (room : �
         facts = subst (JournalFacts home s) (sym is_empty) (lawful_states home s [] tt);
         members = λ p. sym (here p) ∙ ap (λ (w : Held). is_member w p) (sym waits);
         askers = λ k j h. absurd (true≢false (sym h ∙ ap (λ (f : ℕ → ℕ → Bool). f k j) owed));
+        asked = λ p some. absurd (some (ap (λ (l : List ℕ). stamps_of l p) stamps ∙ all_same room p 0));
         leaving_room = subst (HasRoom home s) (sym leaving_length) has_room;
         owed_room = subst (HasRoom home s) (sym owed_length) has_room;
         marks_room = subst (HasRoom home s) (sym marks_length) has_room;

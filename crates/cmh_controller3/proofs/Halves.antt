@@ -73,6 +73,7 @@ module _ (c : Controller) (kept : IsKept (home_of c) c.site c.kept) (j : ℕ) (k
     facts = subst (JournalFacts (home_of c) c.site) (sym begun_withdraw) leaving_facts;
     members = kept.members;
     askers = kept.askers;
+    asked = kept.asked;
     leaving_room = subst (HasRoom (home_of c) c.site) (sym room) kept.leaving_room;
     owed_room = kept.owed_room;
     marks_room = kept.marks_room;

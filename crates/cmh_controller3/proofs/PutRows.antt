@@ -70,6 +70,7 @@ module _ (c : Controller) (rows : Rows) (waits : Held) (leaving owed : List (Lis
   put_kept kept facts fits large =
       back_kept home s (rows_back home s rows (state_of c)) c.kept new kept facts put_is large
       (λ k j h. pairs_from (pairs_of c.kept.owed) rows.process rows.owed (λ y. (home y ≢ 0) × (home y ≢ s)) kept.askers (known rows.owed fits.owed) k j (sym (ap (λ (f : ℕ → ℕ → Bool). f k j) owed_are) ∙ h))
+      kept.asked
     where
       known : (o : Option (List ℕ)) → IfSome o (λ row. (home rows.process ≡ s) × ((j : ℕ) → in_list row j ≡ true → (home j ≢ 0) × (home j ≢ s)))
           → IfSome o (λ row. (j : ℕ) → in_list row j ≡ true → (home j ≢ 0) × (home j ≢ s))

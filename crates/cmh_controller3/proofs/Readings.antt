@@ -30,4 +30,4 @@ module _ (c : Controller) (kept : IsKept (home_of c) c.site c.kept) where
       go false away owes = (kept.askers k j owes).0
 
   pub has_facts : IsWellFormed c.topology → HasFacts c
-  has_facts formed = record { site = is_site; facts = kept.facts; askers = asker_known; numbers = number_of c.topology formed }
+  has_facts formed = record { site = is_site; facts = kept.facts; askers = asker_known; asked = kept.asked; numbers = number_of c.topology formed }

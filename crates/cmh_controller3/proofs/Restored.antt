@@ -18,7 +18,7 @@ use Rattle.cmh_controller3.specs.Tables.{flags_of, marks_of, pairs_of, stamps_of
 use Rattle.cmh_controller3.specs.WaysBack.{owed_back}
 use Rattle.cmh_controller3.proofs.After.{kept_is, owed_set}
 use Rattle.cmh_controller3.proofs.Back.{back_kept}
-use Rattle.cmh_controller3.proofs.Kept.{AsLarge, askers_more}
+use Rattle.cmh_controller3.proofs.Kept.{AsLarge, asked_at, askers_more}
 
 -- ---- bits and lists
 
@@ -257,33 +257,33 @@ module _ (c : Controller) (kept : IsKept (home_of c) c.site c.kept) where
   before = state_of c
 
   gets : (Allowed : Type 0) (w : State) (new : Kept) → Allowed → state_kept home s new ≡ w → JournalFacts home s w → AsLarge v new → ((k j : ℕ) → pairs_of new.owed k j ≡ true → (home j ≢ 0) × (home j ≢ s))
-      → Gets Allowed w c new
-  gets Allowed w new allowed is facts large askers = record {
+      → ((p : ℕ) → stamps_of new.stamps p ≢ 0 → home p ≡ s) → Gets Allowed w c new
+  gets Allowed w new allowed is facts large askers asked = record {
     takes = record { allowed = allowed; topology = refl; site = refl; state = is };
-    kept = back_kept home s w v new kept facts is large askers;
+    kept = back_kept home s w v new kept facts is large askers asked;
   }
 
   pub gets_clock : (n : ℕ) → v.clock ≤ n → Gets (before.clock ≤ n) (with_clock before n) c (record v { clock = n })
   gets_clock n later = gets _ (with_clock before n) (record v { clock = n }) later refl (facts_clock home s before kept.facts n later)
-      (record { members = refl; leaving = refl; owed = refl; marks = refl; declared = refl; stamps = refl }) kept.askers
+      (record { members = refl; leaving = refl; owed = refl; marks = refl; declared = refl; stamps = refl }) kept.askers kept.asked
 
   pub gets_stamp : (p n : ℕ) (stamps : List ℕ) → MayStamp home s before p n → stamps_of stamps ≡ set_at (stamps_of v.stamps) p n → length stamps ≡ length v.stamps
       → Gets (MayStamp home s before p n) (with_stamp before p n) c (record v { stamps = stamps })
   gets_stamp p n stamps may set room = gets _ (with_stamp before p n) (record v { stamps = stamps }) may
       (kept_is home s _ (with_stamp before p n) refl refl refl refl refl refl refl set) (facts_stamp home s before kept.facts p n may)
-      (record { members = refl; leaving = refl; owed = refl; marks = refl; declared = refl; stamps = room }) kept.askers
+      (record { members = refl; leaving = refl; owed = refl; marks = refl; declared = refl; stamps = room }) kept.askers (asked_at home s (stamps_of v.stamps) (stamps_of stamps) p n may.0 set kept.asked)
 
   pub gets_leaving : (j k : ℕ) (leaving : List (List ℕ)) → MayLeave home s j k → pairs_of leaving ≡ set_pair (pairs_of v.leaving) j k true → length leaving ≡ length v.leaving
       → Gets (MayLeave home s j k) (with_leaving before j k) c (record v { leaving = leaving })
   gets_leaving j k leaving apart set room = gets _ (with_leaving before j k) (record v { leaving = leaving }) apart
       (kept_is home s _ (with_leaving before j k) refl refl set refl refl refl refl refl) (facts_leaving home s before kept.facts j k apart)
-      (record { members = refl; leaving = room; owed = refl; marks = refl; declared = refl; stamps = refl }) kept.askers
+      (record { members = refl; leaving = room; owed = refl; marks = refl; declared = refl; stamps = refl }) kept.askers kept.asked
 
   pub gets_owed : (k j : ℕ) (owed : List (List ℕ)) → MayOwe home s before k j → home j ≢ s → pairs_of owed ≡ set_pair (pairs_of v.owed) k j true → length owed ≡ length v.owed
       → Gets (MayOwe home s before k j) (with_owed before k j) c (record v { owed = owed })
   gets_owed k j owed may away set room = gets _ (with_owed before k j) (record v { owed = owed }) may
       (kept_is home s _ (with_owed before k j) refl refl refl (owed_set home s v.waits v.owed owed k j true away set) refl refl refl refl) (facts_owed home s before kept.facts k j may.0 away)
-      (record { members = refl; leaving = refl; owed = room; marks = refl; declared = refl; stamps = refl }) (askers_more home s v.owed owed k j kept.askers may.1 away set)
+      (record { members = refl; leaving = refl; owed = room; marks = refl; declared = refl; stamps = refl }) (askers_more home s v.owed owed k j kept.askers may.1 away set) kept.asked
 
   -- between two processes of the site it is owed already
   pub owes_already : (k j : ℕ) → MayOwe home s before k j → home j ≡ s → Takes (MayOwe home s before k j) (with_owed before k j) c c
@@ -307,13 +307,13 @@ module _ (c : Controller) (kept : IsKept (home_of c) c.site c.kept) where
       → Gets (is_blocked before k ≡ true) (with_mark before k i n) c (record v { marks = marks })
   gets_mark k i n marks blocked set room = gets _ (with_mark before k i n) (record v { marks = marks }) blocked
       (kept_is home s _ (with_mark before k i n) refl refl refl refl set refl refl refl) (facts_mark home s before kept.facts k i n blocked)
-      (record { members = refl; leaving = refl; owed = refl; marks = room; declared = refl; stamps = refl }) kept.askers
+      (record { members = refl; leaving = refl; owed = refl; marks = room; declared = refl; stamps = refl }) kept.askers kept.asked
 
   pub gets_declared : (i : ℕ) (declared : List Bool) → is_blocked before i ≡ true → flags_of declared ≡ set_at (flags_of v.declared) i true → length declared ≡ length v.declared
       → Gets (is_blocked before i ≡ true) (with_declared before i) c (record v { declared = declared })
   gets_declared i declared blocked set room = gets _ (with_declared before i) (record v { declared = declared }) blocked
       (kept_is home s _ (with_declared before i) refl refl refl refl refl set refl refl) (facts_declared home s before kept.facts i blocked)
-      (record { members = refl; leaving = refl; owed = refl; marks = refl; declared = room; stamps = refl }) kept.askers
+      (record { members = refl; leaving = refl; owed = refl; marks = refl; declared = room; stamps = refl }) kept.askers kept.asked
 
   pub gets_wait : (j k n : ℕ) (waits : Held) → MayWait home s before j k n → waits.members ≡ v.waits.members
       → waits_of waits ≡ set_at (waits_of v.waits) j (with_each (waits_of v.waits j) (k ∷ []))
@@ -322,7 +322,7 @@ module _ (c : Controller) (kept : IsKept (home_of c) c.site c.kept) where
   gets_wait j k n waits may members set since = gets _ (with_wait home s before j k n) (record v { waits = waits }) may
       (kept_is home s _ (with_wait home s before j k n) set begun refl (owed_again ∙ ap (λ (f : ℕ → List ℕ). owed_back home s f before.owed) set) refl refl refl refl)
       (facts_wait home s before kept.facts j k n may)
-      (record { members = members; leaving = refl; owed = refl; marks = refl; declared = refl; stamps = refl }) kept.askers
+      (record { members = members; leaving = refl; owed = refl; marks = refl; declared = refl; stamps = refl }) kept.askers kept.asked
     where
       begun : since_of waits ≡ (λ x y. if (x == j) && (y == k) then n else since_of v.waits x y)
       begun = since ∙ fun_ext (λ x. fun_ext λ y. ap (λ z. if (x == j) && z then n else since_of v.waits x y) (one_in k y))

@@ -18,7 +18,7 @@ use Rattle.cmh_controller3.specs.Steps.{IsBackAt, prepared_state, process_in}
 use Rattle.cmh_controller3.specs.Tables.{flags_of, marks_of, pairs_of, stamps_of}
 use Rattle.cmh_controller3.proofs.Back.{ask_declares, back_ask, back_kept, back_probe, back_request, back_withdraw, probe_new, some_mark, undeclared_none, undeclared_some}
 use Rattle.cmh_controller3.proofs.Halves.{here_too}
-use Rattle.cmh_controller3.proofs.Kept.{AsLarge, askers_less}
+use Rattle.cmh_controller3.proofs.Kept.{AsLarge, asked_at, askers_less}
 
 -- the controller is back where it was, and keeps what every controller keeps
 pub record Back (old mid : Controller) (new : Kept) : Type 0 where
@@ -43,9 +43,10 @@ module _ (old mid : Controller) (kept : IsKept (home_of mid) mid.site mid.kept) 
     between = here_too old mid prepares.topology prepares.site (λ home s. state_of mid ≡ prepared_state home s v event d) prepares.state
 
     at_last : (new : Kept) → state_kept (home_of mid) mid.site new ≡ v → AsLarge mid.kept new
-        → ((k j : ℕ) → pairs_of new.owed k j ≡ true → (home_of mid j ≢ 0) × (home_of mid j ≢ mid.site)) → Back old mid new
-    at_last new is large askers = record {
-      kept = back_kept (home_of mid) mid.site v mid.kept new kept facts is large askers;
+        → ((k j : ℕ) → pairs_of new.owed k j ≡ true → (home_of mid j ≢ 0) × (home_of mid j ≢ mid.site))
+        → ((p : ℕ) → stamps_of new.stamps p ≢ 0 → home_of mid p ≡ mid.site) → Back old mid new
+    at_last new is large askers asked = record {
+      kept = back_kept (home_of mid) mid.site v mid.kept new kept facts is large askers asked;
       back = record { topology = prepares.topology; site = prepares.site; state = is };
     }
 
@@ -60,13 +61,14 @@ module _ (old mid : Controller) (kept : IsKept (home_of mid) mid.site mid.kept) 
       (back_ask (home_of mid) mid.site v (facts (Ask j ks) prepares) mid.kept j ks (accepted (Ask j ks) prepares) d waits declared stamps b.clock b.stamp b.declared
       (between (Ask j ks) prepares) (ask_declares (home_of old) old.site v j ks prepares.sends.0 d prepares.sends.1) set since flags stamped prepares.before.0 prepares.before.1 prepares.before.2)
       (record { members = members; leaving = refl; owed = refl; marks = refl; declared = declared_room; stamps = stamps_room }) kept.askers
+      (asked_at (home_of mid) mid.site (stamps_of mid.kept.stamps) (stamps_of stamps) j b.stamp (accepted (Ask j ks) prepares).0 stamped kept.asked)
 
   pub withdraw_back : (j : ℕ) (ks : List ℕ) (leaving : List (List ℕ)) → StandsBetween old (Withdraw j ks) b o mid
       → pairs_of leaving ≡ set_at (pairs_of mid.kept.leaving) j (in_list b.leaving) → length leaving ≡ length mid.kept.leaving → Back old mid (record mid.kept { leaving = leaving })
   withdraw_back j ks leaving prepares put room =
       at_last (Withdraw j ks) prepares _
       (back_withdraw (home_of mid) mid.site v (facts (Withdraw j ks) prepares) mid.kept j ks d leaving b.leaving (between (Withdraw j ks) prepares) put prepares.before)
-      (record { members = refl; leaving = room; owed = refl; marks = refl; declared = refl; stamps = refl }) kept.askers
+      (record { members = refl; leaving = room; owed = refl; marks = refl; declared = refl; stamps = refl }) kept.askers kept.asked
 
   pub request_back : (a n j k : ℕ) (owed : List (List ℕ)) → StandsBetween old (Got a n (Request j k)) b o mid
       → pairs_of owed ≡ set_pair (pairs_of mid.kept.owed) k j false → length owed ≡ length mid.kept.owed → Back old mid (record mid.kept { owed = owed; clock = b.clock })
@@ -77,7 +79,7 @@ module _ (old mid : Controller) (kept : IsKept (home_of mid) mid.site mid.kept) 
       (back_request (home_of mid) mid.site v (facts event prepares) mid.kept a n j k d owed b.clock (between event prepares) prepares.sends.1.1
       (λ here. accepts.0 (sym accepts.1 ∙ here)) accepts.3 row prepares.before)
       (record { members = refl; leaving = refl; owed = room; marks = refl; declared = refl; stamps = refl })
-      (askers_less (home_of mid) mid.site mid.kept.owed owed k j kept.askers row)
+      (askers_less (home_of mid) mid.site mid.kept.owed owed k j kept.askers row) kept.asked
 
   pub mark_there : (a n i m j k : ℕ) → StandsBetween old (Got a n (Probe i m j k)) b o mid → marks_of mid.kept.marks k i ≡ 0 → b.mark ≡ 0
   mark_there a n i m j k prepares =
@@ -93,7 +95,7 @@ module _ (old mid : Controller) (kept : IsKept (home_of mid) mid.site mid.kept) 
       at_last event prepares _
       (back_probe (home_of mid) mid.site v (facts event prepares) mid.kept a n i m j k d marks declared b.clock b.mark (between event prepares) put prepares.before.1
       (undone o refl) prepares.before.0)
-      (record { members = refl; leaving = refl; owed = refl; marks = marks_room; declared = declared_room; stamps = refl }) kept.askers
+      (record { members = refl; leaving = refl; owed = refl; marks = marks_room; declared = declared_room; stamps = refl }) kept.askers kept.asked
     where
       undone : (q : Option Declaration) → o ≡ q → flags_of mid.kept.declared ≡ declared_after v.declared d → flags_of declared ≡ v.declared
       undone None e is = none e ∙ undeclared_none (flags_of mid.kept.declared) v.declared d (ap process_in e) is

@@ -15,7 +15,7 @@ use cmh_model3::{ProcId, Stamp};
 use cmh_waits3::Wait;
 
 impl Controller {
-    /// The processes of the site, ascending. No other waits, owes a reply, or has marks here.
+    /// The processes of the site, ascending. No other waits, owes a reply, has asked, or has marks here.
     pub fn members(&self) -> &[ProcId]
         ensures at_home { (p : ℕ) → in_list result.now p ≡ (home_of self.now p == self.now.site) }
         ensures ascending { IsStrictlyIncreasing result.now }
