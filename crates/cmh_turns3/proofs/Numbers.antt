@@ -109,11 +109,6 @@ pub in_number : (p : ℕ) → in_list all_numbers p ≡ true → IsNumber p
 unfolding all_numbers
 in_number p there = let within = counted 1 9999 p there in record { least = within.0; most = (let high = within.1 in omega (arith, high)) }
 
--- one number more
-pub count_more : (a n : ℕ) → count_from a (n + 1) ≡ count_from a n ++ (a + n) ∷ []
-count_more a zero = ap (λ m. m ∷ []) (let e : a ≡ a + zero = omega arith in e)
-count_more a (suc n) = ap (count_from a) (let e : suc n + 1 ≡ suc (n + 1) = omega arith in e) ∙ ap (λ l. a ∷ l) (count_more (a + 1) n ∙ ap (λ m. count_from (a + 1) n ++ m ∷ []) (let e : a + 1 + n ≡ a + suc n = omega arith in e))
-
 -- ---- some of them
 
 -- Those that pass a test are the members of any ascending list of numbers that has just those.
@@ -124,6 +119,14 @@ some_numbers test xs up numbers same =
     go : (p : ℕ) (z : Bool) → test p ≡ z → test p ≡ (test p && in_list all_numbers p)
     go p true e = e ∙ sym (ap (λ z. z && in_list all_numbers p) e ∙ number_in p (has_all IsNumber xs p numbers (same p ∙ e)))
     go p false e = e ∙ sym (ap (λ z. z && in_list all_numbers p) e)
+
+-- where only members pass, the members that pass are all numbers that pass
+pub some_members : (test : ℕ → Bool) (ms : List ℕ) → IsAscending ms → AllByRecursion IsNumber ms → ((p : ℕ) → test p ≡ true → in_list ms p ≡ true) → filter test ms ≡ filter test all_numbers
+some_members test ms up numbers members = some_numbers test (filter test ms) (filter_ascends test ms up) (all_filter IsNumber test ms numbers) (λ p. in_filter test ms p ∙ go p (test p) refl)
+  where
+    go : (p : ℕ) (z : Bool) → test p ≡ z → (z && in_list ms p) ≡ z
+    go p true e = members p e
+    go p false e = refl
 
 -- ---- rows, number by number
 

@@ -1,5 +1,5 @@
 -- The rows of the base of a state are those of the site's processes.
-use Rattle.std.proofs.Common.{◌≡◌, ◌≢◌, ℕ, ◌+◌, ◌-◌, ◌<◌, ◌≤◌, ◌==◌, ◌||◌, not, Bool, true, false, cond, List, [], ◌∷◌, ◌++◌, ◌⊎◌, length, get_or, map, take, if◌then◌else◌, refl, sym, ap, ◌∙◌, subst, inl, inr, arith, append-nil}
+use Rattle.std.proofs.Common.{◌≡◌, ◌≢◌, ℕ, ◌+◌, ◌<◌, ◌==◌, ◌||◌, not, Bool, true, false, cond, List, [], ◌∷◌, ◌++◌, ◌⊎◌, length, get_or, map, take, if◌then◌else◌, refl, sym, ap, ◌∙◌, subst, inl, inr, arith, append-nil}
 use Rattle.std.proofs.Math.Path.{fun_ext}
 use Rattle.std.specs.List.{AllByRecursion, filter, flat_map}
 use Rattle.std.specs.List.Sorted.{IsStrictlyIncreasing}
@@ -15,13 +15,13 @@ use Rattle.cmh_runs.specs.Number.{IsNumber}
 use Rattle.cmh_model3.specs.Laws.{JournalFacts}
 use Rattle.cmh_model3.specs.Lists.{IsAscending, in_list, is_nonempty}
 use Rattle.cmh_model3.specs.State.{State, is_blocked}
-use Rattle.cmh_segment3.specs.States.{all_numbers, count_from, pairs_where, stamped_pairs, stamped_where}
+use Rattle.cmh_segment3.specs.States.{all_numbers, pairs_where, stamped_pairs, stamped_where}
 use Rattle.cmh_segment3.specs.declared.rows.Stamped.{Stamped}
 use Rattle.cmh_waits3.proofs.Lists.{in_above}
 use Rattle.cmh_waits3.specs.Rows.{since_in, targets_of}
 use Rattle.cmh_waits3.specs.declared.wait.Wait.{Wait}
-use Rattle.cmh_turns3.proofs.Numbers.{all_in, ascends, count_more, none_pass, of_members, some_numbers}
-use Rattle.cmh_turns3.specs.Inner.Rows.{is_mark, marked_by, marks_from, pair_of, pairs_from, row_of_mark, row_of_wait, stamped_of, stamped_pair_of, waits_from}
+use Rattle.cmh_turns3.proofs.Numbers.{all_in, ascends, none_pass, of_members, some_members, some_numbers}
+use Rattle.cmh_turns3.specs.Inner.Rows.{has_asked, is_mark, marked_by, marks_from, pair_of, pairs_from, row_of_mark, row_of_wait, stamped_of, stamped_pair_of, waits_from}
 
 -- ---- a step of a loop over processes
 
@@ -176,30 +176,19 @@ marked_number (m ∷ ms) i numbers some = elim (cases_eq m.origin i) [
   | inr n ↦ marked_number ms i numbers.1 (λ none. some (ap (λ z. if z then m.stamp else stamp_in ms i) (ne_eqb m.origin i n) ∙ none))
 ]
 
--- ---- stamps, number by number
+-- ---- stamps, process by process
 
-pub stamps_more : (test : ℕ → Bool) (stamp : ℕ → ℕ) (n : ℕ) (before after : List Stamped) (b : Bool) → 1 ≤ n → test n ≡ b → before ≡ stamped_where test stamp (count_from 1 (n - 1))
-    → after ≡ (if b then before ++ stamped_of stamp n ∷ [] else before) → after ≡ stamped_where test stamp (count_from 1 (n + 1 - 1))
-stamps_more test stamp n before after b low passes so_far pushes =
-    let m : ℕ = n - 1 in
-    let next : n + 1 - 1 ≡ m + 1 = omega (arith, low) in
-    let last : 1 + m ≡ n = omega (arith, low) in
-    pushes ∙ ap (λ l. if b then l ++ stamped_of stamp n ∷ [] else l) so_far ∙ join b passes
-    ∙ ap (λ l. map (stamped_of stamp) l) (sym (filter-append test (count_from 1 m) (n ∷ [])))
-    ∙ ap (λ k. stamped_where test stamp (count_from 1 m ++ k ∷ [])) (sym last)
-    ∙ sym (ap (λ k. stamped_where test stamp (count_from 1 k)) next ∙ ap (stamped_where test stamp) (count_more 1 m))
+pub stamps_more : (test : ℕ → Bool) (stamp : ℕ → ℕ) (ms : List ℕ) (i a : ℕ) (before after : List Stamped) (b : Bool) → i < length ms → a ≡ get_or ms i 0 → test a ≡ b
+    → before ≡ stamped_where test stamp (take i ms) → after ≡ (if b then before ++ stamped_of stamp a ∷ [] else before) → after ≡ stamped_where test stamp (take (i + 1) ms)
+stamps_more test stamp ms i a before after b inside is passes so_far pushes =
+    pushes ∙ ap (λ l. if b then l ++ stamped_of stamp a ∷ [] else l) so_far ∙ join b passes
+    ∙ ap (λ l. map (stamped_of stamp) l) (sym (filter-append test (take i ms) (a ∷ [])))
+    ∙ ap (λ m. stamped_where test stamp (take i ms ++ m ∷ [])) is ∙ ap (stamped_where test stamp) (sym (take_more ms i 0 inside))
   where
-    join : (z : Bool) → test n ≡ z → (if z then map (stamped_of stamp) (filter test (count_from 1 (n - 1))) ++ stamped_of stamp n ∷ [] else map (stamped_of stamp) (filter test (count_from 1 (n - 1))))
-        ≡ map (stamped_of stamp) (filter test (count_from 1 (n - 1)) ++ filter test (n ∷ []))
-    join true e =
-        sym (ap (λ z. map (stamped_of stamp) (filter test (count_from 1 (n - 1)) ++ cond z (n ∷ []) [])) e ∙ map-append (stamped_of stamp) (filter test (count_from 1 (n - 1))) (n ∷ []))
-    join false e =
-        sym (ap (λ z. map (stamped_of stamp) (filter test (count_from 1 (n - 1)) ++ cond z (n ∷ []) [])) e ∙ ap (map (stamped_of stamp)) (append-nil (filter test (count_from 1 (n - 1)))))
-
--- the count is of all numbers where it has come to the last
-pub all_counted : (n : ℕ) → n ≡ 9999 → count_from 1 n ≡ all_numbers
-unfolding all_numbers
-all_counted n e = ap (count_from 1) e
+    join : (z : Bool) → test a ≡ z → (if z then map (stamped_of stamp) (filter test (take i ms)) ++ stamped_of stamp a ∷ [] else map (stamped_of stamp) (filter test (take i ms)))
+        ≡ map (stamped_of stamp) (filter test (take i ms) ++ filter test (a ∷ []))
+    join true e = sym (ap (λ z. map (stamped_of stamp) (filter test (take i ms) ++ cond z (a ∷ []) [])) e ∙ map-append (stamped_of stamp) (filter test (take i ms)) (a ∷ []))
+    join false e = sym (ap (λ z. map (stamped_of stamp) (filter test (take i ms) ++ cond z (a ∷ []) [])) e ∙ ap (map (stamped_of stamp)) (append-nil (filter test (take i ms))))
 
 -- a stamp that is not 0
 pub stamped : (m n : ℕ) → m ≡ n → m ≢ 0 → not (n == 0) ≡ true
@@ -277,3 +266,8 @@ module _ (c : Controller) (known : HasFacts c) (ms : List ℕ) (at_home : (p : �
 
   pub marks_of_all : flat_map (marks_from (state_of c)) ms ≡ stamped_pairs (marked_by (state_of c)) (state_of c).marks all_numbers
   marks_of_all = all_marks (home_of c) c.site (state_of c) known.facts ms at_home (ascends ms up) numbers_here
+
+  -- whoever has asked is one of the site
+  pub stamps_of_all : stamped_where (has_asked (state_of c)) (state_of c).stamp ms ≡ stamped_where (has_asked (state_of c)) (state_of c).stamp all_numbers
+  stamps_of_all = ap (map (stamped_of (state_of c).stamp)) (some_members (has_asked (state_of c)) ms (ascends ms up) numbers_here
+      (λ p some. at_home p ∙ eq-eqb (home_of c p) c.site (known.asked p (λ none. true≢false (sym some ∙ ap not (eq-eqb ((state_of c).stamp p) 0 none))))))

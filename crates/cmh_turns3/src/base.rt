@@ -6,7 +6,6 @@ ghost use Rattle.cmh_segment3.specs.Base.{IsBase};
 ghost use Rattle.cmh_segment3.specs.States as spec;
 ghost use Rattle.cmh_segment3.specs.States.{BeginsEpoch, stamp_of, state_in, turned_to};
 ghost use Rattle.cmh_turns3.specs.Links.{FitLinks};
-ghost use Rattle.cmh_turns3.specs.Turns.{AskedByNumbers};
 
 use crate::kinds::kinds_law;
 use crate::pairs::{leaving_rows, owed_rows};
@@ -27,10 +26,9 @@ pub fn base_of(
     links: Rows<LinkState>,
 ) -> Result<Base, AllocError>
     ensures value { IfOk result (λ base. base ≡ spec.base_of (state_of controller.now) (stamp_of stops.now) links) }
-    ensures begins { OnOk result (AskedByNumbers (state_of controller.now)
-        → (epoch : ℕ) → BeginsEpoch epoch (turned_to epoch (state_of controller.now))) }
-    ensures state { IfOk result (λ base. AskedByNumbers (state_of controller.now)
-        → (epoch : ℕ) → state_in epoch base ≡ turned_to epoch (state_of controller.now)) }
+    ensures begins { OnOk result ((epoch : ℕ) → BeginsEpoch epoch (turned_to epoch (state_of controller.now))) }
+    ensures state { IfOk result (λ base.
+        (epoch : ℕ) → state_in epoch base ≡ turned_to epoch (state_of controller.now)) }
     ensures whole { IfOk result (λ base. FitLinks links → IsBase base) }
 {
     let _ = controller.members();

@@ -6,11 +6,9 @@
 
 mod base;
 mod kinds;
-mod laws;
 mod links;
 mod pairs;
 mod stamped;
 
 pub use crate::base::base_of;
-pub use crate::laws::asked_law;
 pub use crate::links::links_fit;

@@ -11,9 +11,6 @@ use cmh_model3::{ProcId, Stamp};
 use cmh_segment3::{Rows, Stamped, StampedPair};
 use std::alloc::{AllocError, Global};
 
-/// The greatest number of a process.
-const MAX_NUMBER: u16 = 9999;
-
 /// Who waits for whom, since the ask with which stamp.
 pub(crate) fn wait_rows(
     alloc: Global,
@@ -127,11 +124,13 @@ pub(crate) fn stamp_rows(
         ≡ stamped_where (has_asked (state_of controller.now)) (state_of controller.now).stamp all_numbers) }
 {
     let mut rows = Vec::new(alloc);
-    for number in 1..MAX_NUMBER + 1 {
-        let process = ProcId::of(number);
-        let stamp = controller.stamp_of(process);
+    for process in controller.members() {
+        let stamp = controller.stamp_of(*process);
         if stamp.get() != 0 {
-            rows.push(Stamped { process, stamp })?;
+            rows.push(Stamped {
+                process: *process,
+                stamp,
+            })?;
         }
     }
     Ok(Rows::new(rows))

@@ -37,10 +37,10 @@ pub returns-clause-begins : goal.returns-clause-begins
 returns-clause-begins c = begins c.args.controller.now c.members.ensures.facts c.in_ok-leaving_rows.ensures.numbers c.in_ok-mark_rows.ensures.numbers
 
 pub returns-clause-state : goal.returns-clause-state
-returns-clause-state c = λ by_numbers epoch.
+returns-clause-state c = λ epoch.
     let turned = turned_to epoch (state_of c.args.controller.now) in
     ap (state_in epoch) (made_is c)
-    ∙ c.state_law.ensures.back epoch turned (stamp_of c.args.stops.now) c.args.links (returns-clause-begins c by_numbers epoch)
+    ∙ c.state_law.ensures.back epoch turned (stamp_of c.args.stops.now) c.args.links (returns-clause-begins c epoch)
 
 pub returns-clause-whole : goal.returns-clause-whole
 returns-clause-whole c = λ fit.
