@@ -3,7 +3,7 @@ use Rattle.std.specs.Prelude.{◌≡◌, ℕ, List, [], ◌∷◌, ◌==◌, if�
 use Rattle.cmh_model3.specs.Entries.{WorldEvent}
 use Rattle.cmh_model3.specs.Journals.{LawfulFrom}
 use Rattle.cmh_model3.specs.Runs.{IsRun, entries_of}
-use Rattle.cmh_model3.specs.State.{State, empty_state}
+use Rattle.cmh_model3.specs.State.{State}
 use Rattle.cmh_topology3.specs.Topology.{Topology, site_of}
 use Rattle.cmh_segment3.specs.declared.entry.Entry.{Entry}
 use Rattle.cmh_segment3.specs.declared.segment.Segment.{Segment}
@@ -20,10 +20,6 @@ journal_of (g ∷ segments) s = if g.header.site == s then g.entries else journa
 pub record AreLawfulFrom (t : Topology) (s : ℕ) (v : State) (entries : List Entry) : Type 0 where
   pub steps : LawfulFrom (site_of t) s v (map step_of entries)
   pub stamps : entries_from v.clock (map step_of entries) ≡ entries
-
--- from the first state
-abbrev pub AreLawful : Topology → ℕ → List Entry → Type 0
-AreLawful t s entries = AreLawfulFrom t s empty_state entries
 
 -- The journals, given by site number, are those of the list: each has just the entries of the steps that its site has there.
 abbrev pub AreJournalsOf : List WorldEvent → (ℕ → List Entry) → Type 0

@@ -18,8 +18,7 @@ use Rattle.cmh_segment3.specs.declared.entry.Declaration.{Declaration}
 use Rattle.cmh_segment3.specs.declared.entry.Entry.{Entry}
 use Rattle.cmh_segment3.specs.Entries.{step_of}
 use Rattle.cmh_segment3.specs.Steps.{entries_from, entry_at}
-use Rattle.cmh_audit3.specs.Inner.Lawful.{recorded}
-use Rattle.cmh_audit3.specs.Journals.{AreLawful}
+use Rattle.cmh_audit3.specs.Inner.Lawful.{AreLawful, recorded}
 use Rattle.cmh_audit3.proofs.Lengths.{Going, entries-append, goes_on, lawful_beginning, records_it}
 use Rattle.cmh_files3.specs.Reasons.{Makes, process_of}
 use Rattle.cmh_files3.proofs.TurnLemmas.{take_next}

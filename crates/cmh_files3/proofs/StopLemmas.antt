@@ -27,7 +27,8 @@ use Rattle.cmh_segment3.specs.declared.segment.Segment.{Segment}
 use Rattle.cmh_segment3.specs.Entries.{step_of}
 use Rattle.cmh_segment3.specs.Steps.{entries_from, entry_at}
 use Rattle.cmh_segment3.proofs.WholeEntries.{steps_come_back}
-use Rattle.cmh_audit3.specs.Journals.{AreLawful, journal_of}
+use Rattle.cmh_audit3.specs.Inner.Lawful.{AreLawful}
+use Rattle.cmh_audit3.specs.Journals.{journal_of}
 use Rattle.cmh_audit3.specs.Stops.{AreStops, IsStop, before_stop}
 use Rattle.cmh_audit3.specs.declared.stops.Stop.{Stop}
 use Rattle.cmh_audit3.proofs.Lengths.{entries-append}

@@ -9,7 +9,7 @@ ghost use Rattle.cmh_controller3.specs.Steps.{Steps};
 ghost use Rattle.cmh_controller3.specs.declared.outcome.Outcome as outcomes;
 ghost use Rattle.cmh_segment3.specs.Entries.{step_of};
 ghost use Rattle.cmh_audit3.specs.Inner.Lawful as lawful;
-ghost use Rattle.cmh_audit3.specs.Journals.{AreLawful};
+ghost use Rattle.cmh_audit3.specs.Inner.Lawful.{AreLawful};
 ghost use Rattle.cmh_files3.specs.Reasons.{IsOwnFault, Makes, value};
 
 use crate::difference::first_difference;

@@ -3,7 +3,7 @@ use Rattle.std.specs.Prelude.{ℕ, ◌+◌, ◌<◌, ◌≤◌, List, [], ◌∷
 use Rattle.std.specs.List.{AllZip}
 use Rattle.std.specs.Option.{option_map}
 use Rattle.cmh_model3.specs.Journals.{state_after}
-use Rattle.cmh_model3.specs.State.{State}
+use Rattle.cmh_model3.specs.State.{State, empty_state}
 use Rattle.cmh_topology3.specs.Topology.{Topology, site_of}
 use Rattle.cmh_controller3.specs.Controller.{Controller}
 use Rattle.cmh_controller3.specs.declared.outcome.Declaration.{Declaration as Declared}
@@ -17,6 +17,10 @@ use Rattle.cmh_audit3.specs.Standing.{StandsAt}
 -- what an entry records of a declaration
 abbrev pub recorded : Option Declared → Option Declaration
 recorded declared = option_map (λ (d : Declared). record { process = d.process; stamp = d.stop }) declared
+
+-- They are entries of the site's written controller, which begins in the first state.
+abbrev pub AreLawful : Topology → ℕ → List Entry → Type 0
+AreLawful t s entries = AreLawfulFrom t s empty_state entries
 
 -- the longest lawful beginning has n entries
 pub record IsLawfulLength (t : Topology) (s : ℕ) (v : State) (entries : List Entry) (n : ℕ) : Type 0 where

@@ -3,7 +3,7 @@ use Rattle.std.specs.Prelude.{slice_get, MatchOption}
 use Rattle.cmh_model3.specs.Journals.{receipts_of, sendings_of}
 use Rattle.cmh_segment3.specs.declared.entry.Entry.{Entry}
 use Rattle.cmh_segment3.specs.Entries.{step_of}
-use Rattle.cmh_audit3.specs.Journals.{AreLawful}
+use Rattle.cmh_audit3.specs.Inner.Lawful.{AreLawful}
 use Rattle.cmh_files3.specs.Reasons.{IsOwnFault, IsReason, Makes, held_before, next_of, value}
 use Rattle.cmh_files3.specs.declared.reason.Reason.{Reason}
 use Rattle.cmh_files3.proofs.StopLemmas.{entry_read, held_lawful, own_reason, waits_reason, no_message, not_next, got_some}
