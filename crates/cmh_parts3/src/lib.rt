@@ -12,7 +12,7 @@ mod under_way;
 mod verdict;
 
 pub use crate::laws::turn_law;
-pub use crate::links::{Link, disagreement};
+pub use crate::links::{Link, disagreement, under_way as messages_between};
 pub use crate::set::are_of_epoch;
 pub use crate::under_way::queues_of;
 pub use crate::verdict::{EpochVerdict, audit_epoch};

@@ -1,0 +1,2 @@
+-- This crate's own words. No contract of what it gives to its callers cites them.
+pub mod Rows
