@@ -8,7 +8,7 @@ use Rattle.cmh_model3.specs.Journals.{state_after}
 use Rattle.cmh_model3.specs.Rules.{clock_limit}
 use Rattle.cmh_model3.specs.State.{State, empty_state}
 use Rattle.cmh_model3.specs.declared.frame.Message.{Message}
-use Rattle.cmh_topology3.specs.Topology.{Topology, is_site, site_of, sites_of}
+use Rattle.cmh_topology3.specs.Topology.{IsWellFormed, Topology, is_site, site_of, sites_of}
 use Rattle.cmh_segment3.specs.Entries.{step_of}
 use Rattle.cmh_segment3.specs.States.{BeginsEpoch, state_in, turned_to}
 use Rattle.cmh_segment3.specs.declared.base.Base.{Base}
@@ -24,6 +24,7 @@ use Rattle.cmh_parts3.specs.Turns.{Follow}
 use Rattle.cmh_parts3.specs.Worlds.{end_of, state_at}
 use Rattle.cmh_chain3.specs.Follows.{IsEndOf}
 use Rattle.cmh_chain3.specs.Inner.Rows.{CanTurn}
+use Rattle.cmh_chain3.proofs.Elsewhere.{only_between}
 use Rattle.cmh_chain3.specs.Says.{IsBaseFor, IsSaid, SayEnd, SaysState}
 
 -- ---- lists
@@ -113,7 +114,7 @@ no_segment t gs of_world s unknown = elim (cases_Bool (has_site (sites_in gs) s)
 abbrev IsBoth : ℕ → List Segment → Controller → Type 0
 IsBoth epoch next c = IsSaid epoch next c × CanTurn c
 
-module _ (t : Topology) (cs : List Controller) (queues : Queues Message) (epoch : ℕ) (next : List Segment) (of_world : AreOfWorld t next) (of_epoch : AreOfEpoch epoch next) (fits : epoch * 2 ^ 32 < clock_limit)
+module _ (t : Topology) (formed : IsWellFormed t) (cs : List Controller) (queues : Queues Message) (epoch : ℕ) (next : List Segment) (of_world : AreOfWorld t next) (of_epoch : AreOfEpoch epoch next) (fits : epoch * 2 ^ 32 < clock_limit)
     (say : SayEnd (sites_of t) cs (waiting queues) epoch next) (turn : All CanTurn cs) (gs : List Segment) (end : IsEndOf t gs cs queues) where
   stands : (s : ℕ) → is_site t s ≡ true → IsControllerAt s ((end_of t gs (waiting queues)).state s) (IsBoth epoch next)
   stands s known =
@@ -131,6 +132,11 @@ module _ (t : Topology) (cs : List Controller) (queues : Queues Message) (epoch 
       no_state next s (no_segment t next of_world s unknown)
       ∙ sym (ap (λ es. state_after (site_of t) s (state_at gs s) (map step_of es)) (no_journal gs s none) ∙ no_state gs s none)
 
+  nothing_elsewhere : (a b : ℕ) → (is_site t a && is_site t b) ≡ false → waiting queues a b ≡ []
+  nothing_elsewhere =
+      only_between t formed gs end.order cs queues end.end (λ s unknown. no_journal gs s (no_segment t gs end.set.of_world s unknown))
+      (λ s known. record { facts = (end.within s known).facts; askers = (end.within s known).askers })
+
   same_links : (a b : ℕ) → between (sites_of t) next a b ≡ waiting queues a b
   same_links a b = go (has_site (sites_of t) a) (has_site (sites_of t) b) refl refl
     where
@@ -138,8 +144,8 @@ module _ (t : Topology) (cs : List Controller) (queues : Queues Message) (epoch 
       go true true e f =
           ap (λ y. if y && has_site (sites_of t) b then under_way next a b else []) e ∙ ap (λ z. if z then under_way next a b else []) f
           ∙ sym (all_sites (λ q. waiting queues a q ≡ under_way next a q) (sites_of t) (all_sites (λ p. All (λ q. waiting queues p q ≡ under_way next p q) (sites_of t)) (sites_of t) say.links a e) b f)
-      go true false e f = let no : (has_site (sites_of t) a && has_site (sites_of t) b) ≡ false = ap (λ y. y && has_site (sites_of t) b) e ∙ f in ap (λ z. if z then under_way next a b else []) no ∙ sym (end.only_between a b no)
-      go false z e f = let no : (has_site (sites_of t) a && has_site (sites_of t) b) ≡ false = ap (λ y. y && has_site (sites_of t) b) e in ap (λ z. if z then under_way next a b else []) no ∙ sym (end.only_between a b no)
+      go true false e f = let no : (has_site (sites_of t) a && has_site (sites_of t) b) ≡ false = ap (λ y. y && has_site (sites_of t) b) e ∙ f in ap (λ z. if z then under_way next a b else []) no ∙ sym (nothing_elsewhere a b no)
+      go false z e f = let no : (has_site (sites_of t) a && has_site (sites_of t) b) ≡ false = ap (λ y. y && has_site (sites_of t) b) e in ap (λ z. if z then under_way next a b else []) no ∙ sym (nothing_elsewhere a b no)
 
   pub they_follow : Follow t (end_of t gs (waiting queues)) epoch next
   they_follow = record {

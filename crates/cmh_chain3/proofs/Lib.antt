@@ -1,3 +1,4 @@
 pub mod Rows
 pub mod Waiting
+pub mod Elsewhere
 pub mod Following
