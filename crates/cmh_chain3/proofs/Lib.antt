@@ -2,3 +2,4 @@ pub mod Rows
 pub mod Waiting
 pub mod Elsewhere
 pub mod Following
+pub mod Leading

@@ -1,10 +1,8 @@
 -- Messages that are taken out of queues and held against others.
-use Rattle.std.proofs.Common.{◌≡◌, ℕ, zero, suc, ◌+◌, ◌<◌, ◌==◌, ◌&&◌, ◌||◌, Bool, true, false, List, [], ◌∷◌, ◌++◌, length, take, drop, get_or, if◌then◌else◌, Option, None, Some, inl, inr, refl, sym, ap, ◌∙◌, subst, arith, append_assoc, append-nil, length-append}
-use Rattle.std.specs.Prelude.{slice_get}
+use Rattle.std.proofs.Common.{◌≡◌, ℕ, ◌+◌, ◌<◌, ◌==◌, ◌&&◌, ◌||◌, Bool, true, false, List, ◌∷◌, ◌++◌, length, drop, get_or, inl, inr, refl, sym, ap, ◌∙◌, subst}
 use Rattle.std.proofs.lemmas.Bool.{cases_eq, eq-eqb, ne_eqb, or_parts, true≢false}
-use Rattle.std.proofs.lemmas.List.{drop_more, take_more}
+use Rattle.std.proofs.lemmas.List.{drop_more}
 use Rattle.cmh_frames.specs.Rows.{repeats}
-use Rattle.cmh_merge.specs.Queues.{if_some_at}
 use Rattle.cmh_audit3.specs.Set.{has_site}
 
 -- ---- sites that are left
@@ -39,44 +37,6 @@ module _ {F : Type 0} where
     pub rest : before from to ≡ taken ++ now from to
     pub long : length (before from to) ≡ length messages
     pub others : (a b : ℕ) → ((from == a) && (to == b)) ≡ false → now a b ≡ before a b
-
-  at_link : (from to : ℕ) (m : F) → if_some_at from to (Some m) from to ≡ m ∷ []
-  at_link from to m = ap (λ z. if z && (to == to) then m ∷ [] else []) (eq-eqb from from refl) ∙ ap (λ z. if z then m ∷ [] else []) (eq-eqb to to refl)
-
-  elsewhere : (from to a b : ℕ) (came : Option F) → ((from == a) && (to == b)) ≡ false → if_some_at from to came a b ≡ []
-  elsewhere from to a b None apart = refl
-  elsewhere from to a b (Some m) apart = ap (λ z. if z then m ∷ [] else []) apart
-
-  pub one_taken : (before old new : ℕ → ℕ → List F) (from to i : ℕ) (messages : List F) (m : F) (came : Option F) → i < length messages → m ≡ get_or messages i m → came ≡ Some m
-      → Taken before old from to (take i messages) messages → ((a b : ℕ) → old a b ≡ if_some_at from to came a b ++ new a b) → Taken before new from to (take (i + 1) messages) messages
-  one_taken before old new from to i messages m came l is some so_far moved =
-      let next : take (i + 1) messages ≡ take i messages ++ m ∷ [] = take_more messages i m l ∙ ap (λ y. take i messages ++ y ∷ []) (sym is) in
-      let here : old from to ≡ m ∷ new from to = moved from to ∙ ap (λ c. if_some_at from to c from to ++ new from to) some ∙ ap (λ l. l ++ new from to) (at_link from to m) in
-      record {
-        rest = so_far.rest ∙ ap (λ l. take i messages ++ l) here ∙ sym (append_assoc (take i messages) (m ∷ []) (new from to)) ∙ ap (λ l. l ++ new from to) (sym next);
-        long = so_far.long;
-        others = λ a b apart. sym (moved a b ∙ ap (λ l. l ++ new a b) (elsewhere from to a b came apart)) ∙ so_far.others a b apart;
-      }
-
-  rest_is : (i : ℕ) (ms now : List F) → take i ms ++ now ≡ ms → now ≡ drop i ms
-  rest_is zero ms now e = e
-  rest_is (suc i) [] now e = e
-  rest_is (suc i) (m ∷ ms) now e = rest_is i ms now (cc e)
-
-  -- the next one is not that of the messages
-  pub differs : (before now : ℕ → ℕ → List F) (from to i : ℕ) (messages : List F) (m : F) (came : Option F) → i < length messages → m ≡ get_or messages i m
-      → Taken before now from to (take i messages) messages → came ≡ slice_get (now from to) 0 → (came ≡ Some m → ⊥) → before from to ≡ messages → ⊥
-  differs before now from to i messages m came l is so_far first other same =
-      let left : now from to ≡ drop i messages = rest_is i messages (now from to) (sym so_far.rest ∙ same) in
-      let more : drop i messages ≡ m ∷ drop (i + 1) messages = drop_more messages i m l ∙ ap (λ x. x ∷ drop (i + 1) messages) (sym is) in
-      other (first ∙ ap (λ (l : List F). slice_get l 0) (left ∙ more))
-
-  pub all_taken : (before now : ℕ → ℕ → List F) (from to : ℕ) (messages : List F) → Taken before now from to messages messages → before from to ≡ messages
-  all_taken before now from to messages taken = go (now from to) taken.rest
-    where
-      go : (left : List F) → before from to ≡ messages ++ left → before from to ≡ messages
-      go [] e = e ∙ append-nil messages
-      go (x ∷ left) e = absurd (let long = taken.long in let a = ap length e in let b = length-append messages (x ∷ left) in omega (arith, long, a, b))
 
   -- ---- those from one site
 

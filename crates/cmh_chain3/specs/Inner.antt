@@ -1,2 +1,3 @@
 -- This crate's own words. No contract of what it gives to its callers cites them.
 pub mod Rows
+pub mod Leading

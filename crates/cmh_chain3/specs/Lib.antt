@@ -1,3 +1,4 @@
 pub mod Says
 pub mod Follows
+pub mod Chains
 pub mod Inner
