@@ -1,14 +1,20 @@
 //! Two sites end an epoch and begin the next one: the calls by which one epoch leads to another answer where there is memory.
 //!
-//! It prints with what each site begins the second epoch, as it is read back from the head of its segment.
+//! It prints with what each site begins the second epoch, as it is read back from the head of its segment, and audits that epoch.
 #![tactic(auto)]
 
+ghost use Rattle.std.specs.List.{All};
+ghost use Rattle.std.specs.Prelude.{OnOk};
 ghost use Rattle.cmh_segment3.specs.Base.{IsBase};
+ghost use Rattle.cmh_segment3.specs.declared.segment.Segment.{Segment as SegmentType};
 
+use cmh_audit3::check_world;
 use cmh_bases3::controller_of;
+use cmh_chain3::{ChainVerdict, audit_chain};
 use cmh_controller3::{Controller, Outcome};
 use cmh_frames::SiteRow;
 use cmh_model3::{Entry, Event, Message, ProcId, SiteId, Targets};
+use cmh_parts3::are_of_epoch;
 use cmh_peers3::{Peer, links_of, others_of, peers_from, peers_of, queue_all};
 use cmh_segment3::{Base, Header, LinkState, Rows, Segment, put_head, read_segment};
 use cmh_topology3::{Topology, World};
@@ -30,8 +36,9 @@ fn main(rt: HostRuntime) -> ExitCode {
 /// Process 1 asks 2 and 11. The request comes to the second site, and the probe behind it is under way when the epoch ends.
 fn run<R: Print>(rt: &R, alloc: Global) -> Result<(), Missed> {
     let topology = topology(alloc)?;
-    end_first(rt, alloc, &topology)?;
-    end_second(rt, alloc, &topology)
+    let first = end_first(rt, alloc, &topology)?;
+    let second = end_second(rt, alloc, &topology)?;
+    audit(rt, alloc, &topology, &first, &second)
 }
 
 fn topology(alloc: Global) -> Result<Topology, Missed> {
@@ -55,13 +62,13 @@ fn add(alloc: Global, rows: &mut Vec<SiteRow>, site: u16, processes: &[u16]) -> 
 }
 
 /// The first site takes an event, and ends its epoch.
-fn end_first<R: Print>(rt: &R, alloc: Global, topology: &Topology) -> Result<(), Missed> {
+fn end_first<R: Print>(rt: &R, alloc: Global, topology: &Topology) -> Result<Vec<u8>, Missed> {
     let event = asked(alloc)?;
     end(rt, alloc, topology, SiteId::of(1), event)
 }
 
 /// The second one gets the first message of the other, and ends its own.
-fn end_second<R: Print>(rt: &R, alloc: Global, topology: &Topology) -> Result<(), Missed> {
+fn end_second<R: Print>(rt: &R, alloc: Global, topology: &Topology) -> Result<Vec<u8>, Missed> {
     let event = asked(alloc)?;
     let message = first_sent(&entry_at(alloc, topology, SiteId::of(1), event)?)?;
     let got = Event::Got {
@@ -121,12 +128,13 @@ fn end<R: Print>(
     topology: &Topology,
     site: SiteId,
     event: Event,
-) -> Result<(), Missed> {
+) -> Result<Vec<u8>, Missed> {
     let Ok(mut controller) = Controller::empty(alloc, topology, site) else {
         return Err(Missed);
     };
     let head = head_after(alloc, &mut controller, event)?;
-    tell(rt, alloc, topology, &head)
+    tell(rt, alloc, topology, &head)?;
+    Ok(head)
 }
 
 /// The head of the segment with which a site begins the next epoch that takes this event in the first one.
@@ -263,4 +271,53 @@ fn tell_peers<R: Print>(rt: &R, peers: &[Peer]) -> Result<(), Missed> {
         };
     }
     Ok(())
+}
+
+/// Audits the second epoch of both sites, in which nothing has happened yet.
+fn audit<R: Print>(
+    rt: &R,
+    alloc: Global,
+    topology: &Topology,
+    first: &[u8],
+    second: &[u8],
+) -> Result<(), Missed> {
+    let mut segments = Vec::new(alloc);
+    add_segment(alloc, &mut segments, first)?;
+    add_segment(alloc, &mut segments, second)?;
+    judge(rt, alloc, topology, Rows::new(segments))
+}
+
+fn add_segment(alloc: Global, segments: &mut Vec<Segment>, head: &[u8]) -> Result<(), Missed>
+    requires { All (λ (g : SegmentType). IsBase g.base) segments.old.items }
+    ensures { OnOk result (All (λ (g : SegmentType). IsBase g.base) segments.new.items) }
+{
+    let Ok((segment, _)) = read_segment(alloc, head) else {
+        return Err(Missed);
+    };
+    let Ok(()) = segments.push(segment) else {
+        return Err(Missed);
+    };
+    Ok(())
+}
+
+fn judge<R: Print>(
+    rt: &R,
+    alloc: Global,
+    topology: &Topology,
+    epoch: Rows<Segment>,
+) -> Result<(), Missed>
+    requires { All (λ (g : SegmentType). IsBase g.base) epoch }
+{
+    let segments = epoch.as_slice();
+    if check_world(topology, segments).is_err() || !are_of_epoch(segments, Epoch::new(1)) {
+        return Err(Missed);
+    }
+    match audit_chain(alloc, topology, &[epoch]) {
+        Ok(ChainVerdict::Accepted) => {}
+        _ => return Err(Missed),
+    }
+    match println!(rt; "accepted") {
+        Ok(()) => Ok(()),
+        Err(_) => Err(Missed),
+    }
 }
