@@ -4,6 +4,7 @@ ghost use Rattle.std.specs.Prelude.{Some};
 ghost use Rattle.cmh_cluster3.specs.Replies.{fault_text};
 
 use cmh_disk3::{NoFolder, NoSite};
+use cmh_peers3::Unmet;
 use cmh_station3::OpenFault;
 use std::alloc::{AllocError, AllocFailed};
 use std::fmt;
@@ -15,9 +16,10 @@ pub enum NoNode {
     Disk,
     /// The newest segment is damaged at this byte, or does not begin as a segment does.
     Damaged(u64),
-    /// The newest segment is of another site, another world, or a later epoch.
+    /// The newest segment is of another site or another world.
     Other,
-    /// The entry of this number, from 1, is not what the rules make of its event.
+    /// The entry of this number, from 1, is not what the rules make of its event; or, with 0, the newest segment begins in a
+    /// state that the site can't be in.
     Unlawful(u64),
     /// Memory was refused.
     Memory,
@@ -63,8 +65,18 @@ fn fault_of_opening(fault: OpenFault) -> NoNode {
         OpenFault::Memory => NoNode::Memory,
         OpenFault::BadHead => NoNode::Damaged(0),
         OpenFault::Damaged(offset) => NoNode::Damaged(offset),
-        OpenFault::OtherSite | OpenFault::LaterEpoch => NoNode::Other,
+        OpenFault::OtherSite => NoNode::Other,
+        OpenFault::BadBase => NoNode::Unlawful(0),
         OpenFault::Unlawful(entry) => NoNode::Unlawful(entry),
+    }
+}
+
+impl From<Unmet> for NoNode {
+    fn from(fault: Unmet) -> NoNode {
+        match fault {
+            Unmet::Full => NoNode::Unlawful(0),
+            Unmet::Memory => NoNode::Memory,
+        }
     }
 }
 

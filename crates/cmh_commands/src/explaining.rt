@@ -407,13 +407,10 @@ fn tell_own_journal(word: &[u8], text: &mut String) -> Result<(), AllocError> {
             text,
             "the newest segment in it has no whole entry there, and what stands there can't be the rest of an append; nothing was cut"
         )?,
-        b"other" => write!(
-            text,
-            "the newest segment in it is of another site or world, or of a later epoch"
-        )?,
+        b"other" => write!(text, "the newest segment in it is of another site or world")?,
         b"unlawful" => write!(
             text,
-            "an entry of the newest segment in it is not what the rules make of its event"
+            "an entry of the newest segment in it is not what the rules make of its event; at 0, the segment begins in a state that the site can't be in"
         )?,
         _ => write!(
             text,

@@ -11,7 +11,7 @@ use Rattle.cmh_hello3.specs.declared.acknowledgement.AcknowledgementFront.TheVar
 use Rattle.cmh_hello3.specs.declared.answer.ReplyFront.TheVariants as Reply
 use Rattle.cmh_log3.specs.Files.{Held}
 use Rattle.cmh_node3.specs.Changes.{Tells}
-use Rattle.cmh_node3.specs.Nodes.{Node}
+use Rattle.cmh_node3.specs.Nodes.{Node, epoch_of}
 use Rattle.cmh_links3.specs.Connections.{Incoming, Outgoing, with_unread}
 use Rattle.cmh_links3.specs.Hearing.{IsBatch}
 use Rattle.cmh_links3.specs.Listening as heard
@@ -49,17 +49,19 @@ module _ {File : Type 0} (told : File → Option Held) (has_failed : File → Bo
     closes = out.closes;
   }))))
 
-  pub listens_note : (place now : ℕ) (a s : Incoming) (m : Node File) (onward : Onward) (b : Incoming) (n : Node File) (count : ℕ)
-      → IsItemFront a.unread (Whole (item.Note 0) count) → s ≡ with_unread (drop count a.unread) a
+  pub listens_note : (place now : ℕ) (a s : Incoming) (m : Node File) (onward : Onward) (b : Incoming) (n : Node File) (epoch count : ℕ)
+      → epoch ≤ epoch_of m → IsItemFront a.unread (Whole (item.Note epoch) count) → s ≡ with_unread (drop count a.unread) a
       → heard.Gives told has_failed place [] now s m onward b n → heard.Listens told has_failed place now a m onward b n
-  listens_note place now a s m onward b n count front left gives = inr (inl (record {
+  listens_note place now a s m onward b n epoch count no_later front left gives = inr (inl (record {
+    epoch = epoch;
+    no_later = no_later;
     rest = drop count a.unread;
-    unread = in_front a.unread (item_spelling (item.Note 0)) count front.2;
+    unread = in_front a.unread (item_spelling (item.Note epoch)) count front.2;
     given = subst (λ (x : Incoming). heard.Gives told has_failed place [] now x m onward b n) left gives;
   }))
 
   pub listens_later : (place now : ℕ) (a : Incoming) (m : Node File) (epoch count : ℕ) → IsItemFront a.unread (Whole (item.Note epoch) count)
-      → epoch ≢ 0 → heard.Listens told has_failed place now a m Close a m
+      → epoch_of m < epoch → heard.Listens told has_failed place now a m Close a m
   listens_later place now a m epoch count front later = inr (inr (inr (inr (record {
     front = Whole (item.Note epoch) count;
     is_front = front;

@@ -16,7 +16,7 @@ use Rattle.cmh_hello3.specs.declared.refusal.Refusal.{Refusal}
 use Rattle.cmh_hello3.specs.declared.refusal.Refusal.TheVariants.{OtherEdition}
 use Rattle.cmh_log3.specs.Files.{Held}
 use Rattle.cmh_node3.specs.Changes.{Admits, Ends, RefusesHello, Says, Tells}
-use Rattle.cmh_node3.specs.Nodes.{AtPlace, Node}
+use Rattle.cmh_node3.specs.Nodes.{AtPlace, Node, epoch_of}
 use Rattle.cmh_node3.specs.Steps.{NotTakes, Takes}
 use Rattle.cmh_node3.specs.declared.receiving.Admitted.{Admitted}
 use Rattle.cmh_node3.specs.declared.receiving.NotTaken.{NotTaken}
@@ -41,13 +41,14 @@ abbrev pub QueuesSo : Option Acknowledgement → Incoming → Onward → Incomin
 QueuesSo None a onward b = (onward ≡ Open) × (b ≡ a)
 QueuesSo (Some acknowledgement) a onward b = SaysSo (acknowledgement_spelling acknowledgement) (owing false a) onward b
 
--- What gives the connection up: no item, a note of a later epoch, or messages where memory was refused.
-abbrev pub IsHopeless : ItemFront → Type 0
-IsHopeless Bad = ⊤
-IsHopeless (Whole (Said message) count) = ⊤
-IsHopeless (Whole (Note epoch) count) = epoch ≢ 0
-IsHopeless (Whole (Refused mismatch) count) = ⊥
-IsHopeless Short = ⊥
+-- What gives the connection up at a site of this epoch: no item, a note of a later epoch, or messages where memory was
+-- refused.
+abbrev pub IsHopeless : ℕ → ItemFront → Type 0
+IsHopeless own Bad = ⊤
+IsHopeless own (Whole (Said message) count) = ⊤
+IsHopeless own (Whole (Note epoch) count) = own < epoch
+IsHopeless own (Whole (Refused mismatch) count) = ⊥
+IsHopeless own Short = ⊥
 
 -- ---- whether more is heard
 
@@ -135,7 +136,7 @@ module _ {File : Type 0} where
   pub record GivesUp (a : Incoming) (m : Node File) (onward : Onward) (b : Incoming) (n : Node File) : Type 0 where
     pub front : ItemFront
     pub is_front : IsItemFront a.unread front
-    pub hopeless : IsHopeless front
+    pub hopeless : IsHopeless (epoch_of m) front
     pub stays : Stays a m b n
     pub closes : onward ≡ Close
 
@@ -234,11 +235,13 @@ module _ {File : Type 0} (told : File → Option Held) (has_failed : File → Bo
   abbrev pub TakesMessages : ℕ → ℕ → Incoming → Node File → Onward → Incoming → Node File → Type 0
   TakesMessages place now a m onward b n = HearsMessages place now a m onward b n ⊎ RunsOut a m onward b n
 
-  -- They spell a note of epoch 0: the site was told that something came.
+  -- They spell a note of no later epoch: the site was told that something came.
   pub record HearsNote (place now : ℕ) (a : Incoming) (m : Node File) (onward : Onward) (b : Incoming) (n : Node File)
       : Type 0 where
+    pub epoch : ℕ
+    pub no_later : epoch ≤ epoch_of m
     pub rest : List ℕ
-    pub unread : a.unread ≡ item_spelling (Note 0) ++ rest
+    pub unread : a.unread ≡ item_spelling (Note epoch) ++ rest
     pub given : Gives place [] now (with_unread rest a) m onward b n
 
   -- what a call takes where the hello was admitted

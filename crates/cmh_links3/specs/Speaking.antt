@@ -20,7 +20,7 @@ use Rattle.cmh_peers3.specs.declared.happening.Happening.{Happening}
 use Rattle.cmh_peers3.specs.declared.happening.Happening.TheVariants.{Dialled, Answered, Refused, Acknowledged, Ended, Passed}
 use Rattle.cmh_peers3.specs.declared.peer.Peer.{Peer}
 use Rattle.cmh_node3.specs.Changes.{Gives, Happens}
-use Rattle.cmh_node3.specs.Nodes.{AtPlace, Node}
+use Rattle.cmh_node3.specs.Nodes.{AtPlace, Node, epoch_of}
 use Rattle.cmh_links3.specs.Connections.{Outgoing}
 use Rattle.cmh_links3.specs.declared.onward.Onward.{Onward}
 use Rattle.cmh_links3.specs.declared.onward.Onward.TheVariants.{Open, Close}
@@ -70,11 +70,11 @@ NextBy act.Rest a then_is b = (then_is ≡ next.Taken) × (b ≡ a)
 NextBy (act.Refuse mismatch) a then_is b = (then_is ≡ next.Close) × SaidIfRoom (item_spelling (item.Refused mismatch)) a b
 NextBy other a then_is b = (then_is ≡ next.Close) × (b ≡ a)
 
--- and by one that time brings
-abbrev pub PassesBy : Action → Outgoing → Onward → Outgoing → Type 0
-PassesBy act.Rest a onward b = (onward ≡ Open) × (b ≡ a)
-PassesBy act.Note a onward b = SaysSo (item_spelling (item.Note 0)) a onward b
-PassesBy other a onward b = (onward ≡ Close) × (b ≡ a)
+-- and by one that time brings, at a site of this epoch
+abbrev pub PassesBy : ℕ → Action → Outgoing → Onward → Outgoing → Type 0
+PassesBy epoch act.Rest a onward b = (onward ≡ Open) × (b ≡ a)
+PassesBy epoch act.Note a onward b = SaysSo (item_spelling (item.Note epoch)) a onward b
+PassesBy epoch other a onward b = (onward ≡ Close) × (b ≡ a)
 
 module _ {File : Type 0} where
   -- neither the connection nor the site changes
@@ -109,7 +109,7 @@ module _ {File : Type 0} where
 
   -- what the site says first to a peer
   abbrev pub hello_to : Node File → Peer → Hello
-  hello_to m peer = record { world = m.station.base.topology.world; from = m.station.base.site; to = peer.site; epoch = 0 }
+  hello_to m peer = record { world = m.station.base.topology.world; from = m.station.base.site; to = peer.site; epoch = epoch_of m }
 
   pub record IsDialledNow (now : ℕ) (a : Outgoing) (m : Node File) (b : Outgoing) (n : Node File) : Type 0 where
     pub node : Does a.place Dialled now m act.Greet n
@@ -226,7 +226,7 @@ module _ {File : Type 0} where
   pub record Passes (now : ℕ) (a : Outgoing) (m : Node File) (onward : Onward) (b : Outgoing) (n : Node File) : Type 0 where
     pub action : Action
     pub node : Does a.place Passed now m action n
-    pub by : PassesBy action a onward b
+    pub by : PassesBy (epoch_of m) action a onward b
 
   -- The site gave messages, and they were put behind what is to be written. Then it was asked no more, or gave none.
   pub record Writes (now : ℕ) (a : Outgoing) (m : Node File) (b : Outgoing) (n : Node File) : Type 0 where

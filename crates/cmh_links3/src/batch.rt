@@ -5,10 +5,14 @@ ghost use Rattle.cmh_links3.specs.Hearing.{IsBatch};
 
 use cmh_hello3::{Item, ItemFront, decode_item};
 use cmh_model3::Message;
+use cmh_wire3::Epoch;
 use std::alloc::{AllocError, Global};
 
 /// How many messages are taken at once.
 const MOST_TAKEN: usize = 64;
+
+/// How many ticks of a clock an epoch has.
+const EPOCH_TICKS: u64 = 1 << 32;
 
 /// Messages, and how many bytes spell them.
 #[derive(Drop)]
@@ -17,9 +21,9 @@ pub(crate) struct Batch {
     pub(crate) len: usize,
 }
 
-/// The messages in front of the bytes, at most 64, up to one of a later epoch.
+/// The messages in front of the bytes, at most 64, up to one of a later epoch than the site's.
 #[tactic(auto, using(crate::proofs::Hearing::batch_more))]
-pub(crate) fn batch_of(alloc: Global, bytes: &[u8]) -> Result<Batch, AllocError>
+pub(crate) fn batch_of(alloc: Global, bytes: &[u8], epoch: Epoch) -> Result<Batch, AllocError>
     ensures { IfOk result (λ batch. IsBatch bytes.now batch.len batch.messages.items) }
 {
     let mut messages = Vec::new(alloc);
@@ -27,7 +31,7 @@ pub(crate) fn batch_of(alloc: Global, bytes: &[u8]) -> Result<Batch, AllocError>
     for _count in 0..MOST_TAKEN {
         let (_, rest) = bytes.split_at(len);
         match decode_item(rest) {
-            ItemFront::Whole(Item::Message(message), count) if !is_of_later_epoch(&message) => {
+            ItemFront::Whole(Item::Message(message), count) if !is_later(&message, epoch) => {
                 messages.push(message)?;
                 len += count;
             }
@@ -37,7 +41,7 @@ pub(crate) fn batch_of(alloc: Global, bytes: &[u8]) -> Result<Batch, AllocError>
     Ok(Batch { messages, len })
 }
 
-/// Whether a message is of a later epoch than the site's, which is 0: it can't be taken.
-fn is_of_later_epoch(message: &Message) -> bool {
-    message.clock.get() > u64::from(u32::MAX)
+/// Whether a message is of a later epoch than the site's: then it can't be taken.
+fn is_later(message: &Message, epoch: Epoch) -> bool {
+    message.clock.get() / EPOCH_TICKS > u64::from(epoch.get())
 }

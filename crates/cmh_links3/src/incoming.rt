@@ -1,6 +1,6 @@
 //! A connection that was accepted.
 
-ghost use Rattle.std.specs.Prelude.{◌≡◌, ◌≢◌, ℕ, ◌<◌, ◌≤◌, drop, length, true, false, None, IfOk, OnErr, OnOk};
+ghost use Rattle.std.specs.Prelude.{◌≡◌, ℕ, ◌<◌, ◌≤◌, drop, length, true, false, None, IfOk, OnErr, OnOk};
 ghost use Rattle.cmh_hello3.specs.Hello.{IsShortHello, refusal_spelling};
 ghost use Rattle.cmh_hello3.specs.Stream.{IsItemFront, IsShortItem};
 ghost use Rattle.cmh_hello3.specs.declared.item.Item.TheVariants as ItemType;
@@ -18,6 +18,7 @@ use cmh_hello3::{
 use cmh_log3::SegmentFile;
 use cmh_model3::Message;
 use cmh_node3::Node;
+use cmh_wire3::Epoch;
 use std::alloc::{AllocError, Global};
 use std::marker::Model;
 
@@ -81,12 +82,12 @@ impl Incoming {
         self.place
     }
 
-    /// The messages that the next call of `go_on` takes; none where something else comes first.
-    pub fn upcoming(&self) -> Result<Vec<Message>, AllocError>
+    /// The messages that the next call of `go_on` takes at a site of this epoch; none where something else comes first.
+    pub fn upcoming(&self, epoch: Epoch) -> Result<Vec<Message>, AllocError>
         ensures { IfOk result (λ messages. AreUpcoming self.now.place self.now.unread messages.items) }
     {
         match self.place {
-            Some(_) => Ok(batch_of(self.alloc, self.unread.as_slice())?.messages),
+            Some(_) => Ok(batch_of(self.alloc, self.unread.as_slice(), epoch)?.messages),
             None => Ok(Vec::new(self.alloc)),
         }
     }
@@ -255,7 +256,7 @@ impl Incoming {
         match item {
             Item::Message(_) => self.take_messages(node, place, filled, now),
             Item::Note(_) => {
-                if is_later(item) {
+                if is_later(item, node.epoch()) {
                     return Onward::Close;
                 }
                 self.skip(count);
@@ -282,7 +283,7 @@ impl Incoming {
         ensures takes { TakesMessages F.told F.has_failed place now self.old node.old result self.new node.new }
         ensures exact { Grows F.told F.has_failed node.old node.new }
     {
-        let Ok(batch) = batch_of(self.alloc(), self.unread()) else {
+        let Ok(batch) = batch_of(self.alloc(), self.unread(), node.epoch()) else {
             return Onward::Close;
         };
         // It is of a later epoch.
@@ -440,13 +441,13 @@ impl Incoming {
     }
 }
 
-/// Whether an item is a note of a later epoch than this site's, which is 0 until epochs are built.
-fn is_later(item: Item) -> bool
-    ensures later { result ≡ true → (epoch : ℕ) → item ≡ ItemType.Note epoch → epoch ≢ 0 }
-    ensures now { result ≡ false → (epoch : ℕ) → item ≡ ItemType.Note epoch → epoch ≡ 0 }
+/// Whether an item is a note of a later epoch than this site's.
+fn is_later(item: Item, own: Epoch) -> bool
+    ensures later { result ≡ true → (epoch : ℕ) → item ≡ ItemType.Note epoch → own < epoch }
+    ensures now { result ≡ false → (epoch : ℕ) → item ≡ ItemType.Note epoch → epoch ≤ own }
 {
     match item {
-        Item::Note(epoch) => epoch.get() != 0,
+        Item::Note(epoch) => epoch.get() > own.get(),
         _ => false,
     }
 }

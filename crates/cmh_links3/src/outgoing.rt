@@ -18,7 +18,7 @@ use cmh_hello3::{
 use cmh_log3::SegmentFile;
 use cmh_node3::Node;
 use cmh_peers3::{Action, Happening};
-use cmh_wire3::{Epoch, encode};
+use cmh_wire3::encode;
 use std::alloc::{AllocError, Global};
 use std::marker::Model;
 
@@ -303,9 +303,10 @@ impl Outgoing {
         ensures stays { IsPlacedSo self.old node.old self.new node.new }
         ensures exact { Grows F.told F.has_failed node.old node.new }
     {
+        let epoch = node.epoch();
         match node.happen(self.place, &Happening::Passed, now) {
             Action::Rest => Onward::Open,
-            Action::Note => self.say(&spell_note(Epoch::new(0))),
+            Action::Note => self.say(&spell_note(epoch)),
             _ => Onward::Close,
         }
     }
@@ -384,7 +385,7 @@ fn hello_at<F: SegmentFile>(node: &Node<F>, place: usize) -> Hello
         world: beginning.topology.world(),
         from: beginning.site,
         to: node.peers()[place].site,
-        epoch: Epoch::new(0),
+        epoch: node.epoch(),
     }
 }
 

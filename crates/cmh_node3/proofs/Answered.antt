@@ -1,13 +1,12 @@
 -- What answered events make, and what became of the station.
-use Rattle.std.proofs.Common.{◌≡◌, ◌≢◌, ℕ, ◌+◌, ◌^◌, ◌≤◌, ◌<◌, ◌==◌, Bool, true, false, if◌then◌else◌, List, [], ◌∷◌, ◌++◌, length, map, take, Option, Result, Ok, Err, zero, suc, refl, sym, ap, ◌∙◌, subst, inl, inr, arith, add-one, length-append}
+use Rattle.std.proofs.Common.{◌≡◌, ◌≢◌, ℕ, ◌+◌, Bool, false, if◌then◌else◌, List, [], ◌∷◌, ◌++◌, length, map, take, Option, Result, Ok, Err, zero, suc, refl, sym, ap, ◌∙◌, subst, inl, inr, add-one}
 use Rattle.std.specs.Prelude.{IsOk}
 use Rattle.std.specs.List.{AllByRecursion}
 use Rattle.std.proofs.lemmas.Bool.{eq-eqb, ne_eqb}
-use Rattle.cmh_journaled.specs.Batches.{AreAnswers, AreUntilRefused, GrewByAny}
+use Rattle.cmh_journaled.specs.Batches.{AreUntilRefused, GrewByAny}
 use Rattle.cmh_journaled.specs.Keepers.{unsent}
 use Rattle.cmh_journaled.specs.Steps.{HandedOver}
 use Rattle.cmh_journaled.specs.declared.refusal.Refusal.{Refusal as Reason}
-use Rattle.cmh_journaled.proofs.Batching.{made_few}
 use Rattle.cmh_controller3.specs.declared.outcome.Outcome.{Outcome}
 use Rattle.cmh_controller3.specs.declared.refusal.Refusal.{Refusal}
 use Rattle.cmh_model3.specs.Entries.{Entry as Step}
@@ -95,37 +94,6 @@ module _ {File : Type 0} (told : File → Option Held) (has_failed : File → Bo
   receipts_here from (m ∷ ms) (Err r ∷ rs) until =
       subst (λ (l : Answers). receipts_of from (made_of (take (length (Err r ∷ l)) (map (got_event from) (m ∷ ms))) (Err r ∷ l)) ≡ take (accepted (Err r ∷ l)) (m ∷ ms)) (sym until) refl
 
-  -- ---- how many
-
-  one_at_most : (a : ℕ) (event : Event) → length (message_from a event) ≤ 1
-  one_at_most a (Ask asker targets) = omega arith
-  one_at_most a (Reply holder asker) = omega arith
-  one_at_most a (Withdraw asker targets) = omega arith
-  one_at_most a (Turn clock) = omega arith
-  one_at_most a (Got from clock frame) = few (from == a)
-    where
-      few : (b : Bool) → length (if b then record { clock = clock; frame = frame } ∷ [] else nothing) ≤ 1
-      few true = omega arith
-      few false = omega arith
-
-  few_receipts : (a : ℕ) (es : List Step) → length (receipts_of a es) ≤ length es
-  few_receipts a [] = omega arith
-  few_receipts a (e ∷ es) =
-      let first = one_at_most a e.event in
-      let rest = few_receipts a es in
-      omega (arith, first, rest, length-append (message_from a e.event) (receipts_of a es))
-
-  -- All that is got can be counted.
-  pub countable : (a : ℕ) (station : Station told has_failed) (steps : List Step) (events : List Event) (answers : Answers) (got : ℕ) (ms : List Message)
-      → station.kept.count ≡ length steps → AreAnswers (meaning_of site_of_machine) (unsent.room station.kept) (site_of_machine station.machine) events answers
-      → got ≡ length (receipts_of a steps) → receipts_of a (made_of events answers) ≡ ms → 0 < length ms → got + length ms < 2 ^ 64
-  countable a station steps events answers got ms kept answered counts are some =
-      let room = made_few (meaning_of site_of_machine) (unsent.room station.kept) (site_of_machine station.machine) events answers answered in
-      let old = few_receipts a steps in
-      let new = few_receipts a (made_of events answers) in
-      let same = ap (λ (l : List Message). length l) are in
-      omega (arith, room, old, new, same, counts, kept, some)
-
   -- ---- the station
 
   -- what waits is what was made
@@ -139,3 +107,11 @@ module _ {File : Type 0} (told : File → Option Held) (has_failed : File → Bo
 
   pub handed_open : (a b : Station told has_failed) → HandedOver unsent a a.kept.waiting b → b.sealed ≡ a.sealed
   handed_open a b handed = ap (λ (x : Station told has_failed). x.sealed) handed.is
+
+  -- its base is the one with which its journal begins
+  pub still_based : (a b : Station told has_failed) (more : List Step) → GrewByAny (meaning_of site_of_machine) unsent (log_meaning told has_failed) a more b → b.base ≡ a.base
+  still_based a b [] grew = grew.1.base
+  still_based a b (e ∷ es) grew = grew.base
+
+  pub handed_based : (a b : Station told has_failed) → HandedOver unsent a a.kept.waiting b → b.base ≡ a.base
+  handed_based a b handed = ap (λ (x : Station told has_failed). x.base) handed.is

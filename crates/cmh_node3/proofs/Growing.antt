@@ -11,16 +11,20 @@ use Rattle.cmh_runs.proofs.Journals.{receipts_of-append, sendings_of-append}
 use Rattle.cmh_model3.specs.Entries.{Entry as Step}
 use Rattle.cmh_model3.specs.Journals.{message_from, receipts_of, sendings_of}
 use Rattle.cmh_model3.specs.declared.frame.Message.{Message}
-use Rattle.cmh_wire3.specs.Mark.{first_mark, mark_of, mark_on}
+use Rattle.cmh_wire3.specs.Mark.{mark_on}
 use Rattle.cmh_wire3.specs.Wire.{spelled}
 use Rattle.cmh_log3.specs.Files.{Held}
 use Rattle.cmh_resume3.proofs.Ends.{marked_more}
 use Rattle.cmh_resume3.specs.Receiver.{Receiver}
-use Rattle.cmh_resume3.specs.Sender.{Sender, StandsFor}
+use Rattle.cmh_resume3.specs.Sender.{Sender}
+use Rattle.cmh_segment3.specs.declared.links.LinkState.{LinkState}
+use Rattle.cmh_segment3.specs.declared.links.Outgoing.{Outgoing}
+use Rattle.cmh_machine3.specs.declared.beginning.Beginning.{Beginning}
 use Rattle.cmh_peers3.proofs.Counting.{got_received, mark_received, synced_received}
+use Rattle.cmh_peers3.specs.Links.{got_since, link_at}
 use Rattle.cmh_peers3.specs.Peers.{WasGiven, received}
 use Rattle.cmh_peers3.specs.declared.peer.Peer.{Peer}
-use Rattle.cmh_node3.specs.Nodes.{Fits, HasStory, IsExact, Node}
+use Rattle.cmh_node3.specs.Nodes.{Fits, HasStory, IsExact, Node, StandsBehind, base_links}
 use Rattle.cmh_node3.specs.Steps.{GivenSo, Station}
 use Rattle.cmh_node3.specs.declared.sealed.Sealed.{Sealed}
 use Rattle.cmh_node3.specs.declared.sealed.Sealed.TheVariants.{Disk, Memory, Mismatch}
@@ -28,12 +32,12 @@ use Rattle.cmh_node3.proofs.Places.{apart}
 
 -- ---- one peer
 
-stands_all : (s t : Sender) (ms xs : List Message) → StandsFor s ms → WasGiven xs s t → StandsFor t (ms ++ xs)
-stands_all s t ms xs st is = subst (λ (x : Sender). StandsFor x (ms ++ xs)) (sym is) (record {
+stands_all : (out : Outgoing) (s t : Sender) (ms xs : List Message) → StandsBehind out s ms → WasGiven xs s t → StandsBehind out t (ms ++ xs)
+stands_all out s t ms xs st is = subst (λ (x : Sender). StandsBehind out x (ms ++ xs)) (sym is) (record {
   past = st.past;
   count_is = st.count_is;
   mark_is = st.mark_is;
-  all = sym (append_assoc st.past s.kept xs) ∙ ap (λ (l : List Message). l ++ xs) st.all;
+  all = sym (append_assoc st.past s.kept xs) ∙ ap (λ (l : List Message). l ++ xs) st.all ∙ append_assoc out.kept ms xs;
 })
 
 -- its receiver's end counts what more steps got, and its sender's end was given nothing yet
@@ -44,7 +48,7 @@ pub record IsCounted (more : List Step) (p q : Peer) : Type 0 where
   pub mark : q.into.mark ≡ mark_on p.into.mark (spelled (receipts_of p.site more))
   pub synced : q.into.unsynced ≡ 0
 
-module _ (steps more : List Step) (p q r : Peer) (f : Fits None steps p) (c : IsCounted more p q) (site : r.site ≡ q.site) (into : r.into ≡ q.into) where
+module _ (links : List LinkState) (steps more : List Step) (p q r : Peer) (f : Fits links None steps p) (c : IsCounted more p q) (site : r.site ≡ q.site) (into : r.into ≡ q.into) where
   abbrev got : List Message
   got = receipts_of p.site steps
 
@@ -54,18 +58,30 @@ module _ (steps more : List Step) (p q r : Peer) (f : Fits None steps p) (c : Is
   abbrev sent : List Message
   sent = sendings_of q.site more
 
-  receipts_are : receipts_of r.site (steps ++ more) ≡ got ++ new
-  receipts_are = ap (λ (z : ℕ). receipts_of z (steps ++ more)) (site ∙ c.site) ∙ receipts_of-append message_from p.site steps more
+  abbrev link : LinkState
+  link = link_at links p.site
 
-  counted_are : r.into.got ≡ length (receipts_of r.site (steps ++ more))
+  receipts_are : got ++ new ≡ receipts_of p.site (steps ++ more)
+  receipts_are = sym (receipts_of-append message_from p.site steps more)
+
+  here : p.site ≡ r.site
+  here = sym (site ∙ c.site)
+
+  counted_so : r.into.got ≡ link.into.got + length (got ++ new)
+  counted_so =
+      let counted = ap (λ (x : Receiver). x.got) into ∙ c.got ∙ ap (λ (n : ℕ). n + length new) f.counted in
+      omega (arith, counted, length-append got new)
+
+  counted_are : r.into.got ≡ (got_since links (steps ++ more) r.site).got
   counted_are =
-      ap (λ (x : Receiver). x.got) into ∙ c.got ∙ ap (λ (n : ℕ). n + length new) f.counted
-      ∙ sym (length-append got new) ∙ ap (λ (l : List Message). length l) (sym receipts_are)
+      counted_so ∙ ap (λ (l : List Message). link.into.got + length l) receipts_are
+      ∙ ap (λ (z : ℕ). (got_since links (steps ++ more) z).got) here
 
-  marked_are : r.into.mark ≡ mark_of (spelled (receipts_of r.site (steps ++ more)))
+  marked_are : r.into.mark ≡ (got_since links (steps ++ more) r.site).mark
   marked_are =
       ap (λ (x : Receiver). x.mark) into ∙ c.mark ∙ ap (λ (n : ℕ). mark_on n (spelled new)) f.marked
-      ∙ sym (marked_more first_mark got new) ∙ ap (λ (l : List Message). mark_of (spelled l)) (sym receipts_are)
+      ∙ sym (marked_more link.into.mark got new) ∙ ap (λ (l : List Message). mark_on link.into.mark (spelled l)) receipts_are
+      ∙ ap (λ (z : ℕ). (got_since links (steps ++ more) z).mark) here
 
   synced_are : r.into.unsynced ≡ 0
   synced_are = ap (λ (x : Receiver). x.unsynced) into ∙ c.synced
@@ -83,13 +99,15 @@ module _ (steps more : List Step) (p q r : Peer) (f : Fits None steps p) (c : Is
       ∙ sym (sendings_of-append q.site steps more)
       ∙ ap (λ (z : ℕ). sendings_of z (steps ++ more)) (sym site)
 
-  stood : StandsFor q.out f.given
-  stood = subst (λ (x : Sender). StandsFor x f.given) (sym c.out) f.stands
+  stands_so : (part : List Message) → WasGiven part q.out r.out → StandsBehind (link_at links r.site).out r.out (f.given ++ part)
+  stands_so part given =
+      let stood : StandsBehind link.out q.out f.given = subst (λ (x : Sender). StandsBehind link.out x f.given) (sym c.out) f.stands in
+      subst (λ (z : ℕ). StandsBehind (link_at links z).out r.out (f.given ++ part)) here (stands_all link.out q.out r.out f.given part stood given)
 
-  pub grown_whole : WasGiven sent q.out r.out → Fits None (steps ++ more) r
+  pub grown_whole : WasGiven sent q.out r.out → Fits links None (steps ++ more) r
   grown_whole given = record {
     given = f.given ++ sent;
-    stands = stands_all q.out r.out f.given sent stood given;
+    stands = stands_so sent given;
     begins = ([], append-nil (f.given ++ sent) ∙ sendings_are);
     all = λ _. sendings_are;
     counted = counted_are;
@@ -97,10 +115,10 @@ module _ (steps more : List Step) (p q r : Peer) (f : Fits None steps p) (c : Is
     synced = synced_are;
   }
 
-  pub grown_part : (part : List Message) → IsBeginningOf part sent → WasGiven part q.out r.out → Fits (Some Memory) (steps ++ more) r
+  pub grown_part : (part : List Message) → IsBeginningOf part sent → WasGiven part q.out r.out → Fits links (Some Memory) (steps ++ more) r
   grown_part part begins given = record {
     given = f.given ++ part;
-    stands = stands_all q.out r.out f.given part stood given;
+    stands = stands_so part given;
     begins = (begins.0, append_assoc f.given part begins.0 ∙ ap (λ (l : List Message). f.given ++ l) begins.1 ∙ sendings_are);
     all = λ no. absurd (no refl);
     counted = counted_are;
@@ -149,19 +167,20 @@ AreCounted more xs ys = (length ys ≡ length xs) × ((k : ℕ) (d e : Peer) →
 
 module _ {File : Type 0} (told : File → Option Held) (has_failed : File → Bool) where
   module _ (n : Node File) (steps more : List Step) (mid peers : List Peer) (station : Station told has_failed) (e : IsExact told has_failed n steps) (open_is : n.sealed ≡ None)
-      (counted : AreCounted more n.peers mid) (story : HasStory told has_failed station (steps ++ more)) (none_waits : station.kept.waiting ≡ []) (works : station.sealed ≡ false) where
-    fits_now : (k : ℕ) → k < length n.peers → (d : Peer) → Fits None steps (get_or n.peers k d)
-    fits_now k inside d = subst (λ (s : Option Sealed). Fits s steps (get_or n.peers k d)) open_is (e.fits k inside d)
+      (counted : AreCounted more n.peers mid) (story : HasStory told has_failed station (steps ++ more)) (none_waits : station.kept.waiting ≡ []) (works : station.sealed ≡ false) (base : station.base ≡ n.station.base) where
+    fits_now : (k : ℕ) → k < length n.peers → (d : Peer) → Fits (base_links n) None steps (get_or n.peers k d)
+    fits_now k inside d = subst (λ (s : Option Sealed). Fits (base_links n) s steps (get_or n.peers k d)) open_is (e.fits k inside d)
 
     exact_by : (t : Option Sealed) (l : List Step) → length peers ≡ length mid → ((k : ℕ) (d e : Peer) → k < length mid → (get_or peers k e).site ≡ (get_or mid k d).site)
-        → ((k : ℕ) → k < length mid → (d : Peer) → Fits t (steps ++ more) (get_or peers k d))
+        → ((k : ℕ) → k < length mid → (d : Peer) → Fits (base_links n) t (steps ++ more) (get_or peers k d))
         → IsExact told has_failed (record n { station = station; peers = peers; sealed = t; last = l }) (steps ++ more)
     exact_by t l same sites fits = record {
       story = story;
       none_waits = none_waits;
       ascending = e.ascending;
       sites = sites_same mid peers same sites ∙ sites_same n.peers mid counted.0 (λ k d x inside. (counted.1 k d x inside).site) ∙ e.sites;
-      fits = λ k inside d. fits k (omega (arith, inside, same)) d;
+      fits = λ k inside d.
+          subst (λ (b : Beginning). Fits b.base.links t (steps ++ more) (get_or peers k d)) (sym base) (fits k (omega (arith, inside, same)) d);
       is_open = λ _. works;
     }
 
@@ -169,26 +188,26 @@ module _ {File : Type 0} (told : File → Option Held) (has_failed : File → Bo
     exact_after None l given = exact_by None l given.same_length (λ k d x inside. (given.each k d x inside).site) (λ k inside d.
         let within : k < length n.peers = omega (arith, inside, counted.0) in
         let g = given.each k d d inside in
-        grown_whole steps more (get_or n.peers k d) (get_or mid k d) (get_or peers k d) (fits_now k within d) (counted.1 k d d within) g.site g.into g.out)
+        grown_whole (base_links n) steps more (get_or n.peers k d) (get_or mid k d) (get_or peers k d) (fits_now k within d) (counted.1 k d d within) g.site g.into g.out)
     exact_after (Some Memory) l given = exact_by (Some Memory) l given.same_length (λ k d x inside. (given.each k d x inside).site) (λ k inside d.
         let within : k < length n.peers = omega (arith, inside, counted.0) in
         let g = given.each k d d inside in
-        grown_part steps more (get_or n.peers k d) (get_or mid k d) (get_or peers k d) (fits_now k within d) (counted.1 k d d within) g.site g.into g.out.part g.out.begins g.out.after)
+        grown_part (base_links n) steps more (get_or n.peers k d) (get_or mid k d) (get_or peers k d) (fits_now k within d) (counted.1 k d d within) g.site g.into g.out.part g.out.begins g.out.after)
     exact_after (Some Disk) l given = absurd given
     exact_after (Some (Mismatch peer mismatch)) l given = absurd given
 
   -- the journal failed, or memory was refused: its station has the same story
   pub exact_still : (n : Node File) (steps : List Step) (station : Station told has_failed) (t : Option Sealed) → IsExact told has_failed n steps → n.sealed ≡ None
-      → HasStory told has_failed station steps → station.kept.waiting ≡ n.station.kept.waiting → (t ≢ Some Memory) → (t ≡ None → station.sealed ≡ n.station.sealed)
+      → HasStory told has_failed station steps → station.kept.waiting ≡ n.station.kept.waiting → (t ≢ Some Memory) → (t ≡ None → station.sealed ≡ n.station.sealed) → station.base ≡ n.station.base
       → IsExact told has_failed (record n { station = station; sealed = t }) steps
-  exact_still n steps station t e open_is story waits other works = record {
+  exact_still n steps station t e open_is story waits other works base = record {
     story = story;
     none_waits = waits ∙ e.none_waits;
     ascending = e.ascending;
     sites = e.sites;
     fits = λ k inside d.
         let f = e.fits k inside d in
-        record {
+        subst (λ (b : Beginning). Fits b.base.links t steps (get_or n.peers k d)) (sym base) (record {
           given = f.given;
           stands = f.stands;
           begins = f.begins;
@@ -196,7 +215,7 @@ module _ {File : Type 0} (told : File → Option Held) (has_failed : File → Bo
           counted = f.counted;
           marked = f.marked;
           synced = f.synced;
-        };
+        });
     is_open = λ none. works none ∙ e.is_open open_is;
   }
 

@@ -1,5 +1,5 @@
 -- The ends of one link change, and all stays exact.
-use Rattle.std.proofs.Common.{◌≡◌, ◌≢◌, ◌⊎◌, ℕ, ◌<◌, Bool, List, [], ◌∷◌, length, map, get_or, Option, None, Some, zero, suc, refl, sym, ap, ◌∙◌, subst, inl, inr, arith}
+use Rattle.std.proofs.Common.{◌≡◌, ◌≢◌, ◌⊎◌, ℕ, ◌<◌, Bool, List, [], ◌∷◌, ◌++◌, length, map, get_or, Option, None, Some, zero, suc, refl, sym, ap, ◌∙◌, subst, inl, inr, arith}
 use Rattle.std.specs.Prelude.{Contains, slice_get, slice_set}
 use Rattle.std.specs.List.Sorted.{IsStrictlyIncreasing}
 use Rattle.std.proofs.lemmas.List.{length-map, length-set}
@@ -10,12 +10,13 @@ use Rattle.std.proofs.lemmas.List.{get_or-map, get_or-set_other}
 use Rattle.std.proofs.lemmas.List.Kept.{AllPairs-from_increasing}
 use Rattle.std.proofs.lemmas.Option.{get_or_from_slice_get, slice_get_within}
 use Rattle.cmh_model3.specs.Entries.{Entry as Step}
-use Rattle.cmh_model3.specs.declared.frame.Message.{Message}
 use Rattle.cmh_log3.specs.Files.{Held}
 use Rattle.cmh_hello3.specs.declared.acknowledgement.Acknowledgement.{Acknowledgement}
 use Rattle.cmh_hello3.specs.declared.answer.Answer.{Answer}
 use Rattle.cmh_resume3.specs.Receiver.{Claims, Receiver}
-use Rattle.cmh_resume3.specs.Sender.{Sender, StandsFor}
+use Rattle.cmh_resume3.specs.Sender.{Sender}
+use Rattle.cmh_segment3.specs.declared.links.LinkState.{LinkState}
+use Rattle.cmh_peers3.specs.Links.{link_at}
 use Rattle.cmh_hello3.specs.declared.refusal.Mismatch.{Mismatch as MismatchOf}
 use Rattle.cmh_hello3.specs.declared.refusal.Mismatch.TheVariants.{LessThanAcknowledged, MoreThanSent, OtherFrames}
 use Rattle.cmh_peers3.specs.Changes.{Acknowledges, ChangesInto, ChangesOut, EndsAt, SaysCount, StandsStill}
@@ -24,7 +25,7 @@ use Rattle.cmh_peers3.specs.declared.happening.Action.TheVariants.{Rest, Dial, G
 use Rattle.cmh_peers3.specs.Peers.{IsPlaceOf}
 use Rattle.cmh_peers3.specs.declared.peer.Peer.{Peer}
 use Rattle.cmh_node3.specs.Changes.{sealed_by, sealed_if_told}
-use Rattle.cmh_node3.specs.Nodes.{Fits, IsExact, Node}
+use Rattle.cmh_node3.specs.Nodes.{Fits, IsExact, Node, base_links}
 use Rattle.cmh_node3.specs.declared.sealed.Sealed.{Sealed}
 use Rattle.cmh_node3.specs.declared.sealed.Sealed.TheVariants.{Memory, Mismatch}
 
@@ -66,8 +67,8 @@ seals_told None peer LessThanAcknowledged = seals_new (Mismatch peer LessThanAck
 
 -- ---- one peer
 
-pub fits_sealed : (s t : Option Sealed) (steps : List Step) (p : Peer) → Seals s t → Fits s steps p → Fits t steps p
-fits_sealed s t steps p seals f = record {
+pub fits_sealed : (links : List LinkState) (s t : Option Sealed) (steps : List Step) (p : Peer) → Seals s t → Fits links s steps p → Fits links t steps p
+fits_sealed links s t steps p seals f = record {
   given = f.given;
   stands = f.stands;
   begins = f.begins;
@@ -77,11 +78,10 @@ fits_sealed s t steps p seals f = record {
   synced = f.synced;
 }
 
-pub fits_out : (s : Option Sealed) (steps : List Step) (p : Peer) (out : Sender) → ((ms : List Message) → StandsFor p.out ms → StandsFor out ms)
-    → Fits s steps p → Fits s steps (record p { out = out })
-fits_out s steps p out stands f = record {
+pub fits_out : (links : List LinkState) (s : Option Sealed) (steps : List Step) (p : Peer) (out : Sender) → StandsStill p.out out → Fits links s steps p → Fits links s steps (record p { out = out })
+fits_out links s steps p out stands f = record {
   given = f.given;
-  stands = stands f.given f.stands;
+  stands = (let sent = (link_at links p.site).out in stands sent.acked sent.mark (sent.kept ++ f.given) f.stands);
   begins = f.begins;
   all = f.all;
   counted = f.counted;
@@ -95,8 +95,8 @@ pub record CountsSame (a b : Receiver) : Type 0 where
   pub mark : b.mark ≡ a.mark
   pub unsynced : b.unsynced ≡ a.unsynced
 
-pub fits_into : (s : Option Sealed) (steps : List Step) (p : Peer) (into : Receiver) → CountsSame p.into into → Fits s steps p → Fits s steps (record p { into = into })
-fits_into s steps p into same f = record {
+pub fits_into : (links : List LinkState) (s : Option Sealed) (steps : List Step) (p : Peer) (into : Receiver) → CountsSame p.into into → Fits links s steps p → Fits links s steps (record p { into = into })
+fits_into links s steps p into same f = record {
   given = f.given;
   stands = f.stands;
   begins = f.begins;
@@ -141,20 +141,20 @@ apart xs sites inc are j k d inj ink far same =
 module _ {File : Type 0} (told : File → Option Held) (has_failed : File → Bool) where
   -- the peer at a place is another, and the site may be sealed
   pub at_place : (n : Node File) (steps : List Step) (place : ℕ) (p q : Peer) (t : Option Sealed) → IsExact told has_failed n steps → slice_get n.peers place ≡ Some p → q.site ≡ p.site
-      → Seals n.sealed t → (Fits n.sealed steps p → Fits n.sealed steps q) → IsExact told has_failed (record n { peers = slice_set n.peers place q; sealed = t }) steps
+      → Seals n.sealed t → (Fits (base_links n) n.sealed steps p → Fits (base_links n) n.sealed steps q) → IsExact told has_failed (record n { peers = slice_set n.peers place q; sealed = t }) steps
   at_place n steps place p q t e there site seals fits =
       let inside : place < length n.peers = slice_get_within n.peers place p there in
       let many : length (slice_set n.peers place q) ≡ length n.peers = length-set n.peers place q in
-      let before : Fits n.sealed steps p = subst (λ (x : Peer). Fits n.sealed steps x) (get_or_from_slice_get n.peers place p p there) (e.fits place inside p) in
+      let before : Fits (base_links n) n.sealed steps p = subst (λ (x : Peer). Fits (base_links n) n.sealed steps x) (get_or_from_slice_get n.peers place p p there) (e.fits place inside p) in
       record {
         story = e.story;
         none_waits = e.none_waits;
         ascending = e.ascending;
         sites = sites_set n.peers place p q there site ∙ e.sites;
         fits = λ k within d. elim (cases_eq k place) [
-          | inl same ↦ subst (λ (x : Peer). Fits t steps x) (sym (get_or-set_at n.peers place k q d same inside)) (fits_sealed n.sealed t steps q seals (fits before))
-          | inr far ↦ subst (λ (x : Peer). Fits t steps x) (sym (get_or-set_other n.peers place k q d far))
-              (fits_sealed n.sealed t steps (get_or n.peers k d) seals (e.fits k (omega (arith, many, within)) d))
+          | inl same ↦ subst (λ (x : Peer). Fits (base_links n) t steps x) (sym (get_or-set_at n.peers place k q d same inside)) (fits_sealed (base_links n) n.sealed t steps q seals (fits before))
+          | inr far ↦ subst (λ (x : Peer). Fits (base_links n) t steps x) (sym (get_or-set_other n.peers place k q d far))
+              (fits_sealed (base_links n) n.sealed t steps (get_or n.peers k d) seals (e.fits k (omega (arith, many, within)) d))
         ];
         is_open = λ none. e.is_open (seals.none none);
       }
@@ -166,7 +166,7 @@ module _ {File : Type 0} (told : File → Option Held) (has_failed : File → Bo
     none_waits = e.none_waits;
     ascending = e.ascending;
     sites = e.sites;
-    fits = λ k within d. fits_sealed n.sealed t steps (get_or n.peers k d) seals (e.fits k within d);
+    fits = λ k within d. fits_sealed (base_links n) n.sealed t steps (get_or n.peers k d) seals (e.fits k within d);
     is_open = λ none. e.is_open (seals.none none);
   }
 
@@ -175,14 +175,14 @@ module _ {File : Type 0} (told : File → Option Held) (has_failed : File → Bo
       → (c : ChangesOut place Changes n.peers ys) → ((a b : Sender) → Changes a b → StandsStill a b) → Seals n.sealed t → IsExact told has_failed (record n { peers = ys; sealed = t }) steps
   out_exact n steps place Changes ys t e c stands seals =
       subst (λ (l : List Peer). IsExact told has_failed (record n { peers = l; sealed = t }) steps) (sym c.after)
-      (at_place n steps place c.peer (record c.peer { out = c.out }) t e c.there refl seals (fits_out n.sealed steps c.peer c.out (stands c.peer.out c.out c.changes)))
+      (at_place n steps place c.peer (record c.peer { out = c.out }) t e c.there refl seals (fits_out (base_links n) n.sealed steps c.peer c.out (stands c.peer.out c.out c.changes)))
 
   -- a receiver's end changed, and counts what it counted
   pub into_exact : (n : Node File) (steps : List Step) (place : ℕ) (Changes : Receiver → Receiver → Type 0) (ys : List Peer) → IsExact told has_failed n steps
       → (c : ChangesInto place Changes n.peers ys) → ((a b : Receiver) → Changes a b → CountsSame a b) → IsExact told has_failed (record n { peers = ys }) steps
   into_exact n steps place Changes ys e c counts =
       subst (λ (l : List Peer). IsExact told has_failed (record n { peers = l }) steps) (sym c.after)
-      (at_place n steps place c.peer (record c.peer { into = c.into }) n.sealed e c.there refl (seals_same n.sealed) (fits_into n.sealed steps c.peer c.into (counts c.peer.into c.into c.changes)))
+      (at_place n steps place c.peer (record c.peer { into = c.into }) n.sealed e c.there refl (seals_same n.sealed) (fits_into (base_links n) n.sealed steps c.peer c.into (counts c.peer.into c.into c.changes)))
 
 -- ---- receiver's ends that count the same
 

@@ -1,5 +1,5 @@
 -- Events that a site takes, or does not.
-use Rattle.std.proofs.Common.{◌≡◌, ◌≢◌, ℕ, ◌+◌, ◌^◌, ◌<◌, ◌&&◌, Bool, false, List, ◌++◌, length, map, take, get_or, Option, None, Some, refl, sym, ap, ◌∙◌, subst}
+use Rattle.std.proofs.Common.{◌≡◌, ◌≢◌, ℕ, ◌+◌, ◌^◌, ◌<◌, ◌&&◌, Bool, false, List, ◌++◌, length, map, take, get_or, Option, None, Some, refl, sym, ap, ◌∙◌, subst, arith}
 use Rattle.std.specs.Prelude.{slice_set}
 use Rattle.std.specs.List.{AllByRecursion, list_any}
 use Rattle.cmh_journaled.specs.Batches.{AreUntilRefused, NotSteppedAll, SteppedAll}
@@ -9,14 +9,15 @@ use Rattle.cmh_journaled.specs.declared.refusal.Refusal.{Refusal as Reason}
 use Rattle.cmh_journaled.specs.declared.refusal.Refusal.TheVariants.{Sealed, Full, Rule, Memory as Memory_refused, Disk as Disk_failed}
 use Rattle.cmh_controller3.specs.declared.refusal.Refusal.{Refusal}
 use Rattle.cmh_model3.specs.Entries.{Entry as Step}
-use Rattle.cmh_model3.specs.Journals.{receipts_of}
 use Rattle.cmh_model3.specs.declared.event.Event.{Event}
 use Rattle.cmh_model3.specs.declared.frame.Message.{Message}
 use Rattle.cmh_machine3.specs.Machines.{site_of_machine}
 use Rattle.cmh_machine3.specs.Sites.{meaning_of}
 use Rattle.cmh_log3.specs.Files.{Held}
 use Rattle.cmh_log3.specs.Logs.{log_meaning}
+use Rattle.std.proofs.lemmas.List.{get_or_default}
 use Rattle.std.proofs.lemmas.Option.{get_or_from_slice_get}
+use Rattle.cmh_runs.proofs.Beginnings.{beginning_take, length-beginning}
 use Rattle.cmh_resume3.specs.Receiver.{Receiver}
 use Rattle.cmh_peers3.specs.Changes.{ChangesInto, IsReceived}
 use Rattle.cmh_peers3.specs.Peers.{keeps_many, received}
@@ -28,8 +29,17 @@ use Rattle.cmh_node3.specs.declared.settling.StepFault.{StepFault}
 use Rattle.cmh_node3.specs.declared.settling.StepFault.TheVariants as fault
 use Rattle.cmh_node3.specs.declared.sealed.Sealed.{Sealed as Why}
 use Rattle.cmh_node3.specs.declared.sealed.Sealed.TheVariants.{Disk, Memory}
-use Rattle.cmh_node3.proofs.Answered.{Answers, countable, handed_open, own_receipts, receipts_elsewhere, receipts_here, still_open, until, waits}
+use Rattle.cmh_node3.proofs.Answered.{Answers, handed_based, handed_open, own_receipts, receipts_elsewhere, receipts_here, still_based, still_open, until, waits}
 use Rattle.cmh_node3.proofs.Growing.{AreCounted, counted_at, counted_own, exact_after, exact_still}
+
+-- what is taken of messages that can be counted
+pub can_count : (peers : List Peer) (place : ℕ) (p d : Peer) (messages first : List Message) (count : ℕ) → place < length peers → p ≡ get_or peers place p → p.into.got + length messages < 2 ^ 64
+    → first ≡ take count messages → (get_or peers place d).into.got + length first < 2 ^ 64
+can_count peers place p d messages first count inside is few front =
+    let got = ap (λ (x : Peer). x.into.got) (get_or_default peers place d p inside ∙ sym is) in
+    let less = length-beginning (take count messages) messages (beginning_take count messages) in
+    let long = ap (λ (l : List Message). length l) front in
+    omega (arith, few, got, less, long)
 
 module _ {File : Type 0} (told : File → Option Held) (has_failed : File → Bool) where
   -- ---- where the call fails
@@ -55,12 +65,12 @@ module _ {File : Type 0} (told : File → Option Held) (has_failed : File → Bo
   failed n steps events Memory_refused station e open_is not story = record {
     station = not.1;
     rest = ap (λ (s : Option Why). record n { station = station; sealed = s }) (sym open_is);
-    exact = λ es x. exact_still told has_failed n es station None x open_is (story es x.story) not.1.kept.1 (none_is_no_reason Memory) (λ _. not.1.sealed);
+    exact = λ es x. exact_still told has_failed n es station None x open_is (story es x.story) not.1.kept.1 (none_is_no_reason Memory) (λ _. not.1.sealed) not.1.base;
   }
   failed n steps events Disk_failed station e open_is not story = record {
     station = not;
     rest = refl;
-    exact = λ es x. exact_still told has_failed n es station (Some Disk) x open_is (story es x.story) not.was_sealed.kept.1 disk_is_no_memory (λ none. absurd (cc none));
+    exact = λ es x. exact_still told has_failed n es station (Some Disk) x open_is (story es x.story) not.was_sealed.kept.1 disk_is_no_memory (λ none. absurd (cc none)) not.was_sealed.base;
   }
 
   pub failed_by : (n : Node File) (steps : List Step) (events : List Event) (refusal : Reason Refusal) (station : Station told has_failed) (why : StepFault) (t : Option Why) → IsExact told has_failed n steps → n.sealed ≡ None
@@ -101,7 +111,8 @@ module _ {File : Type 0} (told : File → Option Held) (has_failed : File → Bo
     pub exact_now : (steps : List Step) → IsExact told has_failed n steps → AreCounted more n.peers mid → IsExact told has_failed (record n { station = after; peers = peers; sealed = t; last = l }) (steps ++ more)
     exact_now steps e counted =
         exact_after told has_failed n steps more mid peers after e open_is counted (later (steps ++ more) (story steps e.story)) handed.kept.1
-        (handed_open told has_failed between after handed ∙ still_open told has_failed n.station between more (e.is_open open_is) stepped.grew) t l (given_now steps e)
+        (handed_open told has_failed between after handed ∙ still_open told has_failed n.station between more (e.is_open open_is) stepped.grew)
+        (handed_based told has_failed between after handed ∙ still_based told has_failed n.station between more stepped.grew) t l (given_now steps e)
 
     pub last_now : (steps : List Step) → IsExact told has_failed n steps → l ≡ more
     last_now steps e = last ∙ waits_now steps e
@@ -193,19 +204,3 @@ module _ {File : Type 0} (told : File → Option Held) (has_failed : File → Bo
       (subst (λ (l : List Event). AreUntilRefused l answers) all refused)
       (subst (λ (l : List Event). (es : List Step) → HasStory told has_failed n.station es → HasStory told has_failed between (es ++ entries_made told has_failed (take (length answers) l) answers)) all story)
       last handed later given e has count closed
-
-  -- all that is got can be counted
-  pub can_count : (n : Node File) (steps : List Step) (place line : ℕ) (messages first : List Message) (count : ℕ) (events : List Event) (from : ℕ) (answers : Answers) (between : Station told has_failed) (d : Peer) → IsExact told has_failed n steps
-      → place < length n.peers → IsClaimant n.peers place line (Some from)
-      → SteppedAll (meaning_of site_of_machine) unsent (log_meaning told has_failed) n.station (take (length answers) events) answers between → AreUntilRefused events answers
-      → events ≡ map (got_event from) messages → count ≡ accepted answers → first ≡ take count messages → 0 < length first → (get_or n.peers place d).into.got + length first < 2 ^ 64
-  can_count n steps place line messages first count events from answers between d e inside claimed stepped refused are is front some =
-      let p = get_or n.peers place d in
-      let site : p.site ≡ from = (claimed d).0 in
-      let es : List Event = take (length answers) events in
-      let these : receipts_of p.site (entries_made told has_failed es answers) ≡ first =
-      ap (λ (a : ℕ). receipts_of a (entries_made told has_failed es answers)) site
-      ∙ ap (λ (l : List Event). receipts_of from (entries_made told has_failed (take (length answers) l) answers)) are
-      ∙ receipts_here told has_failed from messages answers (until told has_failed events answers refused)
-      ∙ ap (λ (k : ℕ). take k messages) (sym is) ∙ sym front in
-      countable told has_failed p.site n.station steps es answers p.into.got first e.story.kept.0 stepped.answered (e.fits place inside d).counted these some

@@ -13,7 +13,7 @@ use Rattle.cmh_peers3.specs.declared.happening.Action.{Action}
 use Rattle.cmh_peers3.specs.declared.happening.Action.TheVariants.{Refuse}
 use Rattle.cmh_peers3.specs.declared.happening.Happening.{Happening}
 use Rattle.cmh_peers3.specs.declared.peer.Peer.{Peer}
-use Rattle.cmh_node3.specs.Nodes.{AtPlace, Node}
+use Rattle.cmh_node3.specs.Nodes.{AtPlace, Node, epoch_of}
 use Rattle.cmh_node3.specs.declared.receiving.Admitted.{Admitted}
 use Rattle.cmh_node3.specs.declared.sealed.Sealed.{Sealed}
 use Rattle.cmh_node3.specs.declared.sealed.Sealed.TheVariants as sealed
@@ -33,7 +33,7 @@ sealed_if_told earlier peer mismatch = earlier
 module _ {File : Type 0} where
   -- it happened on the link to the peer at this place, at its sender's end
   pub record Happens (place : ℕ) (what : Happening) (now : ℕ) (a : Node File) (action : Action) (b : Node File) : Type 0 where
-    pub at_end : ChangesOut place (DoesSafely what 0 now action) a.peers b.peers
+    pub at_end : ChangesOut place (DoesSafely what (epoch_of a) now action) a.peers b.peers
     pub sealed : b.sealed ≡ sealed_by at_end.peer.site action
     pub rest : b ≡ record a { peers = b.peers; sealed = b.sealed }
 
@@ -48,7 +48,7 @@ module _ {File : Type 0} where
     pub is_open : a.sealed ≡ None
     pub at_end : ChangesInto admitted.place (λ x y. Claims x line now admitted.answer y) a.peers b.peers
     pub of_sender : at_end.peer.site ≡ hello.from
-    pub speaks : admitted.answer.hello ≡ record { world = a.world; from = a.site; to = hello.from; epoch = 0 }
+    pub speaks : admitted.answer.hello ≡ record { world = a.world; from = a.site; to = hello.from; epoch = epoch_of a }
     pub rest : b ≡ record a { peers = b.peers }
 
   -- the rules had closed the link from the peer whose hello came
@@ -67,7 +67,7 @@ module _ {File : Type 0} where
 
   -- what is acknowledged on a connection from the peer at this place
   pub record Says (place line : ℕ) (filled : Bool) (a : Node File) (said : Option Acknowledgement) (b : Node File) : Type 0 where
-    pub at_end : Acknowledges place line filled 0 said a.peers b.peers
+    pub at_end : Acknowledges place line filled (epoch_of a) said a.peers b.peers
     pub rest : b ≡ record a { peers = b.peers }
 
   -- a connection from the peer at this place ended

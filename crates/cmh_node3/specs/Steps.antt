@@ -21,7 +21,8 @@ use Rattle.cmh_machine3.specs.declared.beginning.Beginning.{Beginning}
 use Rattle.cmh_log3.specs.Files.{Held}
 use Rattle.cmh_log3.specs.Logs.{SegmentLog, log_meaning}
 use Rattle.cmh_topology3.specs.Topology.{Topology, sites_of}
-use Rattle.cmh_peers3.specs.Peers.{AtEach, IsGiven, IsGivenPart, keeps_many, met, others}
+use Rattle.cmh_peers3.specs.Peers.{AtEach, IsGiven, IsGivenPart, keeps_many, others}
+use Rattle.cmh_peers3.specs.Links.{met_from}
 use Rattle.cmh_peers3.specs.Changes.{ChangesInto, IsReceived}
 use Rattle.cmh_peers3.specs.declared.peer.Peer.{Peer}
 use Rattle.cmh_node3.specs.Nodes.{IsExact, Node, StaysExact}
@@ -99,14 +100,14 @@ module _ {File : Type 0} (told : File → Option Held) (has_failed : File → Bo
     pub handed : HandedOver unsent between between.kept.waiting b
 
   -- A site begins with the journal of its station, whose frames all waited: its peers are the other sites of the topology,
-  -- met by the journal, and their sender's ends were given what it sent.
+  -- met by the links of the base and by the journal, and their sender's ends were given what it sent.
   pub record BeginsAs (t : Topology) (s : ℕ) (station : Station) (n : Node File) : Type 0 where
     pub world : n.world ≡ t.world
     pub site : n.site ≡ s
     pub others_are : n.others ≡ others s (sites_of t)
     pub handed : HandedOver unsent station station.kept.waiting n.station
     pub none_last : n.last ≡ []
-    pub given : GivenSo n.sealed station.kept.waiting (map (met station.kept.waiting) n.others) n.peers
+    pub given : GivenSo n.sealed station.kept.waiting (map (met_from station.base.base.links station.kept.waiting) n.others) n.peers
     pub exact : IsExact told has_failed n station.kept.waiting
 
   -- The site took events of its own processes: each was answered, what was accepted stands in the journal, behind what was

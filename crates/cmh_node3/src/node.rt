@@ -1,14 +1,18 @@
 //! A station with its links.
 
-ghost use Rattle.std.specs.Prelude.{◌≡◌, IfOk, List, Option, map};
+ghost use Rattle.std.specs.Prelude.{◌≡◌, Err, IfOk, List, Option, map};
 ghost use Rattle.std.specs.List.Sorted.{IsStrictlyIncreasing};
 ghost use Rattle.cmh_journaled.specs.Keepers.{unsent};
 ghost use Rattle.cmh_journaled.specs.Steps.{HandedOver};
 ghost use Rattle.cmh_log3.specs.Files.{Held};
 ghost use Rattle.cmh_model3.specs.Entries.{Entry as Step};
-ghost use Rattle.cmh_node3.specs.Nodes.{HasStory, IsExact};
+ghost use Rattle.cmh_node3.specs.Nodes.{HasStory, IsExact, epoch_of};
 ghost use Rattle.cmh_node3.specs.Steps.{BeginsAs, GivenSo};
-ghost use Rattle.cmh_peers3.specs.Peers.{met as met_by, others};
+ghost use Rattle.cmh_peers3.specs.Links.{HasTooMany, met_from};
+ghost use Rattle.cmh_peers3.specs.Peers.{others};
+ghost use Rattle.cmh_peers3.specs.declared.links.Unmet.TheVariants as Unmet;
+ghost use Rattle.cmh_segment3.specs.Base.{IsLinkRow, link_place};
+ghost use Rattle.cmh_segment3.specs.Rows.{AreRows};
 ghost use Rattle.cmh_station3.specs.Opening.{Opened};
 ghost use Rattle.cmh_topology3.specs.Topology.{sites_of};
 
@@ -18,9 +22,10 @@ use cmh_controller3::Controller;
 use cmh_journaled::Handed;
 use cmh_log3::SegmentFile;
 use cmh_model3::{Entry, Event, Message, SiteId};
-use cmh_peers3::{Peer, others_of, peers_of};
+use cmh_peers3::{Peer, Unmet, others_of, peers_from};
 use cmh_station3::Station;
 use cmh_topology3::{Topology, World};
+use cmh_wire3::Epoch;
 use std::alloc::{AllocError, Global};
 use std::marker::Model;
 
@@ -73,16 +78,19 @@ impl<F: SegmentFile> Model for Node<F> {
 }
 
 impl<F: SegmentFile> Node<F> {
-    /// A site that begins where its station was opened. No link of it is connected, none is closed, and nothing that it sent
-    /// is known to be acknowledged. Where memory is refused the station is given up.
+    /// A site that begins where its station was opened: its links go on from what the base of the segment says of them, and
+    /// from the entries behind it. No link of it is connected, and none is closed. Where its peers are not met, the station is
+    /// given up.
     pub fn new(
         alloc: Global,
         topology: &Topology,
         site: SiteId,
         station: Station<F>,
-    ) -> Result<Self, AllocError>
+    ) -> Result<Self, Unmet>
         requires { (before : Option Held) × Opened F.told F.has_failed topology.now site before station }
-        ensures { IfOk result (BeginsAs F.told F.has_failed topology.now site station) }
+        ensures begins { IfOk result (BeginsAs F.told F.has_failed topology.now site station) }
+        ensures full { result ≡ Err Unmet.Full
+            → HasTooMany station.base.base.links station.kept.waiting (others site (sites_of topology.now)) }
     {
         let mut station = station;
         match meet_all(alloc, topology, site, &mut station) {
@@ -103,7 +111,7 @@ impl<F: SegmentFile> Node<F> {
                     last: None,
                 })
             }
-            Err(AllocError) => Err(AllocError),
+            Err(why) => Err(why),
         }
     }
 
@@ -119,6 +127,13 @@ impl<F: SegmentFile> Node<F> {
         ensures { result ≡ self.now.site }
     {
         self.site
+    }
+
+    /// The epoch in which the site is: that of the segment on which its station was opened.
+    pub fn epoch(&self) -> Epoch
+        ensures { result ≡ epoch_of self.now }
+    {
+        self.station.base().epoch
     }
 
     /// The site's controller, to ask.
@@ -163,25 +178,34 @@ struct Met {
     sealed: Option<Sealed>,
 }
 
-/// Hands over all that the station has, and meets the other sites by it. It stands apart, so that a failure here does not
-/// drop the station.
+/// Hands over all that the station has, and meets the other sites by it and by the links of its base. It stands apart, so that
+/// a failure here does not drop the station.
 fn meet_all<F: SegmentFile>(
     alloc: Global,
     topology: &Topology,
     site: SiteId,
     station: &mut Station<F>,
-) -> Result<Met, AllocError>
+) -> Result<Met, Unmet>
+    requires { AreRows IsLinkRow link_place station.old.base.base.links }
     ensures others { IfOk result (λ met. met.others.items ≡ others site (sites_of topology.now)) }
     ensures ascending { IfOk result (λ met. IsStrictlyIncreasing met.others.items) }
     ensures handed { IfOk result (λ met. HandedOver unsent station.old station.old.kept.waiting station.new) }
     ensures story { IfOk result (λ met. (steps : List Step) → HasStory F.told F.has_failed station.old steps
         → HasStory F.told F.has_failed station.new steps) }
     ensures given { IfOk result (λ met. GivenSo met.sealed station.old.kept.waiting
-        (map (met_by station.old.kept.waiting) met.others.items) met.peers.items) }
+        (map (met_from station.old.base.base.links station.old.kept.waiting) met.others.items) met.peers.items) }
+    ensures full { result ≡ Err Unmet.Full
+        → HasTooMany station.old.base.base.links station.old.kept.waiting (others site (sites_of topology.now)) }
 {
-    let others = others_in(alloc, topology, site)?;
+    let Ok(others) = others_in(alloc, topology, site) else {
+        return Err(Unmet::Memory);
+    };
     let handed = station.hand_over();
-    let mut peers = peers_of(alloc, &others, handed.as_slice())?;
+    let links = station.base().base.links.as_slice();
+    let mut peers = match peers_from(alloc, &others, links, handed.as_slice()) {
+        Ok(peers) => peers,
+        Err(why) => return Err(why),
+    };
     let sealed = give_all(&mut peers, handed.as_slice());
     Ok(Met {
         others,

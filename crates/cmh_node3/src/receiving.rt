@@ -1,6 +1,6 @@
 //! What comes on the links from the other sites.
 
-ghost use Rattle.std.specs.Prelude.{◌≡◌, ◌≢◌, ◌↔◌, ◌≤◌, ◌-◌, ◌<◌, length, map, take, IfErr, IfOk, IsTrue, None, OnErr, Some};
+ghost use Rattle.std.specs.Prelude.{◌≡◌, ◌≢◌, ◌↔◌, ◌≤◌, ◌+◌, ◌-◌, ◌^◌, ◌<◌, true, length, map, take, IfErr, IfOk, IsTrue, None, OnErr, Some};
 ghost use Rattle.std.specs.List.{list_any};
 ghost use Rattle.cmh_node3.specs.Changes.{Admits, Ends, RefusesHello, Says, Tells, sealed_if_told};
 ghost use Rattle.cmh_node3.specs.Nodes.{AtPlace, StaysExact};
@@ -17,7 +17,6 @@ use cmh_log3::SegmentFile;
 use cmh_model3::{Event, Message, SiteId};
 use cmh_peers3::{Peer, acknowledge_at, claim_at, end_at, place_of, receive_at};
 use cmh_resume3::check_hello;
-use cmh_wire3::Epoch;
 use std::alloc::{AllocError, Global};
 
 /// The answer to an event.
@@ -49,7 +48,7 @@ pub enum NotTaken {
     Sealed,
     /// The connection has not the claim of the link.
     Stale,
-    /// Memory was refused, or the journal failed.
+    /// Memory was refused, or more came than can be counted; or the journal failed.
     Failed(StepFault),
 }
 
@@ -78,7 +77,7 @@ impl<F: SegmentFile> Node<F> {
             world: self.world,
             from: self.site,
             to: hello.from,
-            epoch: Epoch::new(0),
+            epoch: self.epoch(),
         };
         let answer = match claim_at(&mut self.peers, place, line, now, speaker) {
             Ok(answer) => answer,
@@ -109,6 +108,9 @@ impl<F: SegmentFile> Node<F> {
         let Some(from) = claimant(&self.peers, place, line) else {
             return Err(NotTaken::Stale);
         };
+        if !can_count(&self.peers[place], messages.len()) {
+            return Err(NotTaken::Failed(StepFault::Memory));
+        }
         let Ok(events) = events_of(self.alloc, from, messages) else {
             return Err(NotTaken::Failed(StepFault::Memory));
         };
@@ -142,7 +144,8 @@ impl<F: SegmentFile> Node<F> {
             Some(_) => return None,
             None => {}
         }
-        acknowledge_at(&mut self.peers, place, line, filled, Epoch::new(0))
+        let epoch = self.epoch();
+        acknowledge_at(&mut self.peers, place, line, filled, epoch)
     }
 
     /// A connection from the peer at this place ended.
@@ -196,6 +199,13 @@ fn claimant(peers: &[Peer], place: usize, line: u64) -> Option<SiteId>
     } else {
         None
     }
+}
+
+/// Whether so many more messages from the peer can be counted. Only a base can say that so many came before that they can't.
+fn can_count(peer: &Peer, more: usize) -> bool
+    ensures { result ≡ true → peer.now.into.got + more < 2 ^ 64 }
+{
+    peer.into.got().checked_add(more as u64).is_some()
 }
 
 /// The first so many messages, or all where there are no more.

@@ -10,7 +10,6 @@ use cmh_hello3::Mismatch;
 use cmh_log3::SegmentFile;
 use cmh_model3::{Message, SiteId};
 use cmh_peers3::{Action, Happening, happen_at, next_at};
-use cmh_wire3::Epoch;
 
 impl<F: SegmentFile> Node<F> {
     /// Something happened on the link to the peer at this place: what is to be done about it. Where the two journals do not
@@ -25,8 +24,8 @@ impl<F: SegmentFile> Node<F> {
             Some(_) => return Action::Close,
             None => {}
         }
-        let peer = self.peers[place].site;
-        let action = happen_at(&mut self.peers, place, what, Epoch::new(0), now);
+        let (peer, epoch) = (self.peers[place].site, self.epoch());
+        let action = happen_at(&mut self.peers, place, what, epoch, now);
         self.sealed = sealed_after(peer, action);
         action
     }

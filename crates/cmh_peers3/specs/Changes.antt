@@ -3,7 +3,7 @@ use Rattle.std.specs.Prelude.{◌≡◌, ◌≢◌, ◌⊎◌, ℕ, ◌<◌, ◌
 use Rattle.cmh_model3.specs.declared.frame.Message.{Message}
 use Rattle.cmh_hello3.specs.declared.acknowledgement.Acknowledgement.{Acknowledgement}
 use Rattle.cmh_resume3.specs.Receiver.{Receiver, rested, said, synced_of}
-use Rattle.cmh_resume3.specs.Sender.{GivesNext, Sender, StandsFor}
+use Rattle.cmh_resume3.specs.Sender.{GivesNext, Sender, StandsSince}
 use Rattle.cmh_peers3.specs.Happenings.{Does}
 use Rattle.cmh_peers3.specs.Peers.{received}
 use Rattle.cmh_peers3.specs.declared.happening.Action.{Action}
@@ -28,9 +28,10 @@ pub record ChangesInto (place : ℕ) (Changes : Receiver → Receiver → Type 0
 
 -- ---- the sender's end
 
--- it stands for the messages that it stood for
+-- it stands for the messages that it stood for, since whichever count and mark
 abbrev pub StandsStill : Sender → Sender → Type 0
-StandsStill a b = (messages : List Message) → StandsFor a messages → StandsFor b messages
+StandsStill a b = (count mark : ℕ) (messages : List Message) → StandsSince count mark a messages
+    → StandsSince count mark b messages
 
 pub record DoesSafely (what : Happening) (epoch now : ℕ) (action : Action) (a b : Sender) : Type 0 where
   pub does : Does a what epoch now b action

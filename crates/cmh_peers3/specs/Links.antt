@@ -1,5 +1,5 @@
 -- The links of a base, and the peers whose ends they say.
-use Rattle.std.specs.Prelude.{◌≡◌, ℕ, ◌+◌, ◌==◌, if◌then◌else◌, false, List, [], ◌∷◌, length, map}
+use Rattle.std.specs.Prelude.{◌≡◌, ℕ, ◌+◌, ◌^◌, ◌≤◌, ◌==◌, if◌then◌else◌, false, List, [], ◌∷◌, length, map, Contains}
 use Rattle.std.specs.List.{AllByRecursion}
 use Rattle.cmh_model3.specs.Entries.{Entry}
 use Rattle.cmh_model3.specs.Journals.{receipts_of}
@@ -54,6 +54,12 @@ met_from links entries s = record {
   out = sender_of (link_at links s).out;
   into = receiver_of (got_since links entries s);
 }
+
+-- more was got from one of these sites than can be counted
+pub record HasTooMany (links : List LinkState) (entries : List Entry) (them : List ℕ) : Type 0 where
+  pub site : ℕ
+  pub one : Contains them site
+  pub many : 2 ^ 64 ≤ (got_since links entries site).got
 
 -- ---- to a base
 

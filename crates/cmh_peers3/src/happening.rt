@@ -1,9 +1,8 @@
 //! What happens on the link to another site, and what is to be done about it.
 
-ghost use Rattle.std.specs.Prelude.{◌≡◌, List};
-ghost use Rattle.cmh_model3.specs.declared.frame.Message.{Message as Sent};
+ghost use Rattle.std.specs.Prelude.{◌≡◌};
+ghost use Rattle.cmh_peers3.specs.Changes.{StandsStill};
 ghost use Rattle.cmh_peers3.specs.Happenings.{Does, DoesDial, DoesEnd, DoesHearAcknowledgement, DoesHearAnswer, DoesHearRefusal, DoesPass, action_of};
-ghost use Rattle.cmh_resume3.specs.Sender.{StandsFor};
 
 use cmh_hello3::{Acknowledgement, Answer, Mismatch, Refusal};
 use cmh_resume3::{Heard, SenderEnd, State, Task};
@@ -49,7 +48,7 @@ pub enum Action {
 /// the connection, and changes nothing.
 pub(crate) fn happen(out: &mut SenderEnd, what: &Happening, epoch: Epoch, now: u64) -> Action
     ensures does { Does out.old what.now epoch now out.new result }
-    ensures stands { (messages : List Sent) → StandsFor out.old messages → StandsFor out.new messages }
+    ensures stands { StandsStill out.old out.new }
 {
     let _state = out.state();
     act(out, what, epoch, now)

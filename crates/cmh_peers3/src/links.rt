@@ -1,14 +1,14 @@
 //! Peers and the links of a base: a site that begins an epoch writes what its ends know, and a site that starts finds its
 //! ends by that and by the entries behind it.
 
-ghost use Rattle.std.specs.Prelude.{◌≡◌, ◌+◌, ◌<◌, ◌≤◌, ◌^◌, ◌∷◌, [], ℕ, length, map, Contains, Err, IfOk, OnOk, MatchOption};
+ghost use Rattle.std.specs.Prelude.{◌≡◌, ◌+◌, ◌<◌, ◌≤◌, ◌^◌, ◌∷◌, [], length, map, Err, IfOk, OnOk, MatchOption};
 ghost use Rattle.std.specs.List.{AllByRecursion};
 ghost use Rattle.cmh_model3.specs.Journals.{message_from, receipts_of};
 ghost use Rattle.cmh_wire3.specs.Wire.{IsMessage};
 ghost use Rattle.cmh_segment3.specs.Base.{IsLinkRow, link_place};
 ghost use Rattle.cmh_segment3.specs.Rows.{AreRows};
 ghost use Rattle.cmh_peers3.specs.Links as spec;
-ghost use Rattle.cmh_peers3.specs.Links.{CanBeRows, EntriesGoOn, PeersComeBack, got_since, link_at, met_from, unused, with_receipts};
+ghost use Rattle.cmh_peers3.specs.Links.{CanBeRows, EntriesGoOn, HasTooMany, PeersComeBack, got_since, link_at, met_from, unused, with_receipts};
 
 use crate::peer::Peer;
 use cmh_model3::{Entry, Event, Message, SiteId};
@@ -40,8 +40,7 @@ pub fn peers_from(
 ) -> Result<Vec<Peer>, Unmet>
     requires { AreRows IsLinkRow link_place links.now }
     ensures ok { IfOk result (λ peers. peers.items ≡ map (met_from links.now entries.now) them.now) }
-    ensures full { result ≡ Err Unmet.Full
-        → (s : ℕ) × Contains them.now s × (2 ^ 64 ≤ (got_since links.now entries.now s).got) }
+    ensures full { result ≡ Err Unmet.Full → HasTooMany links.now entries.now them.now }
 {
     let mut peers = Vec::new(alloc);
     for other in them {

@@ -5,14 +5,14 @@ use Rattle.std.proofs.lemmas.Grind.{flat_map-append}
 use Rattle.std.proofs.lemmas.List.{length-take-le, take-append-drop}
 use Rattle.cmh_model3.specs.declared.frame.Message.{Message}
 use Rattle.cmh_wire3.proofs.Marks.{mark-append}
-use Rattle.cmh_wire3.specs.Mark.{first_mark, mark_on}
+use Rattle.cmh_wire3.specs.Mark.{mark_on}
 use Rattle.cmh_wire3.specs.Wire.{spelled, spelling}
 use Rattle.cmh_resume3.specs.declared.sender.State.{State}
 use Rattle.cmh_resume3.specs.declared.sender.State.TheVariants.{Down, Asked, Running, Refused, Mismatched}
 use Rattle.cmh_resume3.specs.declared.sender.Task.{Task}
 use Rattle.cmh_resume3.specs.declared.sender.Task.TheVariants.{Rest, Dial, End, Note}
 use Rattle.cmh_resume3.specs.Within.{IsWithin}
-use Rattle.cmh_resume3.specs.Sender.{IsAsked, IsOpen, IsRunning, Sender, StandsFor, ended_state, known_to, next_of, noted_state, sent, state_by, with_kept, with_state}
+use Rattle.cmh_resume3.specs.Sender.{IsAsked, IsOpen, IsRunning, Sender, StandsFor, StandsSince, ended_state, known_to, next_of, noted_state, sent, state_by, with_kept, with_state}
 
 -- ---- states
 
@@ -83,19 +83,19 @@ marked_next m folded xs k x below is e =
     ∙ sym (marked_more m (take k xs) (x ∷ []))
     ∙ ap (λ l. mark_on m (spelled l)) (sym next)
 
-pub stands_more : (s : Sender) (messages : List Message) (m : Message) → StandsFor s messages → StandsFor (with_kept m s) (messages ++ m ∷ [])
-stands_more s messages m st = record {
+pub stands_more : (count mark : ℕ) (s : Sender) (messages : List Message) (m : Message) → StandsSince count mark s messages → StandsSince count mark (with_kept m s) (messages ++ m ∷ [])
+stands_more count mark s messages m st = record {
   past = st.past;
   count_is = st.count_is;
   mark_is = st.mark_is;
   all = sym (append_assoc st.past s.kept (m ∷ [])) ∙ ap (λ l. l ++ m ∷ []) st.all;
 }
 
-pub stands_still : (s : Sender) (state : State) (messages : List Message) → StandsFor s messages → StandsFor (with_state s state) messages
-stands_still s state messages st = record { past = st.past; count_is = st.count_is; mark_is = st.mark_is; all = st.all }
+pub stands_still : (count mark : ℕ) (s : Sender) (state : State) (messages : List Message) → StandsSince count mark s messages → StandsSince count mark (with_state s state) messages
+stands_still count mark s state messages st = record { past = st.past; count_is = st.count_is; mark_is = st.mark_is; all = st.all }
 
-pub stands_known : (s : Sender) (count : ℕ) (state : State) (messages : List Message) → IsOpen s count → StandsFor s messages → StandsFor (known_to count state s) messages
-stands_known s count state messages open_is st =
+pub stands_known : (from mark : ℕ) (s : Sender) (count : ℕ) (state : State) (messages : List Message) → IsOpen s count → StandsSince from mark s messages → StandsSince from mark (known_to count state s) messages
+stands_known from mark s count state messages open_is st =
     let least = open_is.least in
     let most = open_is.most in
     let past_is = st.count_is in
@@ -105,7 +105,7 @@ stands_known s count state messages open_is st =
     record {
       past = st.past ++ take (count - s.acked) s.kept;
       count_is = omega arith;
-      mark_is = marked_more first_mark st.past (take (count - s.acked) s.kept) ∙ ap (λ m. mark_on m (spelled (take (count - s.acked) s.kept))) st.mark_is;
+      mark_is = marked_more mark st.past (take (count - s.acked) s.kept) ∙ ap (λ m. mark_on m (spelled (take (count - s.acked) s.kept))) st.mark_is;
       all = append_assoc st.past (take (count - s.acked) s.kept) (drop (count - s.acked) s.kept)
           ∙ ap (λ l. st.past ++ l) (take-append-drop (count - s.acked) s.kept) ∙ st.all;
     }

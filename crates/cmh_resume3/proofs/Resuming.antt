@@ -16,6 +16,7 @@ use Rattle.cmh_resume3.specs.Link.{Link, IsNewest, at_one, new_link, receipts, s
 use Rattle.cmh_resume3.specs.Moments.{Moment, Moments, Wrote, Synced, Handed, SenderOpened, Dialled, HeardAnswer, HeardAcknowledgement, HeardRefusal, WroteOn, SenderEnded, SenderTurned, SenderTicked, Claimed, HelloRefused, Took, ReceiverSynced, Acknowledged, ReceiverHeard, ReceiverRested, ReceiverClosed, ReceiverOpened, Lost}
 use Rattle.cmh_resume3.specs.Within.{IsWithin}
 use Rattle.cmh_resume3.specs.Sender.{HearsAcknowledgement, HearsAnswer, IsAsked, IsOpen, IsRunning, Sender, StandsFor, WritesNext, known_to, next_of, pause_of, sent, spoke_of, task_of, with_kept, with_state}
+use Rattle.cmh_wire3.specs.Mark.{first_mark}
 use Rattle.cmh_resume3.proofs.Ends.{IsQuieter, quiet_by, quiet_down, quiet_ended, quiet_mismatched, quiet_noted, quiet_refused, sent_all, sent_known, stands_known, stands_more, stands_still, within_more, within_next}
 use Rattle.cmh_resume3.proofs.Lines.{LineFits, line_apart, line_claimed, line_left, line_longer, line_older, line_passed, line_quieter, line_read, line_said, line_started, line_synced, line_taken, line_unclaimed, line_written}
 use Rattle.cmh_resume3.proofs.Lists.{all_with_one, at_each, begins_longer, begins_shorter, begins_within, length_grows, none_long, one_of_all, same_front}
@@ -42,7 +43,7 @@ not_newest l c d newest far other = far (omega (arith, newest, other))
 
 state_fits : (l : Link) → Fits l → (s : State) → IsQuieter l.out.state s → Fits (record l { out = with_state l.out s })
 state_fits l h s q = record {
-  stands = stands_still l.out s l.handed h.stands;
+  stands = stands_still 0 first_mark l.out s l.handed h.stands;
   within = q.within l.out.acked (sent l.out) h.within;
   order = h.order;
   counts = h.counts;
@@ -59,7 +60,7 @@ answer_fits : (l : Link) (c : ℕ) (a : Answer) (epoch now : ℕ) (out : Sender)
     → (l.line c).answer ≡ Some a → HearsAnswer l.out a epoch now out heard → Fits (record l { out = out })
 answer_fits l c a epoch now out Turn h newest asks answer hears = out_fits l out l.out hears.1 h
 answer_fits l c a epoch now out GoOn h newest asks answer hears = out_fits l out (known_to a.count (Running a.count now now) l.out) hears.3 record {
-  stands = stands_known l.out a.count (Running a.count now now) l.handed hears.1 h.stands;
+  stands = stands_known 0 first_mark l.out a.count (Running a.count now now) l.handed hears.1 h.stands;
   within = (omega arith, omega arith);
   order = h.order;
   counts = h.counts;
@@ -89,7 +90,7 @@ heard_fits l c before after a epoch now out GoOn h runs acks hears =
     let is_open : IsOpen l.out count = record { least = omega arith; most = omega arith } in
     let same = sent_known l.out count state is_open in
     out_fits l out (known_to count state l.out) hears.2 record {
-      stands = stands_known l.out count state l.handed is_open h.stands;
+      stands = stands_known 0 first_mark l.out count state l.handed is_open h.stands;
       within = (omega arith, omega arith);
       order = h.order;
       counts = h.counts;
@@ -139,7 +140,7 @@ wrote_fits l c now m out h newest writes =
         → l.out.acked ≤ next_of l.out.state + 1 → next_of l.out.state + 1 ≤ sent l.out
         → Fits (record l { out = with_state l.out (Running (next_of l.out.state + 1) now heard); line = at_one l.line c (with_frame m (l.line c)) })
     written heard count are first last = record {
-      stands = stands_still l.out (Running (next_of l.out.state + 1) now heard) l.handed h.stands;
+      stands = stands_still 0 first_mark l.out (Running (next_of l.out.state + 1) now heard) l.handed h.stands;
       within = (first, last);
       order = h.order;
       counts = h.counts;
@@ -155,7 +156,7 @@ moment_fits : (l n : Link) → Fits l → Moment l n → Fits n
 moment_fits l n h (Wrote m e) = subst Fits (sym e) record { stands = h.stands; within = h.within; order = h.order; counts = h.counts; unsynced = h.unsynced; known = h.known; lines = h.lines }
 moment_fits l n h (Synced e) = subst Fits (sym e) record { stands = h.stands; within = h.within; order = h.order; counts = h.counts; unsynced = h.unsynced; known = h.known; lines = h.lines }
 moment_fits l n h (Handed m rest w e) = subst Fits (sym e) record {
-  stands = stands_more l.out l.handed m h.stands;
+  stands = stands_more 0 first_mark l.out l.handed m h.stands;
   within = within_more l.out.acked (sent l.out) (sent (with_kept m l.out)) l.out.state (let both = length-append l.out.kept (m ∷ []) in omega arith) h.within;
   order = begins_longer (receipts l) l.handed (m ∷ []) h.order;
   counts = h.counts;
@@ -164,7 +165,7 @@ moment_fits l n h (Handed m rest w e) = subst Fits (sym e) record {
   lines = λ c. line_longer l.handed (receipts l) (length l.got) l.dialled l.out.state l.into.claim c (l.line c) (h.lines c) (m ∷ []);
 }
 moment_fits l n h (SenderOpened kept past later begins le all e) = subst Fits (sym e) record {
-  stands = record { past = past; count_is = refl; mark_is = refl; all = all };
+  stands = record { past = past; count_is = omega arith; mark_is = refl; all = all };
   within = tt;
   order = begins_longer (receipts l) l.handed (l.waiting ++ kept) h.order;
   counts = h.counts;
@@ -174,7 +175,7 @@ moment_fits l n h (SenderOpened kept past later begins le all e) = subst Fits (s
       (line_quieter l.handed (receipts l) (length l.got) l.dialled l.out.state l.into.claim c (l.line c) (h.lines c) (Down 0 0) (quiet_down l.out.state 0 0)) (l.waiting ++ kept);
 }
 moment_fits l n h (Dialled now down e) = subst Fits (sym e) record {
-  stands = stands_still l.out (Asked now (pause_of l.out.state)) l.handed h.stands;
+  stands = stands_still 0 first_mark l.out (Asked now (pause_of l.out.state)) l.handed h.stands;
   within = tt;
   order = h.order;
   counts = h.counts;

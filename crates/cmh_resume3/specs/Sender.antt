@@ -1,7 +1,7 @@
 -- The sender's end of a link, and what each call makes of it. Times are milliseconds.
 use Rattle.std.specs.Prelude.{◌≡◌, ◌≢◌, ℕ, ◌+◌, ◌-◌, ◌*◌, ◌<◌, ◌≤◌, ◌==◌, if◌then◌else◌, nat_le, min, max, List, [], ◌∷◌, ◌++◌, length, take, drop, slice_get, Option, None, Some}
 use Rattle.cmh_model3.specs.declared.frame.Message.{Message}
-use Rattle.cmh_wire3.specs.Mark.{mark_of, mark_on}
+use Rattle.cmh_wire3.specs.Mark.{first_mark, mark_on}
 use Rattle.cmh_wire3.specs.Wire.{spelled}
 use Rattle.cmh_hello3.specs.declared.acknowledgement.Acknowledgement.{Acknowledgement}
 use Rattle.cmh_hello3.specs.declared.answer.Answer.{Answer}
@@ -28,12 +28,17 @@ sent s = s.acked + length s.kept
 abbrev pub mark_at : Sender → ℕ → ℕ
 mark_at s count = mark_on s.mark (spelled (take (count - s.acked) s.kept))
 
--- the messages that it was ever given are these: those acknowledged, whose mark it has, and those kept
-pub record StandsFor (s : Sender) (messages : List Message) : Type 0 where
+-- The messages that it was given since so many of this mark are these: those acknowledged since then, with which it has its
+-- count and its mark, and those kept.
+pub record StandsSince (count mark : ℕ) (s : Sender) (messages : List Message) : Type 0 where
   pub past : List Message
-  pub count_is : length past ≡ s.acked
-  pub mark_is : mark_of (spelled past) ≡ s.mark
+  pub count_is : count + length past ≡ s.acked
+  pub mark_is : mark_on mark (spelled past) ≡ s.mark
   pub all : past ++ s.kept ≡ messages
+
+-- the messages that it was ever given
+abbrev pub StandsFor : Sender → List Message → Type 0
+StandsFor s messages = StandsSince 0 first_mark s messages
 
 -- ---- states
 

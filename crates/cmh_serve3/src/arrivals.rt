@@ -114,7 +114,7 @@ impl Arrival {
         if !site.teller.has_watchers() {
             return self.incoming.go_on(&mut site.node, filled, now);
         }
-        let Ok(messages) = self.incoming.upcoming() else {
+        let Ok(messages) = self.incoming.upcoming(site.node.epoch()) else {
             return Onward::Close;
         };
         let Ok(left) = site.teller.left_by(site.node.controller(), &messages) else {

@@ -6,6 +6,7 @@ ghost use Rattle.cmh_console.specs.Status.{IsStatus};
 use cmh_console::{Output, TopologyFileFault};
 use cmh_disk3::{NoFolder, NoSite};
 use cmh_frames::TopologyFault;
+use cmh_peers3::Unmet;
 use cmh_station3::{NotOpened, OpenFault};
 use std::alloc::{AllocError, AllocFailed};
 use std::fmt;
@@ -25,9 +26,10 @@ pub enum ServeFault {
     JournalDisk,
     /// The newest segment is damaged at this byte, or does not begin as a segment does.
     JournalDamaged(u64),
-    /// The newest segment is of another site, another world, or a later epoch.
+    /// The newest segment is of another site or another world.
     JournalOther,
-    /// The entry of this number, from 1, is not what the rules make of its event.
+    /// The entry of this number, from 1, is not what the rules make of its event; or, with 0, the newest segment begins in a
+    /// state that the site can't be in.
     JournalUnlawful(u64),
     /// A port can't be listened on, or the site can't wait any more.
     Listen,
@@ -118,8 +120,18 @@ fn fault_of_opening(fault: OpenFault) -> ServeFault {
         OpenFault::Memory => ServeFault::Memory,
         OpenFault::BadHead => ServeFault::JournalDamaged(0),
         OpenFault::Damaged(offset) => ServeFault::JournalDamaged(offset),
-        OpenFault::OtherSite | OpenFault::LaterEpoch => ServeFault::JournalOther,
+        OpenFault::OtherSite => ServeFault::JournalOther,
+        OpenFault::BadBase => ServeFault::JournalUnlawful(0),
         OpenFault::Unlawful(entry) => ServeFault::JournalUnlawful(entry),
+    }
+}
+
+impl From<Unmet> for ServeFault {
+    fn from(fault: Unmet) -> ServeFault {
+        match fault {
+            Unmet::Full => ServeFault::JournalUnlawful(0),
+            Unmet::Memory => ServeFault::Memory,
+        }
     }
 }
 

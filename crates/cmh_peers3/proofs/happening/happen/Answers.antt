@@ -6,6 +6,6 @@ use Rattle.cmh_peers3.proofs.Standing.{does_stands}
 use Rattle.cmh_peers3.proofs.happening.happen.Goals as goal
 
 pub returns-clause-stands : goal.returns-clause-stands
-returns-clause-stands c = λ ms st.
+returns-clause-stands c = λ count mark ms st.
     let s = c.args.out.now in
-    does_stands s c.args.what.now c.args.epoch c.args.now _ _ ms (subst (λ (x : State). IsWithin s.acked (sent s) x) c.state-state.ensures.state c.state-state.ensures.within) c.act.ensures st
+    does_stands count mark s c.args.what.now c.args.epoch c.args.now _ _ ms (subst (λ (x : State). IsWithin s.acked (sent s) x) c.state-state.ensures.state c.state-state.ensures.within) c.act.ensures st

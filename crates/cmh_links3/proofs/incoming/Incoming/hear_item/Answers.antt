@@ -1,4 +1,4 @@
-use Rattle.std.proofs.Common.{ap, ◌∙◌, subst}
+use Rattle.std.proofs.Common.{ℕ, ◌<◌, ◌≤◌, ap, ◌∙◌, subst}
 use Rattle.cmh_hello3.specs.Stream.{IsItemFront}
 use Rattle.cmh_hello3.specs.declared.item.Item.{Item}
 use Rattle.cmh_hello3.specs.declared.item.Item.TheVariants.{Note}
@@ -11,7 +11,7 @@ pub returns-then-is_later-clause-listens : goal.returns-then-is_later-clause-lis
 returns-then-is_later-clause-listens g c =
     let front = subst (λ (i : Item). IsItemFront c.args.self.now.unread (Whole i c.args.count)) c.in-Note.is c.requires.front in
     listens_later g.F.SegmentFile.told g.F.SegmentFile.has_failed _ _ c.args.self.now _ c.in-Note.field-0 c.args.count front
-    (c.is_later.ensures.later c.if-is_later.true c.in-Note.field-0 c.in-Note.is)
+    (subst (λ (own : ℕ). own < c.in-Note.field-0) c.epoch.ensures (c.is_later.ensures.later c.if-is_later.true c.in-Note.field-0 c.in-Note.is))
 
 pub returns-in-Message-clause-listens : goal.returns-in-Message-clause-listens
 returns-in-Message-clause-listens g c =
@@ -20,9 +20,9 @@ returns-in-Message-clause-listens g c =
 
 pub returns-else-is_later-clause-listens : goal.returns-else-is_later-clause-listens
 returns-else-is_later-clause-listens g c =
-    let zero = c.is_later.ensures.now c.if-is_later.false c.in-Note.field-0 c.in-Note.is in
-    let front = subst (λ (i : Item). IsItemFront c.args.self.now.unread (Whole i c.args.count)) (c.in-Note.is ∙ ap Note zero) c.requires.front in
-    listens_note g.F.SegmentFile.told g.F.SegmentFile.has_failed _ _ c.args.self.now _ _ _ _ _ c.args.count front c.skip.ensures c.take.ensures.gives
+    let front = subst (λ (i : Item). IsItemFront c.args.self.now.unread (Whole i c.args.count)) c.in-Note.is c.requires.front in
+    let no_later = subst (λ (own : ℕ). c.in-Note.field-0 ≤ own) c.epoch.ensures (c.is_later.ensures.now c.if-is_later.false c.in-Note.field-0 c.in-Note.is) in
+    listens_note g.F.SegmentFile.told g.F.SegmentFile.has_failed _ _ c.args.self.now _ _ _ _ _ c.in-Note.field-0 c.args.count no_later front c.skip.ensures c.take.ensures.gives
 
 pub returns-in-Refused-clause-listens : goal.returns-in-Refused-clause-listens
 returns-in-Refused-clause-listens g c =

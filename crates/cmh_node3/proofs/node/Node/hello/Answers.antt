@@ -5,7 +5,7 @@ use Rattle.cmh_hello3.specs.declared.hello.Hello.{Hello}
 use Rattle.cmh_resume3.specs.Receiver.{Claims, IsFit}
 use Rattle.cmh_peers3.specs.Peers.{IsPlaceOf}
 use Rattle.cmh_peers3.specs.declared.peer.Peer.{Peer}
-use Rattle.cmh_node3.specs.Nodes.{IsExact, Node, kept_last}
+use Rattle.cmh_node3.specs.Nodes.{IsExact, Node, epoch_of, kept_last}
 use Rattle.cmh_node3.proofs.Places.{claims_same, into_exact, none_missed}
 use Rattle.cmh_node3.proofs.node.Node.hello.Goals as goal
 
@@ -61,7 +61,7 @@ returns-clause-ok g c =
       is_open = c.in-None.is;
       at_end = into;
       of_sender = ap (λ (p : Peer). p.site) (sym (get_or_from_slice_get s.peers.items place into.peer into.peer into.there)) ∙ whose;
-      speaks = c.in-Ok-claim_at.ensures.speaks ∙ ap (λ (e : ℕ). hello_of s.world s.site c.args.hello.now.from e) c.new.ensures;
+      speaks = c.in-Ok-claim_at.ensures.speaks ∙ ap (λ (e : ℕ). hello_of s.world s.site c.args.hello.now.from e) (c.epoch.ensures ∙ ap epoch_of (sym c.self.view_is));
       rest = refl;
     })
 

@@ -14,18 +14,9 @@ receive_at-requires-clause-claimed g c = λ d.
 
 pub receive_at-requires-clause-countable : goal.receive_at-requires-clause-countable
 receive_at-requires-clause-countable g c = λ d some.
-    let told = g.F.SegmentFile.told in
-    let works = g.F.SegmentFile.has_failed in
     let s = c.self.inside in
-    let n : Node g.row.F.Denot = record { world = s.world; site = s.site; station = s.station; peers = s.peers.items; others = s.others.items; sealed = s.sealed; last = kept_last s.last } in
-    let steps = c.self.invariant.0 in
-    let ok = c.in-Ok-step_until in
-    let whose : IsClaimant s.peers.items c.args.place c.args.line (Some c.in-Some-claimant.from) = subst (λ (l : List Peer). IsClaimant l c.args.place c.args.line (Some c.in-Some-claimant.from)) c.deref.ensures.value c.in-Some-claimant.ensures in
-    let are : c.deref-2.result.now ≡ map (got_event c.in-Some-claimant.from) c.args.messages.now = c.deref-2.ensures.value ∙ c.in-Ok.ensures in
-    let count : c.taken_by-taken.result.count ≡ accepted ok.answers.items = c.taken_by-taken.ensures.count ∙ ap accepted c.deref-in-Ok-step_until.ensures.value in
-    let closed : c.taken_by-taken.result.closed ≡ list_any is_unlawful ok.answers.items = c.taken_by-taken.ensures.closed ∙ ap (list_any is_unlawful) c.deref-in-Ok-step_until.ensures.value in
-    can_count told works n steps c.args.place c.args.line c.args.messages.now c.first_of-first.result.now c.taken_by-taken.result.count c.deref-2.result.now c.in-Some-claimant.from ok.answers.items c.step_until.new.self d
-    c.self.invariant.1 (subst (λ (x : Node g.row.F.Denot). c.args.place < length x.peers) (sym c.self.view_is) c.requires) whose ok.ensures.ok ok.ensures.until are count c.first_of-first.ensures some
+    can_count s.peers.items c.args.place c.index.result.now d c.args.messages.now c.first_of-first.result.now c.taken_by-taken.result.count
+    (subst (λ (x : Node g.row.F.Denot). c.args.place < length x.peers) (sym c.self.view_is) c.requires) c.index.ensures (c.can_count.ensures c.if-not-can_count.false) c.first_of-first.ensures
 
 pub invariant_of-self : goal.invariant_of-self
 invariant_of-self g c =
