@@ -383,7 +383,7 @@ fn serve_site3<R, I: BufRead + Ahead, W: Write, E: Write>(
     err: &mut Output<E>,
 ) -> u8
 where
-    R: System + AllocGlobal + Eprint + Files<File = File>,
+    R: System + AllocGlobal + Eprint + Files<File = File> + Send + 'static,
     ensures { IsStatus result }
 {
     let start = ServeStart {
@@ -478,7 +478,7 @@ fn serve_clients3<R, W: Write, E: Write>(
     err: &mut Output<E>,
 ) -> u8
 where
-    R: System + AllocGlobal + Eprint + Files<File = File>,
+    R: System + AllocGlobal + Eprint + Files<File = File> + Send + 'static,
     ensures { IsStatus result }
 {
     let start = ServeStart {

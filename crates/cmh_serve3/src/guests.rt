@@ -44,6 +44,11 @@ impl Guest {
         }
     }
 
+    /// Whether something is to be sent to it, and its socket may take it.
+    pub fn may_write(&self) -> bool {
+        self.socket.takes_more() && !self.talker.to_say().is_empty()
+    }
+
     /// Sends what it is to be sent, as far as the socket takes it.
     pub fn write(&mut self) {
         for _ in 0..MOST_QUEUED {

@@ -1,4 +1,4 @@
-//! The one thread of a site: what it waits for, and its turns.
+//! The thread that has the site: what it waits for, and its turns.
 
 use crate::arrivals::{Arrival, MOST_ARRIVALS};
 use crate::calls::Call;
@@ -6,7 +6,8 @@ use crate::console::Console;
 use crate::descriptor::Descriptor;
 use crate::doors::{Doors, is_of_port};
 use crate::guests::{Guest, MOST_CLIENTS};
-use crate::places::{places, put_at, take_at};
+use crate::helper::Helper;
+use crate::places::{free_place, put_at, take_at, trim};
 use crate::serve_fault::ServeFault;
 use crate::socket::Socket;
 use crate::voice::SiteVoice;
@@ -38,6 +39,16 @@ const SCRATCH: usize = 1 << 14;
 /// How many batches of clients' events are taken in a turn, at most.
 const MOST_ROUNDS: usize = 4;
 
+/// How often it looks whether more clients have said something, before it takes what they said.
+const MOST_LOOKS: usize = 3;
+
+/// Where so many clients can be sent something, another thread helps: with fewer, waking it takes as long as it saves.
+const MANY_ANSWERS: usize = 12;
+
+/// Where so many clients can be sent something, other sites are sent theirs while the helper begins: so their syncs are over
+/// before the next one here. With fewer, clients come first, so that they go on meanwhile.
+const SITES_FIRST: usize = 32;
+
 /// How long it waits while nothing comes, in milliseconds: while a link is not open, and else.
 const SHORT_WAIT: u64 = 20;
 
@@ -58,6 +69,8 @@ pub(crate) struct Hub<F: SegmentFile> {
     calls: Vec<Call>,
     arrivals: Vec<Option<Arrival>>,
     guests: Vec<Option<Guest>>,
+    /// Who helps to write to clients.
+    pub helper: Helper,
     console: Option<Console>,
     /// Where notes go, if anybody wants them.
     errors: Option<Descriptor>,
@@ -77,6 +90,7 @@ pub(crate) struct Spare {
     events: Events,
     guests: Vec<Option<Guest>>,
     arrivals: Vec<Option<Arrival>>,
+    helper: Helper,
 }
 
 impl Spare {
@@ -84,8 +98,9 @@ impl Spare {
         Ok(Spare {
             scratch: Vec::from_elem(alloc, 0, SCRATCH)?,
             events: Events::with_capacity(alloc, 1024)?,
-            guests: places(alloc, MOST_CLIENTS)?,
-            arrivals: places(alloc, MOST_ARRIVALS)?,
+            guests: Vec::with_capacity(alloc, MOST_CLIENTS)?,
+            arrivals: Vec::with_capacity(alloc, MOST_ARRIVALS)?,
+            helper: Helper::new(alloc)?,
         })
     }
 }
@@ -131,6 +146,7 @@ impl<F: SegmentFile> Hub<F> {
             events,
             guests,
             arrivals,
+            helper,
         } = spare;
         Hub {
             alloc,
@@ -142,6 +158,7 @@ impl<F: SegmentFile> Hub<F> {
             calls,
             arrivals,
             guests,
+            helper,
             console,
             errors,
             scratch,
@@ -161,21 +178,27 @@ impl<F: SegmentFile> Hub<F> {
     ) -> Result<(), ServeFault> {
         for _ in rt.forever() {
             let patience = self.patience();
-            if self.poll.poll(&mut self.events, Some(patience)).is_err() {
-                return Err(ServeFault::Listen);
-            }
+            self.wait(patience)?;
             let Ok(since) = rt.monotonic() else {
                 return Err(ServeFault::Listen);
             };
-            self.look_at_all();
             self.read_console(input)?;
-            self.turn(rt, since);
+            self.turn(rt, since)?;
             self.tell_notes(voice);
             if self.write_console(out)? {
                 return Ok(());
             }
         }
         unreachable!()
+    }
+
+    /// Waits until a connection is ready for something, and notes for what.
+    fn wait(&mut self, patience: Duration) -> Result<(), ServeFault> {
+        if self.poll.poll(&mut self.events, Some(patience)).is_err() {
+            return Err(ServeFault::Listen);
+        }
+        self.look_at_all();
+        Ok(())
     }
 
     /// Reads lines of standard input.
@@ -256,22 +279,23 @@ impl<F: SegmentFile> Hub<F> {
     }
 
     /// Does what can be done at once.
-    fn turn<R: Net>(&mut self, net: &R, since: Duration) {
+    fn turn<R: Wait + Net>(&mut self, rt: &R, since: Duration) -> Result<(), ServeFault> {
         let now = millis(since);
         if self.may_accept {
             self.may_accept = self.accept_links(now) | self.accept_clients();
         }
         self.hear_sites(now);
-        self.hear_clients();
+        self.hear_clients()?;
         for _ in 0..MOST_ROUNDS {
             if !self.round() {
                 break;
             }
         }
-        self.call_sites(net, now);
+        self.tell_all(rt, now);
         self.site.look(since.as_secs());
         self.tell_clients();
         self.write_clients();
+        Ok(())
     }
 
     /// Notes what each connection is ready for.
@@ -327,8 +351,8 @@ impl<F: SegmentFile> Hub<F> {
     }
 
     /// A free place for a connection of another site, or that of one that has told no hello for long.
-    fn place_for_site(&self, now: u64) -> Option<usize> {
-        match self.arrivals.iter().position(|arrival| arrival.is_none()) {
+    fn place_for_site(&mut self, now: u64) -> Option<usize> {
+        match free_place(&mut self.arrivals, MOST_ARRIVALS) {
             Some(place) => Some(place),
             None => self.arrivals.iter().position(|arrival| match arrival {
                 Some(arrival) => arrival.makes_room(now),
@@ -351,7 +375,7 @@ impl<F: SegmentFile> Hub<F> {
     }
 
     fn let_client_in(&mut self, stream: TcpStream) {
-        let Some(place) = self.guests.iter().position(|guest| guest.is_none()) else {
+        let Some(place) = free_place(&mut self.guests, MOST_CLIENTS) else {
             return;
         };
         let token = Token(FIRST_GUEST.saturating_add(place));
@@ -367,6 +391,7 @@ impl<F: SegmentFile> Hub<F> {
                 self.hear_site(place, arrival, now);
             }
         }
+        trim(&mut self.arrivals);
     }
 
     /// Takes what came on a connection, which has this place.
@@ -397,7 +422,29 @@ impl<F: SegmentFile> Hub<F> {
         }
     }
 
-    fn hear_clients(&mut self) {
+    /// Reads what clients sent, and what more of them send meanwhile.
+    fn hear_clients(&mut self) -> Result<(), ServeFault> {
+        for _ in 0..MOST_LOOKS {
+            self.read_clients();
+            if !self.may_be_joined() {
+                return Ok(());
+            }
+            self.wait(Duration::ZERO)?;
+            if self.events.is_empty() {
+                return Ok(());
+            }
+        }
+        self.read_clients();
+        Ok(())
+    }
+
+    /// Whether some clients have said something, and others may have meanwhile.
+    fn may_be_joined(&self) -> bool {
+        let speakers = self.speakers();
+        speakers > 0 && speakers < self.clients()
+    }
+
+    fn read_clients(&mut self) {
         for guest in self.guests.iter_mut() {
             if let Some(guest) = guest {
                 guest.read(&mut self.scratch);
@@ -407,18 +454,23 @@ impl<F: SegmentFile> Hub<F> {
 
     /// Takes events of clients as far as one append takes them, and answers them. Answers whether there were any.
     fn round(&mut self) -> bool {
+        let speakers = self.speakers();
+        if speakers == 0 {
+            return false;
+        }
+        let most = MOST_TOGETHER.div_ceil(speakers);
         let figures = self.figures();
-        let most = MOST_TOGETHER.div_ceil(self.speakers().max(1));
-        let count = CONSOLE + 1;
+        let count = self.guests.len().saturating_add(1);
         self.site.batch.clear();
         let first = self.first;
         self.first = first.saturating_add(1) % count;
         for step in 0..count {
-            let place = first.saturating_add(step) % count;
+            let at = first.saturating_add(step) % count;
             if self.site.batch.is_full() {
-                self.first = place;
+                self.first = at;
                 break;
             }
+            let place = if at < self.guests.len() { at } else { CONSOLE };
             if let Some(talker) = talker_at(&mut self.guests, &mut self.console, place) {
                 talker.take_lines(place, most, &mut self.site, &figures);
             }
@@ -445,12 +497,17 @@ impl<F: SegmentFile> Hub<F> {
     }
 
     fn figures(&self) -> Figures {
-        let clients = self.guests.iter().filter(|guest| guest.is_some());
         Figures {
-            clients: clients
-                .count()
-                .saturating_add(usize::from(self.console.is_some())),
+            clients: self.clients(),
         }
+    }
+
+    /// How many clients there are.
+    fn clients(&self) -> usize {
+        let guests = self.guests.iter().filter(|guest| guest.is_some());
+        guests
+            .count()
+            .saturating_add(usize::from(self.console.is_some()))
     }
 
     /// Says the replies to the clients that wait for them. A client for which there is none is closed.
@@ -484,7 +541,8 @@ impl<F: SegmentFile> Hub<F> {
             return;
         }
         let mut watchers = false;
-        for place in 0..=CONSOLE {
+        let guests = 0..self.guests.len();
+        for place in guests.chain(CONSOLE..=CONSOLE) {
             if let Some(talker) = talker_at(&mut self.guests, &mut self.console, place) {
                 watchers |= talker.watches();
                 talker.tell(self.site.teller.news());
@@ -493,6 +551,31 @@ impl<F: SegmentFile> Hub<F> {
         self.site.teller.told(watchers);
     }
 
+    /// Writes what clients and other sites are to be sent.
+    fn tell_all<R: Wait + Net>(&mut self, rt: &R, now: u64) {
+        let answers = self.answers();
+        if answers >= MANY_ANSWERS {
+            self.helper.take(rt, &mut self.guests);
+        } else {
+            self.write_clients();
+        }
+        if answers < SITES_FIRST {
+            self.helper.give_back(rt, &mut self.guests);
+        }
+        self.call_sites(rt, now);
+        self.helper.give_back(rt, &mut self.guests);
+    }
+
+    /// How many clients can be sent something.
+    fn answers(&self) -> usize {
+        let answered = self.guests.iter().filter(|guest| match guest {
+            Some(guest) => guest.may_write(),
+            None => false,
+        });
+        answered.count()
+    }
+
+    /// Writes what clients are to be sent, and closes those that are over.
     fn write_clients(&mut self) {
         for guest in self.guests.iter_mut() {
             if let Some(client) = guest {
@@ -502,6 +585,7 @@ impl<F: SegmentFile> Hub<F> {
                 }
             }
         }
+        trim(&mut self.guests);
     }
 }
 

@@ -1,5 +1,5 @@
-//! A running site of edition 3: one thread that waits for its links, its clients and the time, and gives what comes to the
-//! site. It starts again on its journal, and its links resume.
+//! A running site of edition 3: a thread that waits for its links, its clients and the time, and gives what comes to the site,
+//! and one that helps it to write answers. It starts again on its journal, and its links resume.
 #![tactic(auto)]
 
 mod arrivals;
@@ -8,6 +8,7 @@ mod console;
 mod descriptor;
 mod doors;
 mod guests;
+mod helper;
 mod hub;
 mod opening;
 mod places;

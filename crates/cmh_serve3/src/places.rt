@@ -1,14 +1,27 @@
-//! Places for connections, each of which is empty or has one.
+//! Places for connections, each of which is empty or has one. No more of them are looked at than were taken at one time.
 
-use std::alloc::{AllocError, Global};
-
-/// So many empty places.
-pub(crate) fn places<T: Drop>(alloc: Global, count: usize) -> Result<Vec<Option<T>>, AllocError> {
-    let mut places = Vec::with_capacity(alloc, count)?;
-    for _ in 0..count {
-        places.push(None)?;
+/// A place that is empty, of so many at most.
+pub(crate) fn free_place<T: Drop>(places: &mut Vec<Option<T>>, most: usize) -> Option<usize> {
+    let free = places.iter().position(|place| place.is_none());
+    if free.is_some() {
+        return free;
     }
-    Ok(places)
+    let next = places.len();
+    if next >= most || places.push(None).is_err() {
+        return None;
+    }
+    Some(next)
+}
+
+/// Takes the empty places at the end away.
+pub(crate) fn trim<T: Drop>(places: &mut Vec<Option<T>>) {
+    for _ in 0..places.len() {
+        match places.last() {
+            Some(None) => {}
+            _ => return,
+        }
+        places.pop();
+    }
 }
 
 /// What stands at a place, which is empty then.

@@ -21,6 +21,7 @@ use std::io::{BufRead, Write};
 use std::net::Net;
 use std::rt::Files;
 use std::sync::Wait;
+use std::thread::Threads;
 use std::time::Clock;
 
 /// What a site of edition 3 is started with.
@@ -52,7 +53,16 @@ pub fn run_service3<R, W: Write, E: Write, V: SiteVoice>(
     voice: Option<V>,
 ) -> u8
 where
-    R: Wait + Clock + Net + AllocGlobal + Files<File = File>,
+    R: Wait
+        + Threads
+        + Clock
+        + Net
+        + AllocGlobal
+        + Files<File = File>
+        + Copy
+        + Send
+        + Drop
+        + 'static,
     V: Drop,
     ensures status { IsStatus result }
 
@@ -86,7 +96,16 @@ pub fn run_site3<R, I: BufRead + Ahead, W: Write, E: Write, V: SiteVoice>(
     voice: Option<V>,
 ) -> u8
 where
-    R: Wait + Clock + Net + AllocGlobal + Files<File = File>,
+    R: Wait
+        + Threads
+        + Clock
+        + Net
+        + AllocGlobal
+        + Files<File = File>
+        + Copy
+        + Send
+        + Drop
+        + 'static,
     V: Drop,
     ensures { IsStatus result }
 {
@@ -122,11 +141,16 @@ fn serve<R, I: BufRead + Ahead, W: Write, V: SiteVoice + Drop>(
     voice: Option<V>,
 ) -> Result<(), ServeFault>
 where
-    R: Wait + Clock + Net + Files<File = File>,
+    R: Wait + Threads + Clock + Net + Files<File = File> + Copy + Send + Drop + 'static,
 {
     let mut hub = open_hub(rt, alloc, start, port, voice.is_some())?;
     let Lines { input, out } = lines;
-    run(rt, &mut hub, input, out, voice)
+    if port.is_some() {
+        hub.helper.start(rt);
+    }
+    let ended = run(rt, &mut hub, input, out, voice);
+    hub.helper.end(rt);
+    ended
 }
 
 /// Runs it from the first word on standard output to the last.
