@@ -1,14 +1,16 @@
 -- What the words of a command line name, and how the program ends.
 use Rattle.std.specs.Prelude.{◌≡◌, ℕ, ◌⊎◌, List, codes, option_map, Option, None, Some}
 use Rattle.clap.specs.declared.parser.matches.ArgMatches.{ArgMatches}
+use Rattle.clap.specs.declared.parser.matches.Found.{Found}
 use Rattle.clap.specs.Matches.{first_value, found_of, one_text, subcommand_name_of}
 use Rattle.clap.specs.Simple.{subcommand_rows_of}
 use Rattle.clap.specs.Walk.{rows_of}
 use Rattle.cmh_frames.specs.Number.{IsNumber}
 use Rattle.cmh_console.specs.Status.{IsStatus}
 use Rattle.cmh_commands.specs.Drawing.{TellsColumn}
-use Rattle.cmh_commands.specs.Files.{IsUnset}
+use Rattle.cmh_commands.specs.Files.{AsksFor, IsUnset}
 use Rattle.cmh_commands.specs.Numbers.{TellsNumber}
+use Rattle.cmh_files3.specs.declared.more.More.{More}
 
 -- the command that is named is the audit
 abbrev pub NamesAudit : ArgMatches → Type 0
@@ -57,101 +59,58 @@ abbrev pub ReadsNoInput : ArgMatches → Type 0
 ReadsNoInput matches =
     NamesAudit matches ⊎ NamesShow matches ⊎ NamesDraw matches ⊎ NamesCluster matches ⊎ NamesNewWorld matches
 
+-- it holds of the words behind the name of the command
+abbrev pub OfWords : ArgMatches → (Found → Type 0) → Type 0
+OfWords matches Holds = (words : ArgMatches)
+    → option_map (λ p. p.1) (subcommand_rows_of matches) ≡ Some (rows_of (found_of words)) → Holds (found_of words)
+
 -- no folder for journals is named
 abbrev pub NamesNoFolder : ArgMatches → Type 0
-NamesNoFolder matches = (words : ArgMatches)
-    → option_map (λ p. p.1) (subcommand_rows_of matches) ≡ Some (rows_of (found_of words))
-    → first_value (found_of words) (codes "journals") ≡ None
+NamesNoFolder matches = OfWords matches (λ found. first_value found (codes "journals") ≡ None)
 
 -- one is named
 abbrev pub NamesFolder : ArgMatches → List ℕ → Type 0
-NamesFolder matches folder = (words : ArgMatches)
-    → option_map (λ p. p.1) (subcommand_rows_of matches) ≡ Some (rows_of (found_of words))
-    → first_value (found_of words) (codes "journals") ≡ Some folder
+NamesFolder matches folder = OfWords matches (λ found. first_value found (codes "journals") ≡ Some folder)
 
 -- no file for a page is named
 abbrev pub NamesNoPageFile : ArgMatches → Type 0
-NamesNoPageFile matches = (words : ArgMatches)
-    → option_map (λ p. p.1) (subcommand_rows_of matches) ≡ Some (rows_of (found_of words))
-    → first_value (found_of words) (codes "page") ≡ None
+NamesNoPageFile matches = OfWords matches (λ found. first_value found (codes "page") ≡ None)
 
 -- no edition is named
 abbrev pub NamesNoEdition : ArgMatches → Type 0
-NamesNoEdition matches = (words : ArgMatches)
-    → option_map (λ p. p.1) (subcommand_rows_of matches) ≡ Some (rows_of (found_of words))
-    → first_value (found_of words) (codes "edition") ≡ None
+NamesNoEdition matches = OfWords matches (λ found. first_value found (codes "edition") ≡ None)
 
 -- an edition is named; the command line takes 3 alone
 abbrev pub NamesEdition : ArgMatches → List ℕ → Type 0
-NamesEdition matches edition = (words : ArgMatches)
-    → option_map (λ p. p.1) (subcommand_rows_of matches) ≡ Some (rows_of (found_of words))
-    → first_value (found_of words) (codes "edition") ≡ Some edition
+NamesEdition matches edition = OfWords matches (λ found. first_value found (codes "edition") ≡ Some edition)
 
 -- an option of the command has this value
 abbrev pub NamesOption : ArgMatches → List ℕ → List ℕ → Type 0
-NamesOption matches name value = (words : ArgMatches)
-    → option_map (λ p. p.1) (subcommand_rows_of matches) ≡ Some (rows_of (found_of words))
-    → one_text (found_of words) name ≡ Some value
+NamesOption matches name value = OfWords matches (λ found. one_text found name ≡ Some value)
 
 -- the number of the site is told, and is this one of the numbers that sites have
 abbrev pub NamesSiteNumber : ArgMatches → ℕ → Type 0
-NamesSiteNumber matches site = IsNumber site × ((words : ArgMatches)
-    → option_map (λ p. p.1) (subcommand_rows_of matches) ≡ Some (rows_of (found_of words))
-    → TellsNumber (one_text (found_of words) (codes "site")) site)
+NamesSiteNumber matches site = IsNumber site × OfWords matches (λ found. TellsNumber (one_text found (codes "site")) site)
 
 -- an option of the command is this column, or it is not told
 abbrev pub NamesColumn : ArgMatches → List ℕ → Option ℕ → Type 0
-NamesColumn matches name told = (words : ArgMatches)
-    → option_map (λ p. p.1) (subcommand_rows_of matches) ≡ Some (rows_of (found_of words))
-    → TellsColumn (one_text (found_of words) name) told
+NamesColumn matches name told = OfWords matches (λ found. TellsColumn (one_text found name) told)
 
--- a run is not asked for
-abbrev pub NamesNoRun : ArgMatches → Type 0
-NamesNoRun matches = (words : ArgMatches)
-    → option_map (λ p. p.1) (subcommand_rows_of matches) ≡ Some (rows_of (found_of words))
-    → IsUnset (one_text (found_of words) (codes "run"))
-
--- it is asked for
-abbrev pub NamesRun : ArgMatches → Type 0
-NamesRun matches = NamesOption matches (codes "run") (codes "true")
-
--- the declarations of a run are not asked for
-abbrev pub NamesNoDeclarations : ArgMatches → Type 0
-NamesNoDeclarations matches = (words : ArgMatches)
-    → option_map (λ p. p.1) (subcommand_rows_of matches) ≡ Some (rows_of (found_of words))
-    → IsUnset (one_text (found_of words) (codes "declarations"))
-
--- they are asked for
-abbrev pub NamesDeclarations : ArgMatches → Type 0
-NamesDeclarations matches = NamesOption matches (codes "declarations") (codes "true")
+-- what the audit is asked to tell after its report
+abbrev pub AsksAudit : ArgMatches → More → Type 0
+AsksAudit matches more = OfWords matches (λ found. AsksFor found more)
 
 -- a page is not asked for
 abbrev pub NamesNoPage : ArgMatches → Type 0
-NamesNoPage matches = (words : ArgMatches)
-    → option_map (λ p. p.1) (subcommand_rows_of matches) ≡ Some (rows_of (found_of words))
-    → IsUnset (one_text (found_of words) (codes "page"))
+NamesNoPage matches = OfWords matches (λ found. IsUnset (one_text found (codes "page")))
 
 -- it is asked for
 abbrev pub NamesPage : ArgMatches → Type 0
 NamesPage matches = NamesOption matches (codes "page") (codes "true")
 
--- the reasons for stops are not asked for
-abbrev pub NamesNoReasons : ArgMatches → Type 0
-NamesNoReasons matches = (words : ArgMatches)
-    → option_map (λ p. p.1) (subcommand_rows_of matches) ≡ Some (rows_of (found_of words))
-    → IsUnset (one_text (found_of words) (codes "why"))
-
--- they are asked for
-abbrev pub NamesReasons : ArgMatches → Type 0
-NamesReasons matches = (words : ArgMatches)
-    → option_map (λ p. p.1) (subcommand_rows_of matches) ≡ Some (rows_of (found_of words))
-    → one_text (found_of words) (codes "why") ≡ Some (codes "true")
-
 -- a cluster is not to be strict
 abbrev pub NamesNoStrictness : ArgMatches → Type 0
-NamesNoStrictness matches = (words : ArgMatches)
-    → option_map (λ p. p.1) (subcommand_rows_of matches) ≡ Some (rows_of (found_of words))
-    → IsUnset (one_text (found_of words) (codes "strict"))
+NamesNoStrictness matches = OfWords matches (λ found. IsUnset (one_text found (codes "strict")))
 
 -- it is to be
 abbrev pub NamesStrictness : ArgMatches → Type 0

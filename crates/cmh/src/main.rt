@@ -4,12 +4,13 @@
 ghost use Rattle.std.specs.Prelude.{◌≡◌, ℕ, List, Option, Some, codes};
 ghost use Rattle.clap.specs.Matches.{found_of, one_text};
 ghost use Rattle.cmh_commands.specs.Drawing.{DrawsFiles, DrawsSome, part_between};
-ghost use Rattle.cmh_commands.specs.Files.{AuditsFiles, AuditsSomehow, DeclaresFiles, ExplainsFiles, IsUnset, ListsFiles, ShowsFiles};
+ghost use Rattle.cmh_commands.specs.Files.{AuditsFiles, IsUnset, ShowsFiles};
+ghost use Rattle.cmh_files3.specs.declared.more.More.{More};
 ghost use Rattle.cmh_commands.specs.NewWorld.{WorldEnds};
 ghost use Rattle.cmh_commands.specs.Numbers.{TellsNumber};
 ghost use Rattle.cmh_commands.specs.Paging.{PagesFiles, PlaysToPage};
 ghost use Rattle.cmh_commands.specs.Playing.{PlaysAlone, PlaysScript};
-ghost use Rattle.cmh.specs.CommandLine.{IsEnd, NamesAudit, NamesCluster, NamesColumn, NamesDeclarations, NamesDraw, NamesEdition, NamesFolder, NamesNewWorld, NamesNoDeclarations, NamesNoEdition, NamesNoFolder, NamesNoPage, NamesNoPageFile, NamesNoReasons, NamesNoRun, NamesNoStrictness, NamesNothing, NamesOption, NamesPage, NamesPlay, NamesReasons, NamesRun, NamesShow, NamesSite, NamesSiteNumber, NamesStrictness, ReadsNoInput};
+ghost use Rattle.cmh.specs.CommandLine.{AsksAudit, IsEnd, NamesAudit, NamesCluster, NamesColumn, NamesDraw, NamesEdition, NamesFolder, NamesNewWorld, NamesNoEdition, NamesNoFolder, NamesNoPage, NamesNoPageFile, NamesNoStrictness, NamesNothing, NamesOption, NamesPage, NamesPlay, NamesShow, NamesSite, NamesSiteNumber, NamesStrictness, ReadsNoInput};
 ghost use Rattle.cmh.specs.Playing.{PlaysEdition3};
 ghost use Rattle.cmh_folder3.specs.Plays.{PlaysInto};
 ghost use Rattle.cmh.specs.Serving.{ServesCluster, ServesCluster3, ServesFile, ServesSite, ServesSome, ServesStrictly, SiteEnds};
@@ -244,15 +245,9 @@ where
 
     // Where an audit is named, files are audited; the reasons for stops, a run, or its declarations, are told where they
     // are asked for.
-    ensures audits { NamesAudit matches.now → NamesNoReasons matches.now → NamesNoRun matches.now
-        → NamesNoDeclarations matches.now → AuditsFiles out.old out.new err.old err.new result }
-    ensures explains { NamesAudit matches.now → NamesReasons matches.now
-        → ExplainsFiles out.old out.new err.old err.new result }
-    ensures lists { NamesAudit matches.now → NamesNoReasons matches.now → NamesRun matches.now
-        → ListsFiles out.old out.new err.old err.new result }
-    ensures declares { NamesAudit matches.now → NamesNoReasons matches.now → NamesNoRun matches.now
-        → NamesDeclarations matches.now → DeclaresFiles out.old out.new err.old err.new result }
-    ensures audits_some { NamesAudit matches.now → AuditsSomehow out.old out.new err.old err.new result }
+    ensures audits { NamesAudit matches.now → (more : More) → AsksAudit matches.now more
+        → AuditsFiles more out.old out.new err.old err.new result }
+    ensures audits_some { NamesAudit matches.now → (more : More) × AuditsFiles more out.old out.new err.old err.new result }
 
     // Where `show` or `draw` is named, lines of journals are written, or a picture of the kind and the format asked for, or
     // a page.

@@ -1,3 +1,2 @@
-mod AuditLemmas
 mod ColumnLemmas
 mod PageLemmas

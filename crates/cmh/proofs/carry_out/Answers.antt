@@ -1,14 +1,7 @@
 use Rattle.cmh.proofs.carry_out.Goals as goal
 
 pub returns-in-Some-clause-audits : goal.returns-in-Some-clause-audits
-returns-in-Some-clause-audits g c = λ named silent unasked undeclared.
-    let rows = c.in-Some.ensures.rows in
-    c.audit.ensures.audits (silent _ rows) (unasked _ rows) (undeclared _ rows)
-
-pub returns-in-Some-clause-declares : goal.returns-in-Some-clause-declares
-returns-in-Some-clause-declares g c = λ named silent unasked told.
-    let rows = c.in-Some.ensures.rows in
-    c.audit.ensures.declares (silent _ rows) (unasked _ rows) (told _ rows)
+returns-in-Some-clause-audits g c = λ named more asked. c.audit.ensures.audits more (asked _ c.in-Some.ensures.rows)
 
 pub returns-in-Some-subcommand_matches-clause-draws :
     goal.returns-in-Some-subcommand_matches-clause-draws
