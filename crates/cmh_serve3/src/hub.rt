@@ -6,7 +6,7 @@ use crate::console::Console;
 use crate::descriptor::Descriptor;
 use crate::doors::{Doors, is_of_port};
 use crate::guests::{Guest, MOST_CLIENTS};
-use crate::helper::Helper;
+use crate::helpers::Helpers;
 use crate::places::{free_place, put_at, take_at, trim};
 use crate::serve_fault::ServeFault;
 use crate::socket::Socket;
@@ -42,10 +42,10 @@ const MOST_ROUNDS: usize = 4;
 /// How often it looks whether more clients have said something, before it takes what they said.
 const MOST_LOOKS: usize = 3;
 
-/// Where so many clients can be sent something, another thread helps: with fewer, waking it takes as long as it saves.
+/// Where so many clients can be sent something, other threads help: with fewer, waking them takes as long as it saves.
 const MANY_ANSWERS: usize = 12;
 
-/// Where so many clients can be sent something, other sites are sent theirs while the helper begins: so their syncs are over
+/// Where so many clients can be sent something, other sites are sent theirs while the helpers begin: so their syncs are over
 /// before the next one here. With fewer, clients come first, so that they go on meanwhile.
 const SITES_FIRST: usize = 32;
 
@@ -70,7 +70,7 @@ pub(crate) struct Hub<F: SegmentFile> {
     arrivals: Vec<Option<Arrival>>,
     guests: Vec<Option<Guest>>,
     /// Who helps to write to clients.
-    pub helper: Helper,
+    pub helpers: Helpers,
     console: Option<Console>,
     /// Where notes go, if anybody wants them.
     errors: Option<Descriptor>,
@@ -90,7 +90,7 @@ pub(crate) struct Spare {
     events: Events,
     guests: Vec<Option<Guest>>,
     arrivals: Vec<Option<Arrival>>,
-    helper: Helper,
+    helpers: Helpers,
 }
 
 impl Spare {
@@ -100,7 +100,7 @@ impl Spare {
             events: Events::with_capacity(alloc, 1024)?,
             guests: Vec::with_capacity(alloc, MOST_CLIENTS)?,
             arrivals: Vec::with_capacity(alloc, MOST_ARRIVALS)?,
-            helper: Helper::new(alloc)?,
+            helpers: Helpers::new(alloc)?,
         })
     }
 }
@@ -146,7 +146,7 @@ impl<F: SegmentFile> Hub<F> {
             events,
             guests,
             arrivals,
-            helper,
+            helpers,
         } = spare;
         Hub {
             alloc,
@@ -158,7 +158,7 @@ impl<F: SegmentFile> Hub<F> {
             calls,
             arrivals,
             guests,
-            helper,
+            helpers,
             console,
             errors,
             scratch,
@@ -555,15 +555,15 @@ impl<F: SegmentFile> Hub<F> {
     fn tell_all<R: Wait + Net>(&mut self, rt: &R, now: u64) {
         let answers = self.answers();
         if answers >= MANY_ANSWERS {
-            self.helper.take(rt, &mut self.guests);
+            self.helpers.take(rt, &mut self.guests);
         } else {
             self.write_clients();
         }
         if answers < SITES_FIRST {
-            self.helper.give_back(rt, &mut self.guests);
+            self.helpers.give_back(rt, &mut self.guests);
         }
         self.call_sites(rt, now);
-        self.helper.give_back(rt, &mut self.guests);
+        self.helpers.give_back(rt, &mut self.guests);
     }
 
     /// How many clients can be sent something.

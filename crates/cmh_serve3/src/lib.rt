@@ -1,5 +1,5 @@
 //! A running site of edition 3: a thread that waits for its links, its clients and the time, and gives what comes to the site,
-//! and one that helps it to write answers. It starts again on its journal, and its links resume.
+//! and two that help it to write answers. It starts again on its journal, and its links resume.
 #![tactic(auto)]
 
 mod arrivals;
@@ -8,7 +8,7 @@ mod console;
 mod descriptor;
 mod doors;
 mod guests;
-mod helper;
+mod helpers;
 mod hub;
 mod opening;
 mod places;

@@ -146,10 +146,10 @@ where
     let mut hub = open_hub(rt, alloc, start, port, voice.is_some())?;
     let Lines { input, out } = lines;
     if port.is_some() {
-        hub.helper.start(rt);
+        hub.helpers.start(rt);
     }
     let ended = run(rt, &mut hub, input, out, voice);
-    hub.helper.end(rt);
+    hub.helpers.end(rt);
     ended
 }
 

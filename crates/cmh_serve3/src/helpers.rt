@@ -1,4 +1,4 @@
-//! A thread that helps to write answers.
+//! Threads that help to write answers.
 
 use crate::guests::{Guest, MOST_CLIENTS};
 use std::alloc::{AllocError, Global};
@@ -7,14 +7,17 @@ use std::sync::{Arc, Mutex, Wait};
 use std::thread;
 use std::thread::{JoinHandle, Parker, Threads};
 
-/// Clients that are written to by whichever of two threads comes to them first, each under a lock of its own.
+/// How many threads help, at most.
+const MOST_HELPERS: usize = 2;
+
+/// Clients that are written to by whichever thread comes to them first, each under a lock of its own.
 #[derive(Drop)]
 struct Table {
     places: Vec<Mutex<Option<Guest>>>,
     /// No place from this one on has a client.
     end: AtomicUsize,
-    /// What the helper waits for.
-    bell: Parker,
+    /// What each helper waits for.
+    bells: Vec<Parker>,
     is_over: AtomicBool,
 }
 
@@ -24,10 +27,14 @@ impl Table {
         for _ in 0..MOST_CLIENTS {
             places.push(Mutex::new(None))?;
         }
+        let mut bells = Vec::with_capacity(alloc, MOST_HELPERS)?;
+        for _ in 0..MOST_HELPERS {
+            bells.push(Parker::new())?;
+        }
         Ok(Table {
             places,
             end: AtomicUsize::new(0),
-            bell: Parker::new(),
+            bells,
             is_over: AtomicBool::new(false),
         })
     }
@@ -42,7 +49,13 @@ impl Table {
         self.end.store(guests.len(), Ordering::SeqCst);
     }
 
-    /// Gives them back, the first one first. Those that the helper has not come to are written to.
+    fn wake_all(&self) {
+        for bell in self.bells.iter() {
+            bell.unpark();
+        }
+    }
+
+    /// Gives them back, the first one first. Those that no helper has come to are written to.
     fn give_back<R: Wait>(&self, rt: &R, guests: &mut Vec<Option<Guest>>) {
         for (place, guest) in self.places.iter().zip(guests.iter_mut()) {
             if guest.is_none() {
@@ -76,7 +89,7 @@ fn take_written<R: Wait>(rt: &R, place: &Mutex<Option<Guest>>) -> Option<Guest> 
     Some(client)
 }
 
-/// Writes to the client at a place, unless the other thread does.
+/// Writes to the client at a place, unless another thread does.
 fn write_at(place: &Mutex<Option<Guest>>) {
     if let Some(mut guest) = place.try_lock() {
         if let Some(client) = &mut *guest {
@@ -85,10 +98,13 @@ fn write_at(place: &Mutex<Option<Guest>>) {
     }
 }
 
-/// What the helper does.
-fn help<R: Wait>(rt: &R, table: &Table) {
+/// What the helper of this number does.
+fn help<R: Wait>(rt: &R, table: &Table, number: usize) {
+    let Some(bell) = table.bells.get(number) else {
+        return;
+    };
     for _ in rt.forever() {
-        table.bell.park(rt);
+        bell.park(rt);
         if table.is_over.load(Ordering::SeqCst) {
             return;
         }
@@ -96,53 +112,67 @@ fn help<R: Wait>(rt: &R, table: &Table) {
     }
 }
 
-/// The thread that helps, if there is one.
+/// The threads that help.
 #[derive(Drop)]
-pub(crate) struct Helper {
+pub(crate) struct Helpers {
     table: Arc<Table>,
-    thread: Option<JoinHandle<()>>,
+    threads: Vec<JoinHandle<()>>,
 }
 
-impl Helper {
+impl Helpers {
     /// None yet, with room for all clients.
-    pub fn new(alloc: Global) -> Result<Helper, AllocError> {
-        Ok(Helper {
+    pub fn new(alloc: Global) -> Result<Helpers, AllocError> {
+        Ok(Helpers {
             table: Arc::new(alloc, Table::new(alloc)?)?,
-            thread: None,
+            threads: Vec::with_capacity(alloc, MOST_HELPERS)?,
         })
     }
 
-    /// Starts it. Where no thread can be made nobody helps.
+    /// Starts them. Where no thread can be made fewer help.
     pub fn start<R>(&mut self, rt: &R)
     where
         R: Wait + Threads + Copy + Send + Drop + 'static,
     {
-        let Ok(table) = Arc::try_clone(&self.table) else {
-            return;
-        };
-        let own = *rt;
-        if let Ok(thread) = thread::spawn(rt, move || help(&own, &table)) {
-            self.thread = Some(thread);
+        for number in 0..MOST_HELPERS {
+            if let Some(thread) = self.start_one(rt, number) {
+                let _ = self.threads.push(thread);
+            }
         }
     }
 
-    /// Takes the clients that can be sent something. It begins to write to them.
-    pub fn take<R: Wait>(&self, rt: &R, guests: &mut Vec<Option<Guest>>) {
-        self.table.take(rt, guests);
-        self.table.bell.unpark();
+    fn start_one<R>(&self, rt: &R, number: usize) -> Option<JoinHandle<()>>
+    where
+        R: Wait + Threads + Copy + Send + Drop + 'static,
+    {
+        let Ok(table) = Arc::try_clone(&self.table) else {
+            return None;
+        };
+        let own = *rt;
+        match thread::spawn(rt, move || help(&own, &table, number)) {
+            Ok(thread) => Some(thread),
+            Err(_) => None,
+        }
     }
 
-    /// Gives back all that it took, once each was sent what it is to be sent, as far as its socket takes it.
+    /// Takes the clients that can be sent something. They begin to write to them.
+    pub fn take<R: Wait>(&self, rt: &R, guests: &mut Vec<Option<Guest>>) {
+        self.table.take(rt, guests);
+        self.table.wake_all();
+    }
+
+    /// Gives back all that were taken, once each was sent what it is to be sent, as far as its socket takes it.
     pub fn give_back<R: Wait>(&self, rt: &R, guests: &mut Vec<Option<Guest>>) {
         self.table.give_back(rt, guests);
     }
 
-    /// Ends it.
+    /// Ends them.
     pub fn end<R: Threads>(&mut self, rt: &R) {
         self.table.is_over.store(true, Ordering::SeqCst);
-        self.table.bell.unpark();
-        if let Some(thread) = self.thread.take() {
-            thread.join(rt);
+        self.table.wake_all();
+        for _ in 0..MOST_HELPERS {
+            if let Some(thread) = self.threads.pop() {
+                thread.join(rt);
+            }
         }
     }
 }
