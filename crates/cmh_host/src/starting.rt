@@ -16,27 +16,29 @@ use cmh_frames::{Done, Event, SiteId, Topology};
 use cmh_journal::Sink;
 use cmh_links::{BacklogLimit, LinkFault, LinkState, SharedLinks, SiteParts, SiteThreads};
 use cmh_station::{
-    BoardReader, KeptBoard, LinkTap, Listing, ParkingTap, SharedStation, Station, StationRefusal,
+    BoardReader, Keeper, KeptBoard, LinkTap, Listing, NewestEntries, ParkingTap, SharedStation,
+    Station, StationRefusal,
 };
 use std::alloc::{AllocError, Global};
 use std::sync::{Arc, Wait};
 
-/// A station whose journal is a file, with the lock round it.
-pub type FileStation<R> = SharedStation<JournalSink, KeptBoard<R>>;
+/// A station whose journal is a file, with the lock round it. The file has its entries, so the newest are enough in
+/// memory.
+pub type FileStation<R, K = NewestEntries> = SharedStation<JournalSink, KeptBoard<R>, K>;
 
 /// The threads of a site over TCP.
-pub type Running<R> = SiteThreads<R, JournalSink, KeptBoard<R>, TcpDial<R>>;
+pub type Running<R, K = NewestEntries> = SiteThreads<R, JournalSink, KeptBoard<R>, K, TcpDial<R>>;
 
 /// A station that no thread has yet, the taps of its links, and the reader of its board.
 #[derive(Drop)]
-pub struct Opened<R: Wait + Drop> {
+pub struct Opened<R: Wait + Drop, K: Keeper = NewestEntries> {
     site: SiteId,
-    station: Station<JournalSink, KeptBoard<R>>,
+    station: Station<JournalSink, KeptBoard<R>, K>,
     taps: Vec<LinkTap>,
     reader: BoardReader,
 }
 
-impl<R: Wait + Drop> Opened<R> {
+impl<R: Wait + Drop, K: Keeper> Opened<R, K> {
     pub fn site(&self) -> SiteId
         ensures { result ≡ self.now.site }
     {
@@ -49,15 +51,16 @@ impl<R: Wait + Drop> Opened<R> {
 /// # Errors
 ///
 /// The disk refused the journal's header, or memory was refused.
-pub fn open_station<R>(
+pub fn open_station<R, K>(
     rt: R,
     alloc: Global,
     topology: &Topology,
     site: SiteId,
     sink: JournalSink,
-) -> Result<Opened<R>, NoFile>
+) -> Result<Opened<R, K>, NoFile>
 where
     R: Wait + Copy + Drop,
+    K: Keeper,
     requires { sink.faults ≡ 0 }
     ensures site { IfOk result (λ opened. opened.site ≡ site) }
     ensures fresh { IfOk result (λ opened. IsNewStation topology.now site opened.station.core) }
@@ -100,39 +103,39 @@ pub struct Carriers<R: System + 'static> {
 
 /// What a running site is asked by.
 #[derive(Drop)]
-pub struct SiteHandle<R: Wait + Drop> {
+pub struct SiteHandle<R: Wait + Drop, K: Keeper = NewestEntries> {
     pub site: SiteId,
-    pub station: Arc<FileStation<R>>,
+    pub station: Arc<FileStation<R, K>>,
     pub reader: BoardReader,
     pub speaker: Option<Speaker>,
 }
 
 /// A site that runs. It isn't `Drop`: its threads have to be stopped.
-pub struct RunningSite<R>
+pub struct RunningSite<R, K: Keeper = NewestEntries>
 where
     R: System + Send + 'static,
     JournalSink: Sink,
     KeptBoard<R>: Listing,
     TcpDial<R>: Dial,
 {
-    pub handle: SiteHandle<R>,
-    pub threads: Running<R>,
+    pub handle: SiteHandle<R, K>,
+    pub threads: Running<R, K>,
 }
 
 /// A station with the lock round it, once for who asks it and once for its threads, and the taps of its links.
 #[derive(Drop)]
-struct Locked<R: Wait + Drop> {
-    station: Arc<FileStation<R>>,
-    shared: Arc<FileStation<R>>,
+struct Locked<R: Wait + Drop, K: Keeper> {
+    station: Arc<FileStation<R, K>>,
+    shared: Arc<FileStation<R, K>>,
     taps: Vec<ParkingTap>,
 }
 
 /// It stands apart from the start of the threads, so that a failure here has less to drop.
-fn lock_station<R: Wait + Drop>(
+fn lock_station<R: Wait + Drop, K: Keeper>(
     alloc: Global,
-    station: Station<JournalSink, KeptBoard<R>>,
+    station: Station<JournalSink, KeptBoard<R>, K>,
     taps: Vec<LinkTap>,
-) -> Result<Locked<R>, AllocError>
+) -> Result<Locked<R, K>, AllocError>
     ensures { IfOk result (λ locked. locked.taps.items ≡ taps.items) }
 {
     let Ok((shared, taps)) = SharedStation::new(alloc, station, taps) else {
@@ -152,15 +155,16 @@ fn lock_station<R: Wait + Drop>(
 /// # Errors
 ///
 /// Memory or a thread was refused.
-pub fn start_threads<R>(
+pub fn start_threads<R, K>(
     rt: R,
     alloc: Global,
     topology: &Topology,
-    opened: Opened<R>,
+    opened: Opened<R, K>,
     carriers: Carriers<R>,
-) -> Result<RunningSite<R>, AllocError>
+) -> Result<RunningSite<R, K>, AllocError>
 where
     R: System + Send + 'static,
+    K: Keeper + Send + 'static,
     requires listens { carriers.listen.faults ≡ 0 }
     requires dials { carriers.dial.faults ≡ 0 }
     ensures site { IfOk result (λ running. running.handle.site ≡ opened.site) }
@@ -209,9 +213,10 @@ where
     }
 }
 
-impl<R> RunningSite<R>
+impl<R, K> RunningSite<R, K>
 where
     R: System + Send + 'static,
+    K: Keeper + Send + 'static,
 {
     /// Ends the threads.
     pub fn stop(self) {
@@ -224,7 +229,7 @@ where
     }
 }
 
-impl<R: Wait + Drop> SiteHandle<R> {
+impl<R: Wait + Drop, K: Keeper> SiteHandle<R, K> {
     /// Gives an event to the station, and wakes the threads that write what it sent once the lock is given back. Where the
     /// journal can't be written, that is noted.
     pub fn step(&self, rt: &R, event: &Event) -> SiteReply
@@ -256,9 +261,9 @@ impl<R: Wait + Drop> SiteHandle<R> {
 /// Gives an event to a station, and wakes the threads that write what it sent once the lock is given back. Where the
 /// journal can't be written, that is noted.
 #[tactic(auto, using(crate::proofs::Taking::stepped_ok))]
-pub fn step<R: Wait + Drop>(
+pub fn step<R: Wait + Drop, K: Keeper>(
     rt: &R,
-    station: &FileStation<R>,
+    station: &FileStation<R, K>,
     speaker: Option<&Speaker>,
     event: &Event,
 ) -> SiteReply
@@ -335,17 +340,19 @@ fn push_row(
 }
 
 /// Why the link to a site is closed, where it is.
-pub fn closed_out<R>(rt: &R, threads: &Running<R>, receiver: SiteId) -> Option<LinkFault>
+pub fn closed_out<R, K>(rt: &R, threads: &Running<R, K>, receiver: SiteId) -> Option<LinkFault>
 where
     R: System + Send + 'static,
+    K: Keeper + Send + 'static,
 {
     why_closed(threads.links().lock(rt).state_out(receiver))
 }
 
 /// Why the link from a site is closed, where it is.
-pub fn closed_in<R>(rt: &R, threads: &Running<R>, sender: SiteId) -> Option<LinkFault>
+pub fn closed_in<R, K>(rt: &R, threads: &Running<R, K>, sender: SiteId) -> Option<LinkFault>
 where
     R: System + Send + 'static,
+    K: Keeper + Send + 'static,
 {
     why_closed(threads.links().lock(rt).state_in(sender))
 }

@@ -11,7 +11,7 @@ use crate::{ReaderEnd, run_reader};
 use cmh_carriers::{Gate, Incoming, Line, Listen, Note};
 use cmh_journal::Sink;
 use cmh_reader::{FrameReader, ReadFault};
-use cmh_station::Listing;
+use cmh_station::{Keeper, Listing};
 use crossbeam_utils::sync::{Parker, Unparker};
 use std::alloc::{AllocError, Global};
 use std::sync::atomic::Ordering;
@@ -28,8 +28,8 @@ type Reading<L> = (JoinHandle<()>, Arc<Seat<L>>);
 
 /// What accepts the connections of a site, and starts their reading threads.
 #[derive(Drop)]
-pub(crate) struct Accepter<S: Sink, B: Listing, L: Listen> {
-    shared: Arc<Shared<S, B>>,
+pub(crate) struct Accepter<S: Sink, B: Listing, K: Keeper, L: Listen> {
+    shared: Arc<Shared<S, B, K>>,
     /// The connections that it accepted.
     seats: Arc<Seats<L::Line>>,
     listen: L,
@@ -37,13 +37,13 @@ pub(crate) struct Accepter<S: Sink, B: Listing, L: Listen> {
     parker: Parker,
 }
 
-impl<S: Sink, B: Listing, L: Listen> Accepter<S, B, L> {
+impl<S: Sink, B: Listing, K: Keeper, L: Listen> Accepter<S, B, K, L> {
     /// It accepted no connection.
     pub fn new(
         alloc: Global,
-        shared: &Arc<Shared<S, B>>,
+        shared: &Arc<Shared<S, B, K>>,
         listen: L,
-    ) -> Result<Accepter<S, B, L>, AllocError>
+    ) -> Result<Accepter<S, B, K, L>, AllocError>
     where
         L: Drop,
         ensures { IfOk result (λ accepter. L.failures accepter.listen ≡ L.failures listen) }
@@ -91,15 +91,16 @@ impl Accepting {
 }
 
 /// Starts the accepting thread. `None` where memory or a thread was refused.
-pub(crate) fn start_accepting<R, S, B, L>(
+pub(crate) fn start_accepting<R, S, B, K, L>(
     rt: R,
     alloc: Global,
-    accepter: Accepter<S, B, L>,
+    accepter: Accepter<S, B, K, L>,
 ) -> Option<Accepting>
 where
     R: Wait + Threads + Clock + Copy + Send + Drop + 'static,
     S: Sink + Send + 'static,
     B: Listing + Send + 'static,
+    K: Keeper + Send + 'static,
     L: Listen + Send + Drop + 'static,
     requires { L.failures accepter.listen ≡ 0 }
 {
@@ -114,15 +115,16 @@ where
 }
 
 /// Starts the thread that accepts. It stands apart, so that a failure here has less to drop.
-fn spawn_accepter<R, S, B, L>(
+fn spawn_accepter<R, S, B, K, L>(
     rt: R,
     alloc: Global,
-    accepter: Accepter<S, B, L>,
+    accepter: Accepter<S, B, K, L>,
 ) -> Option<JoinHandle<()>>
 where
     R: Wait + Threads + Clock + Copy + Send + Drop + 'static,
     S: Sink + Send + 'static,
     B: Listing + Send + 'static,
+    K: Keeper + Send + 'static,
     L: Listen + Send + Drop + 'static,
     requires { L.failures accepter.listen ≡ 0 }
 {
@@ -133,18 +135,19 @@ where
 /// An accepter of which no call has failed yet. That stands in its type, since the closure of a thread takes no condition
 /// over from what it calls.
 #[derive(Drop)]
-struct NewAccepter<S: Sink, B: Listing, L: Listen> {
-    accepter: Accepter<S, B, L>,
+struct NewAccepter<S: Sink, B: Listing, K: Keeper, L: Listen> {
+    accepter: Accepter<S, B, K, L>,
     ghost unfailed: { L.failures accepter.listen ≡ 0 },
 }
 
 /// Accepts connections and starts a reading thread for each, until accepting fails or the site is ending. Once it is
 /// ending it waits for these threads.
-fn run_accepter<R, S, B, L>(rt: R, alloc: Global, accepter: NewAccepter<S, B, L>)
+fn run_accepter<R, S, B, K, L>(rt: R, alloc: Global, accepter: NewAccepter<S, B, K, L>)
 where
     R: Wait + Threads + Clock + Copy + Send + Drop + 'static,
     S: Sink + Send + 'static,
     B: Listing + Send + 'static,
+    K: Keeper + Send + 'static,
     L: Listen + Drop,
 {
     let NewAccepter { mut accepter } = accepter;
@@ -164,7 +167,11 @@ where
 }
 
 /// Waits until the site is ending.
-fn await_end<R: Wait, S: Sink, B: Listing>(rt: &R, shared: &Shared<S, B>, parker: &Parker) {
+fn await_end<R: Wait, S: Sink, B: Listing, K: Keeper>(
+    rt: &R,
+    shared: &Shared<S, B, K>,
+    parker: &Parker,
+) {
     for _ in rt.forever() {
         if shared.ending.load(Ordering::SeqCst) {
             break;
@@ -174,11 +181,12 @@ fn await_end<R: Wait, S: Sink, B: Listing>(rt: &R, shared: &Shared<S, B>, parker
 }
 
 /// Waits for the reading threads. Where the site doesn't wait for its peers, their connections are ended first.
-fn join_all<R, S, B, L>(rt: &R, shared: &Shared<S, B>, readers: Vec<Reading<L>>)
+fn join_all<R, S, B, K, L>(rt: &R, shared: &Shared<S, B, K>, readers: Vec<Reading<L>>)
 where
     R: Wait + Threads,
     S: Sink,
     B: Listing,
+    K: Keeper,
     L: Line + Drop,
 {
     for (reader, seat) in readers {
@@ -189,10 +197,11 @@ where
     }
 }
 
-impl<S, B, L> Accepter<S, B, L>
+impl<S, B, K, L> Accepter<S, B, K, L>
 where
     S: Sink + Send + 'static,
     B: Listing + Send + 'static,
+    K: Keeper + Send + 'static,
     L: Listen,
 {
     /// Accepts connections and starts a reading thread for each, until accepting fails or the site is ending.
@@ -315,9 +324,9 @@ fn longest_silent<L: Line + Drop>(readers: &[Reading<L>]) -> Option<usize>
 }
 
 /// A reader of the bytes that come to a site: it expects the other sites.
-fn reader_of<S: Sink, B: Listing>(
+fn reader_of<S: Sink, B: Listing, K: Keeper>(
     alloc: Global,
-    shared: &Shared<S, B>,
+    shared: &Shared<S, B, K>,
 ) -> Result<FrameReader, AllocError>
     ensures expects { IfOk result (λ reader. reader ≡ fresh shared.now.edition shared.now.others.items) }
     ensures stands { IfOk result (λ reader. StandsFor reader [] []) }
@@ -327,10 +336,10 @@ fn reader_of<S: Sink, B: Listing>(
 }
 
 /// Reads a connection to its end, and closes it.
-fn serve<R, S, B, I, L>(
+fn serve<R, S, B, K, I, L>(
     rt: R,
     alloc: Global,
-    shared: Arc<Shared<S, B>>,
+    shared: Arc<Shared<S, B, K>>,
     seat: Arc<Seat<L>>,
     mut incoming: I,
 )
@@ -338,6 +347,7 @@ where
     R: Wait + Copy + Drop,
     S: Sink,
     B: Listing,
+    K: Keeper,
     I: Incoming + Drop,
     L: Line + Drop,
     requires { I.failures incoming ≡ 0 }
@@ -360,9 +370,9 @@ where
 }
 
 /// Notes how reading ended: that a hello was refused, or that the link closed.
-fn note_end<R: Wait, S: Sink, B: Listing>(
+fn note_end<R: Wait, S: Sink, B: Listing, K: Keeper>(
     rt: &R,
-    shared: &Shared<S, B>,
+    shared: &Shared<S, B, K>,
     reader: &mut FrameReader,
     end: ReaderEnd,
 ) {

@@ -4,7 +4,7 @@ ghost use Rattle.std.specs.Prelude.{◌≡◌};
 
 use crate::shared::Shared;
 use cmh_journal::Sink;
-use cmh_station::{LinkTap, Listing, ParkingTap};
+use cmh_station::{Keeper, LinkTap, Listing, ParkingTap};
 use std::sync::Wait;
 use std::sync::atomic::Ordering;
 
@@ -13,9 +13,9 @@ use std::sync::atomic::Ordering;
 const MOST_DROPPED: usize = 262_144;
 
 /// Drops the frames of a tap until the site is ending, and gives the tap back.
-pub(crate) fn drain<R: Wait, S: Sink, B: Listing>(
+pub(crate) fn drain<R: Wait, S: Sink, B: Listing, K: Keeper>(
     rt: &R,
-    shared: &Shared<S, B>,
+    shared: &Shared<S, B, K>,
     mut tap: ParkingTap,
 ) -> LinkTap
     ensures { result.to ≡ tap.to }
@@ -32,9 +32,9 @@ pub(crate) fn drain<R: Wait, S: Sink, B: Listing>(
 }
 
 /// Drops frames, those of the backlog by way of the ring, and says whether none is left.
-fn drop_frames<R: Wait, S: Sink, B: Listing>(
+fn drop_frames<R: Wait, S: Sink, B: Listing, K: Keeper>(
     rt: &R,
-    shared: &Shared<S, B>,
+    shared: &Shared<S, B, K>,
     tap: &mut ParkingTap,
 ) -> bool
     ensures to { tap.new.to ≡ tap.old.to }

@@ -14,7 +14,7 @@ use crate::shared::{Shared, TapSource};
 use cmh_carriers::{Dial, IoFault, Line, LinkFault, Note, Outgoing};
 use cmh_frames::SiteId;
 use cmh_journal::Sink;
-use cmh_station::{LinkTap, Listing, ParkingTap};
+use cmh_station::{Keeper, LinkTap, Listing, ParkingTap};
 use std::sync::{Arc, Wait};
 use std::thread;
 use std::thread::{Promise, PromisedHandle, Threads};
@@ -56,9 +56,9 @@ struct Connection<O, L: Line + Drop> {
 }
 
 /// Connects the link of a tap and starts its writing thread, or closes it; unless it was not new.
-pub(crate) fn open<R, S, B, D>(
+pub(crate) fn open<R, S, B, K, D>(
     rt: R,
-    shared: &Arc<Shared<S, B>>,
+    shared: &Arc<Shared<S, B, K>>,
     dial: &mut Dialler<D>,
     tap: ParkingTap,
     is_new: bool,
@@ -67,6 +67,7 @@ where
     R: Wait + Threads + Clock + Copy + Send + Drop + 'static,
     S: Sink + Send + 'static,
     B: Listing + Send + 'static,
+    K: Keeper + Send + 'static,
     D: Dial,
     D::Out: Send + Drop + 'static,
     requires countable { dial.old < 2 ^ 64 - 1 }
@@ -88,9 +89,9 @@ where
 }
 
 /// Closes the link of a tap.
-fn closed<R: Wait, S: Sink, B: Listing>(
+fn closed<R: Wait, S: Sink, B: Listing, K: Keeper>(
     rt: &R,
-    shared: &Shared<S, B>,
+    shared: &Shared<S, B, K>,
     tap: LinkTap,
     fault: LinkFault,
 ) -> Place
@@ -101,9 +102,9 @@ fn closed<R: Wait, S: Sink, B: Listing>(
 }
 
 /// Closes the link to a site, and notes it.
-fn close<R: Wait, S: Sink, B: Listing>(
+fn close<R: Wait, S: Sink, B: Listing, K: Keeper>(
     rt: &R,
-    shared: &Shared<S, B>,
+    shared: &Shared<S, B, K>,
     to: SiteId,
     fault: LinkFault,
 ) {
@@ -116,11 +117,12 @@ fn close<R: Wait, S: Sink, B: Listing>(
 
 /// Closes the link of a tap whose site could not be connected, and starts a thread that drops its frames, if one can be
 /// had.
-fn unconnected<R, S, B>(rt: R, shared: &Arc<Shared<S, B>>, tap: ParkingTap) -> Place
+fn unconnected<R, S, B, K>(rt: R, shared: &Arc<Shared<S, B, K>>, tap: ParkingTap) -> Place
 where
     R: Wait + Threads + Copy + Send + Drop + 'static,
     S: Sink + Send + 'static,
     B: Listing + Send + 'static,
+    K: Keeper + Send + 'static,
     ensures to { leads_to result ≡ tap.to }
     ensures new { is_idle result ≡ false }
     ensures unconnected { length (closed_with 1 (result ∷ [])) ≡ 1 }
@@ -148,11 +150,12 @@ where
 }
 
 /// What the thread of a link runs that could not be connected. The tap comes back.
-fn drain_from<R, S, B>(rt: R, shared: Arc<Shared<S, B>>, berth: Berth) -> LinkTap
+fn drain_from<R, S, B, K>(rt: R, shared: Arc<Shared<S, B, K>>, berth: Berth) -> LinkTap
 where
     R: Wait + Drop,
     S: Sink,
     B: Listing,
+    K: Keeper,
     ensures { result.to ≡ berth.to }
 {
     let tap = berth.take(&rt);
@@ -160,9 +163,9 @@ where
 }
 
 /// Starts the writing thread of a link, or closes the link.
-fn start_writer<R, S, B, O, L>(
+fn start_writer<R, S, B, K, O, L>(
     rt: R,
-    shared: &Arc<Shared<S, B>>,
+    shared: &Arc<Shared<S, B, K>>,
     tap: ParkingTap,
     connection: Connection<O, L>,
 ) -> Place
@@ -170,6 +173,7 @@ where
     R: Wait + Threads + Copy + Send + Drop + 'static,
     S: Sink + Send + 'static,
     B: Listing + Send + 'static,
+    K: Keeper + Send + 'static,
     O: Outgoing + Send + Drop + 'static,
     L: Line + Send + Drop + 'static,
     requires fresh { O.failures connection.out ≡ 0 }
@@ -199,9 +203,9 @@ where
 }
 
 /// What the writing thread of a link runs. Once its connection has failed it drops the frames. The tap comes back.
-fn write_from<R, S, B, O, L>(
+fn write_from<R, S, B, K, O, L>(
     rt: R,
-    shared: Arc<Shared<S, B>>,
+    shared: Arc<Shared<S, B, K>>,
     berth: Berth,
     connection: Connection<O, L>,
 ) -> LinkTap
@@ -209,6 +213,7 @@ where
     R: Wait + Copy + Drop,
     S: Sink,
     B: Listing,
+    K: Keeper,
     O: Outgoing + Drop,
     L: Line + Drop,
     requires fresh { O.failures connection.out ≡ 0 }
@@ -224,11 +229,17 @@ where
 }
 
 /// Writes the frames of a tap until the site ends or a write fails, and closes the link.
-fn write_link<R, S, B, O>(rt: R, shared: &Shared<S, B>, tap: ParkingTap, out: &mut O) -> ParkingTap
+fn write_link<R, S, B, K, O>(
+    rt: R,
+    shared: &Shared<S, B, K>,
+    tap: ParkingTap,
+    out: &mut O,
+) -> ParkingTap
 where
     R: Wait + Copy + Drop,
     S: Sink,
     B: Listing,
+    K: Keeper,
     O: Outgoing,
     requires fresh { O.failures out.old ≡ 0 }
     ensures to { result.to ≡ tap.to }

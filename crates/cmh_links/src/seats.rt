@@ -4,7 +4,7 @@ use crate::backlog::BacklogLimit;
 use cmh_carriers::Line;
 use cmh_frames::SiteId;
 use cmh_journal::Sink;
-use cmh_station::{Listing, SharedStation};
+use cmh_station::{Keeper, Listing, SharedStation};
 use std::alloc::Global;
 use std::sync::atomic::{AtomicBool, Ordering};
 use std::sync::{Arc, Mutex, Wait};
@@ -91,10 +91,10 @@ impl<L: Line + Drop> Seat<L> {
     }
 
     /// Ends it, if more frames wait for its site than may, and says how many, once.
-    fn shut_if_unread<R: Wait, S: Sink, B: Listing>(
+    fn shut_if_unread<R: Wait, S: Sink, B: Listing, K: Keeper>(
         &self,
         rt: &R,
-        station: &SharedStation<S, B>,
+        station: &SharedStation<S, B, K>,
         most: BacklogLimit,
     ) -> Option<(SiteId, usize)> {
         let site = self.to?;
@@ -163,10 +163,10 @@ impl<L: Line + Drop> Seats<L> {
     }
 
     /// Ends the first connection for whose site more frames wait than may, and says for which, and how many; each one once.
-    pub fn shut_unread<R: Wait, S: Sink, B: Listing>(
+    pub fn shut_unread<R: Wait, S: Sink, B: Listing, K: Keeper>(
         &self,
         rt: &R,
-        station: &SharedStation<S, B>,
+        station: &SharedStation<S, B, K>,
         most: BacklogLimit,
     ) -> Option<(SiteId, usize)> {
         let seats = self.seats.lock(rt);

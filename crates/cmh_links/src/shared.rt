@@ -11,7 +11,7 @@ use crate::{FrameSource, Handover, Next};
 use cmh_carriers::{Line, LinkTable, Note, SharedLinks, Speaker};
 use cmh_frames::{Edition, Frame, SiteId, Topology};
 use cmh_journal::Sink;
-use cmh_station::{BATCH_LIMIT, Listing, ParkingTap, SharedStation, StationRefusal};
+use cmh_station::{BATCH_LIMIT, Keeper, Listing, ParkingTap, SharedStation, StationRefusal};
 use std::alloc::{AllocError, Global};
 use std::sync::atomic::{AtomicBool, AtomicU64, Ordering};
 use std::sync::{Arc, Wait};
@@ -19,10 +19,10 @@ use std::thread::Parker;
 
 /// What the threads of a site share.
 #[derive(Drop)]
-pub(crate) struct Shared<S: Sink, B: Listing> {
+pub(crate) struct Shared<S: Sink, B: Listing, K: Keeper> {
     /// Where it takes its memory.
     pub alloc: Global,
-    pub station: Arc<SharedStation<S, B>>,
+    pub station: Arc<SharedStation<S, B, K>>,
     pub links: SharedLinks,
     pub edition: Edition,
     pub site: SiteId,
@@ -44,16 +44,16 @@ pub(crate) struct Shared<S: Sink, B: Listing> {
     pub speaker: Option<Speaker>,
 }
 
-impl<S: Sink, B: Listing> Shared<S, B> {
+impl<S: Sink, B: Listing, K: Keeper> Shared<S, B, K> {
     /// All links are new, and nothing ends.
     pub fn open(
         alloc: Global,
         topology: &Topology,
         site: SiteId,
-        station: Arc<SharedStation<S, B>>,
+        station: Arc<SharedStation<S, B, K>>,
         backlog: BacklogLimit,
         speaker: Option<Speaker>,
-    ) -> Result<Arc<Shared<S, B>>, AllocError>
+    ) -> Result<Arc<Shared<S, B, K>>, AllocError>
         ensures edition { IfOk result (λ shared. (arc_value shared).edition ≡ topology.now.edition) }
         ensures site { IfOk result (λ shared. (arc_value shared).site ≡ site) }
         ensures others { IfOk result (λ shared. (arc_value shared).others.items ≡
@@ -120,16 +120,30 @@ fn push_other(sites: &mut Vec<SiteId>, other: SiteId, site: SiteId) -> Result<()
 
 /// Where a reading thread hands its frames to the station that all share.
 #[derive(Drop)]
-pub(crate) struct StationHandover<'a, R: Wait + Drop, S: Sink, B: Listing, L: Line + Drop> {
+pub(crate) struct StationHandover<
+    'a,
+    R: Wait + Drop,
+    S: Sink,
+    B: Listing,
+    K: Keeper,
+    L: Line + Drop,
+> {
     rt: R,
-    shared: &'a Shared<S, B>,
+    shared: &'a Shared<S, B, K>,
     seat: &'a Seat<L>,
     refused: Option<StationRefusal>,
 }
 
-impl<'a, R: Wait + Drop, S: Sink, B: Listing, L: Line + Drop> StationHandover<'a, R, S, B, L> {
+impl<'a, R: Wait + Drop, S: Sink, B: Listing, K: Keeper, L: Line + Drop> StationHandover<
+    'a,
+    R,
+    S,
+    B,
+    K,
+    L,
+> {
     /// It has refused nothing.
-    pub fn new(rt: R, shared: &'a Shared<S, B>, seat: &'a Seat<L>) -> Self
+    pub fn new(rt: R, shared: &'a Shared<S, B, K>, seat: &'a Seat<L>) -> Self
         ensures { result.refused ≡ None }
     {
         StationHandover {
@@ -158,8 +172,8 @@ impl<'a, R: Wait + Drop, S: Sink, B: Listing, L: Line + Drop> StationHandover<'a
     }
 }
 
-impl<'a, R: Wait + Drop, S: Sink, B: Listing, L: Line + Drop> Handover
-    for StationHandover<'a, R, S, B, L> {
+impl<'a, R: Wait + Drop, S: Sink, B: Listing, K: Keeper, L: Line + Drop> Handover
+    for StationHandover<'a, R, S, B, K, L> {
     ghost accepted = { λ _. None };
 
     ghost refused = { λ s. s.refused };
@@ -187,17 +201,17 @@ impl<'a, R: Wait + Drop, S: Sink, B: Listing, L: Line + Drop> Handover
 
 /// Where a writing thread takes its frames from the tap of its link.
 #[derive(Drop)]
-pub(crate) struct TapSource<'a, R: Wait + Drop, S: Sink, B: Listing> {
+pub(crate) struct TapSource<'a, R: Wait + Drop, S: Sink, B: Listing, K: Keeper> {
     rt: R,
-    shared: &'a Shared<S, B>,
+    shared: &'a Shared<S, B, K>,
     tap: ParkingTap,
     /// How many looks it told.
     looks: u64,
     over: bool,
 }
 
-impl<'a, R: Wait + Drop, S: Sink, B: Listing> TapSource<'a, R, S, B> {
-    pub fn new(rt: R, shared: &'a Shared<S, B>, tap: ParkingTap) -> Self
+impl<'a, R: Wait + Drop, S: Sink, B: Listing, K: Keeper> TapSource<'a, R, S, B, K> {
+    pub fn new(rt: R, shared: &'a Shared<S, B, K>, tap: ParkingTap) -> Self
         ensures { result.tap ≡ tap }
     {
         TapSource {
@@ -226,9 +240,9 @@ impl<'a, R: Wait + Drop, S: Sink, B: Listing> TapSource<'a, R, S, B> {
 
 /// The next frame of a link, for which it waits, or a look that wasn't told. The end once the site is ending and the last
 /// look at the ring, after one more release of the backlog, showed nothing.
-fn next_of<R: Wait, S: Sink, B: Listing>(
+fn next_of<R: Wait, S: Sink, B: Listing, K: Keeper>(
     rt: &R,
-    shared: &Shared<S, B>,
+    shared: &Shared<S, B, K>,
     tap: &mut ParkingTap,
     looks: &mut u64,
 ) -> Next
@@ -260,7 +274,7 @@ fn next_of<R: Wait, S: Sink, B: Listing>(
     unreachable!()
 }
 
-impl<'a, R: Wait + Drop, S: Sink, B: Listing> FrameSource for TapSource<'a, R, S, B> {
+impl<'a, R: Wait + Drop, S: Sink, B: Listing, K: Keeper> FrameSource for TapSource<'a, R, S, B, K> {
     ghost given = { λ s. Some s.tap.taken };
 
     ghost is_over = { λ s. s.over };

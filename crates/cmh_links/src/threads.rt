@@ -13,7 +13,7 @@ use crate::watching::{start_watching, stop_watching};
 use cmh_carriers::{Dial, Listen, SharedLinks, Speaker};
 use cmh_frames::{SiteId, Topology};
 use cmh_journal::Sink;
-use cmh_station::{LinkTap, Listing, ParkingTap, SharedStation};
+use cmh_station::{Keeper, LinkTap, Listing, ParkingTap, SharedStation};
 use std::alloc::{AllocError, Global};
 use std::sync::atomic::Ordering;
 use std::sync::{Arc, Wait};
@@ -22,8 +22,8 @@ use std::time::Clock;
 
 /// What the threads of a site work with.
 #[derive(Drop)]
-pub struct SiteParts<S: Sink, B: Listing, L, D> {
-    pub station: Arc<SharedStation<S, B>>,
+pub struct SiteParts<S: Sink, B: Listing, K: Keeper, L, D> {
+    pub station: Arc<SharedStation<S, B, K>>,
     /// The taps of the station's links, ascending.
     pub taps: Vec<ParkingTap>,
     pub listen: L,
@@ -35,9 +35,9 @@ pub struct SiteParts<S: Sink, B: Listing, L, D> {
 }
 
 /// The running threads of a site. It isn't `Drop`: whoever starts it has to stop it.
-pub struct SiteThreads<R, S: Sink, B: Listing, D: Dial> {
+pub struct SiteThreads<R, S: Sink, B: Listing, K: Keeper, D: Dial> {
     rt: R,
-    shared: Arc<Shared<S, B>>,
+    shared: Arc<Shared<S, B, K>>,
     dial: Dialler<D>,
     accepting: Accepting,
     watching: JoinHandle<()>,
@@ -62,10 +62,10 @@ struct Started<D: Dial> {
 }
 
 /// Starts the accepting thread and the watching thread. `None` where memory or a thread was refused.
-fn start_threads<R, S, B, L, D>(
+fn start_threads<R, S, B, K, L, D>(
     rt: R,
     alloc: Global,
-    shared: &Arc<Shared<S, B>>,
+    shared: &Arc<Shared<S, B, K>>,
     listen: L,
     dial: D,
 ) -> Option<Started<D>>
@@ -73,6 +73,7 @@ where
     R: Wait + Threads + Clock + Copy + Send + Drop + 'static,
     S: Sink + Send + 'static,
     B: Listing + Send + 'static,
+    K: Keeper + Send + 'static,
     L: Listen + Send + Drop + 'static,
     D: Dial + Drop,
     requires { L.failures listen ≡ 0 }
@@ -96,21 +97,22 @@ where
 
 /// The states of a site's links, which another thread looks at.
 #[derive(Drop)]
-pub struct LinkView<S: Sink, B: Listing> {
-    shared: Arc<Shared<S, B>>,
+pub struct LinkView<S: Sink, B: Listing, K: Keeper> {
+    shared: Arc<Shared<S, B, K>>,
 }
 
-impl<S: Sink, B: Listing> LinkView<S, B> {
+impl<S: Sink, B: Listing, K: Keeper> LinkView<S, B, K> {
     pub fn links(&self) -> &SharedLinks {
         &self.shared.links
     }
 }
 
-impl<R, S, B, D> SiteThreads<R, S, B, D>
+impl<R, S, B, K, D> SiteThreads<R, S, B, K, D>
 where
     R: Wait + Threads + Clock + Copy + Send + Drop + 'static,
     S: Sink + Send + 'static,
     B: Listing + Send + 'static,
+    K: Keeper + Send + 'static,
     D: Dial,
 {
     /// Starts the accepting thread and the watching thread. The taps are those of the station's links, ascending; they
@@ -120,11 +122,11 @@ where
         alloc: Global,
         topology: &Topology,
         site: SiteId,
-        station: Arc<SharedStation<S, B>>,
+        station: Arc<SharedStation<S, B, K>>,
         taps: Vec<ParkingTap>,
         listen: L,
         dial: D,
-    ) -> Result<SiteThreads<R, S, B, D>, Vec<ParkingTap>>
+    ) -> Result<SiteThreads<R, S, B, K, D>, Vec<ParkingTap>>
     where
         D: Drop,
         requires listen { L.failures listen ≡ 0 }
@@ -152,8 +154,8 @@ where
         alloc: Global,
         topology: &Topology,
         site: SiteId,
-        parts: SiteParts<S, B, L, D>,
-    ) -> Result<SiteThreads<R, S, B, D>, Vec<ParkingTap>>
+        parts: SiteParts<S, B, K, L, D>,
+    ) -> Result<SiteThreads<R, S, B, K, D>, Vec<ParkingTap>>
     where
         D: Drop,
         requires listen { L.failures parts.listen ≡ 0 }
@@ -209,7 +211,7 @@ where
     }
 
     /// The same, for another thread.
-    pub fn view(&self) -> Result<LinkView<S, B>, AllocError> {
+    pub fn view(&self) -> Result<LinkView<S, B, K>, AllocError> {
         Ok(LinkView {
             shared: Arc::try_clone(&self.shared)?,
         })

@@ -4,7 +4,7 @@ use crate::seats::Seats;
 use crate::shared::Shared;
 use cmh_carriers::{Line, Note};
 use cmh_journal::Sink;
-use cmh_station::Listing;
+use cmh_station::{Keeper, Listing};
 use std::sync::atomic::Ordering;
 use std::sync::{Arc, Wait};
 use std::thread;
@@ -25,9 +25,9 @@ const MOST_QUIT_SECONDS: u64 = 4;
 
 /// Starts the watching thread over the connections that a site accepted and those that it opened. `None` where memory or a
 /// thread was refused.
-pub(crate) fn start_watching<R, S, B, L, O>(
+pub(crate) fn start_watching<R, S, B, K, L, O>(
     rt: R,
-    shared: &Arc<Shared<S, B>>,
+    shared: &Arc<Shared<S, B, K>>,
     seats: &Arc<Seats<L>>,
     outs: &Arc<Seats<O>>,
 ) -> Option<JoinHandle<()>>
@@ -35,6 +35,7 @@ where
     R: Wait + Threads + Clock + Copy + Send + Drop + 'static,
     S: Sink + Send + 'static,
     B: Listing + Send + 'static,
+    K: Keeper + Send + 'static,
     L: Line + Send + Drop + 'static,
     O: Line + Send + Drop + 'static,
 {
@@ -44,20 +45,20 @@ where
 
 /// What the watching thread looks at.
 #[derive(Drop)]
-struct Watched<S: Sink, B: Listing, L: Line + Drop, O: Line + Drop> {
-    shared: Arc<Shared<S, B>>,
+struct Watched<S: Sink, B: Listing, K: Keeper, L: Line + Drop, O: Line + Drop> {
+    shared: Arc<Shared<S, B, K>>,
     /// The connections that the site accepted.
     seats: Arc<Seats<L>>,
     /// Those that it opened.
     outs: Arc<Seats<O>>,
 }
 
-impl<S: Sink, B: Listing, L: Line + Drop, O: Line + Drop> Watched<S, B, L, O> {
+impl<S: Sink, B: Listing, K: Keeper, L: Line + Drop, O: Line + Drop> Watched<S, B, K, L, O> {
     fn new(
-        shared: &Arc<Shared<S, B>>,
+        shared: &Arc<Shared<S, B, K>>,
         seats: &Arc<Seats<L>>,
         outs: &Arc<Seats<O>>,
-    ) -> Option<Watched<S, B, L, O>> {
+    ) -> Option<Watched<S, B, K, L, O>> {
         Some(Watched {
             shared: Arc::try_clone(shared).ok()?,
             seats: Arc::try_clone(seats).ok()?,
@@ -67,9 +68,9 @@ impl<S: Sink, B: Listing, L: Line + Drop, O: Line + Drop> Watched<S, B, L, O> {
 }
 
 /// Ends the watching thread.
-pub(crate) fn stop_watching<R: Wait + Threads, S: Sink, B: Listing>(
+pub(crate) fn stop_watching<R: Wait + Threads, S: Sink, B: Listing, K: Keeper>(
     rt: &R,
-    shared: &Shared<S, B>,
+    shared: &Shared<S, B, K>,
     watching: JoinHandle<()>,
 ) {
     shared.is_done.store(true, Ordering::SeqCst);
@@ -79,11 +80,12 @@ pub(crate) fn stop_watching<R: Wait + Threads, S: Sink, B: Listing>(
 
 /// Ends connections that wait for too long, and has the writing threads look at theirs, until the other threads are done.
 /// It takes no lock of the station and no memory.
-fn watch<R, S, B, L, O>(rt: R, watched: Watched<S, B, L, O>)
+fn watch<R, S, B, K, L, O>(rt: R, watched: Watched<S, B, K, L, O>)
 where
     R: Wait + Clock + Drop,
     S: Sink,
     B: Listing,
+    K: Keeper,
     L: Line + Drop,
     O: Line + Drop,
 {
@@ -115,11 +117,12 @@ where
 }
 
 /// Ends the connections that told no good hello in time.
-fn shut_silent<R, S, B, L>(rt: &R, shared: &Shared<S, B>, seats: &Seats<L>, now: Duration)
+fn shut_silent<R, S, B, K, L>(rt: &R, shared: &Shared<S, B, K>, seats: &Seats<L>, now: Duration)
 where
     R: Wait,
     S: Sink,
     B: Listing,
+    K: Keeper,
     L: Line + Drop,
 {
     let most = Duration::from_secs(MOST_HELLO_SECONDS);
@@ -136,11 +139,12 @@ fn shut_late<R: Wait, O: Line + Drop>(rt: &R, outs: &Seats<O>, since: Duration, 
 }
 
 /// Ends the connections to sites for which more frames wait than may, so that their links close.
-fn shut_unread<R, S, B, O>(rt: &R, shared: &Shared<S, B>, outs: &Seats<O>)
+fn shut_unread<R, S, B, K, O>(rt: &R, shared: &Shared<S, B, K>, outs: &Seats<O>)
 where
     R: Wait,
     S: Sink,
     B: Listing,
+    K: Keeper,
     O: Line + Drop,
 {
     for _ in 0..shared.others.len() {

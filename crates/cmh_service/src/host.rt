@@ -13,7 +13,7 @@ use cmh_frames::{Event, ProcId, Topology};
 use cmh_host::{Answer, JournalSink, SiteHandle, SiteReply, link_ends, note_seal};
 use cmh_journal::ENTRY_LIMIT;
 use cmh_links::{LinkState, LinkView};
-use cmh_station::{Declared, KeptBoard, StationRefusal};
+use cmh_station::{Declared, KeptBoard, NewestEntries, StationRefusal};
 use std::alloc::{AllocError, Global};
 use std::sync::Wait;
 
@@ -24,7 +24,7 @@ pub(crate) struct Host<R: Wait + Drop> {
     pub alloc: Global,
     pub topology: Topology,
     pub handle: SiteHandle<R>,
-    pub links: LinkView<JournalSink, KeptBoard<R>>,
+    pub links: LinkView<JournalSink, KeptBoard<R>, NewestEntries>,
 }
 
 /// What a station answered to events that it was given together.
@@ -156,7 +156,7 @@ impl<R: Wait + Drop> Host<R> {
         let Ok(told) = station.tell(&self.rt) else {
             return no_memory();
         };
-        let entries = station.journal().len();
+        let entries = station.count();
         Reply::Status(Status {
             entries,
             room: ENTRY_LIMIT.saturating_sub(entries),

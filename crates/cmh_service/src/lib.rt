@@ -1,8 +1,8 @@
 //! The command `serve`: a site that clients talk to over connections of their own.
 #![tactic(auto)]
 
+mod clients;
 mod connection;
-mod guests;
 mod host;
 mod language;
 pub mod laws;

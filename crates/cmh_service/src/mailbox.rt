@@ -3,7 +3,7 @@
 ghost use Rattle.std.specs.Prelude.{None};
 ghost use Rattle.cmh_service.specs.Replies.{IsReply};
 
-use crate::guests::{MOST_CLIENTS, MOST_WAITING};
+use crate::clients::{MOST_CLIENTS, MOST_WAITING};
 use crate::reply::EventReply;
 use cmh_client::Waiting;
 use cmh_frames::Event;
@@ -113,7 +113,7 @@ impl Mailbox {
 
 /// Puts answers into the mailboxes of the threads whose clients wait for them.
 #[derive(Drop)]
-pub(crate) struct Post<R: Wait + Drop> {
+pub(crate) struct Dispatcher<R: Wait + Drop> {
     rt: R,
     mailboxes: Arc<Vec<Mailbox>>,
     /// Of the thread itself, which needs not be woken.
@@ -122,9 +122,9 @@ pub(crate) struct Post<R: Wait + Drop> {
     given: u64,
 }
 
-impl<R: Wait + Drop> Post<R> {
-    pub fn new(rt: R, mailboxes: Arc<Vec<Mailbox>>, own: usize) -> Post<R> {
-        Post {
+impl<R: Wait + Drop> Dispatcher<R> {
+    pub fn new(rt: R, mailboxes: Arc<Vec<Mailbox>>, own: usize) -> Dispatcher<R> {
+        Dispatcher {
             rt,
             mailboxes,
             own,
@@ -162,7 +162,7 @@ impl<R: Wait + Drop> Post<R> {
     }
 }
 
-impl<R: Wait + Drop> Waiting<Event, EventReply> for Post<R> {
+impl<R: Wait + Drop> Waiting<Event, EventReply> for Dispatcher<R> {
     ghost given = { λ _. None };
 
     ghost Replies = { IsReply };

@@ -4,9 +4,9 @@ ghost use Rattle.std.specs.Prelude.{◌≤◌, vec_capacity};
 ghost use Rattle.cmh_service.specs.Replies.{WasAnswered};
 ghost use Rattle.cmh_station.specs.Journaled.{batch_limit};
 
-use crate::guests::MOST_CLIENTS;
+use crate::clients::MOST_CLIENTS;
 use crate::host::Host;
-use crate::mailbox::{Mailbox, Post};
+use crate::mailbox::{Dispatcher, Mailbox};
 use crate::reply::{EventReply, Reply};
 use crate::said::Said;
 use cmh_client::Desk;
@@ -35,10 +35,10 @@ impl Round {
     }
 
     /// Gives the events to a site, and the replies to who waits for them.
-    fn step<R: Wait + Drop>(&mut self, host: &Host<R>, post: &mut Post<R>) {
+    fn step<R: Wait + Drop>(&mut self, host: &Host<R>, dispatcher: &mut Dispatcher<R>) {
         self.replies.clear();
         host.step_all(self.desk.events(), &mut self.replies);
-        self.desk.hand_back(&self.replies, post);
+        self.desk.hand_back(&self.replies, dispatcher);
     }
 }
 
@@ -54,7 +54,7 @@ pub(crate) struct Rounds<R: Wait + Drop> {
     /// Whether a thread can't serve its clients any more.
     has_ended: AtomicBool,
     /// Wakes the thread that lets clients in.
-    doors: Waker,
+    acceptor: Waker,
 }
 
 impl<R: Wait + Drop> Rounds<R> {
@@ -62,7 +62,7 @@ impl<R: Wait + Drop> Rounds<R> {
         host: Host<R>,
         desk: Desk<Event>,
         mailboxes: Arc<Vec<Mailbox>>,
-        doors: Waker,
+        acceptor: Waker,
     ) -> Rounds<R> {
         Rounds {
             host: Mutex::new(host),
@@ -70,14 +70,14 @@ impl<R: Wait + Drop> Rounds<R> {
             is_stepping: AtomicBool::new(false),
             mailboxes,
             has_ended: AtomicBool::new(false),
-            doors,
+            acceptor,
         }
     }
 
     /// A thread can't serve its clients any more: the service ends.
     pub fn end(&self) {
         self.has_ended.store(true, Ordering::SeqCst);
-        let _ = self.doors.wake();
+        let _ = self.acceptor.wake();
     }
 
     pub fn has_ended(&self) -> bool {
@@ -109,25 +109,25 @@ impl<R: Wait + Drop> Rounds<R> {
 
     /// Gives the events that wait to the station. Where a round is under way, the thread is woken at its end instead.
     /// Answers whether it gave some.
-    pub fn step(&self, rt: &R, round: &mut Round, post: &mut Post<R>) -> bool {
+    pub fn step(&self, rt: &R, round: &mut Round, dispatcher: &mut Dispatcher<R>) -> bool {
         if !self.has_events(rt) {
             return false;
         }
-        post.await_round(true);
+        dispatcher.await_round(true);
         if self.is_stepping.swap(true, Ordering::SeqCst) {
             return false;
         }
-        post.await_round(false);
+        dispatcher.await_round(false);
         {
             let mut desk = self.desk.lock(rt);
             swap(&mut *desk, &mut round.desk);
         }
-        post.wake_for_room();
+        dispatcher.wake_for_room();
         if !round.desk.events().is_empty() {
-            round.step(&self.host.lock(rt), post);
+            round.step(&self.host.lock(rt), dispatcher);
         }
         self.is_stepping.store(false, Ordering::SeqCst);
-        post.wake_all();
+        dispatcher.wake_all();
         true
     }
 

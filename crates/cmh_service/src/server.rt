@@ -1,9 +1,9 @@
 //! A thread that serves clients.
 
+use crate::clients::{Clients, MOST_CLIENTS};
 use crate::connection::{Connection, Talk};
-use crate::guests::{Guests, MOST_CLIENTS};
 use crate::language::Lines;
-use crate::mailbox::{Mailbox, Post};
+use crate::mailbox::{Dispatcher, Mailbox};
 use crate::rounds::{Round, Rounds};
 use mio::net::TcpStream;
 use mio::{Events, Interest, Poll, Token};
@@ -28,11 +28,11 @@ pub(crate) struct Server<R: Wait + Drop> {
     number: usize,
     poll: Poll,
     events: Events,
-    guests: Guests,
+    clients: Clients,
     rounds: Arc<Rounds<R>>,
     /// Room for a round.
     round: Round,
-    post: Post<R>,
+    dispatcher: Dispatcher<R>,
     /// Whether something was declared that watching clients were not told.
     has_news: bool,
 }
@@ -45,17 +45,17 @@ impl<R: Wait + Copy + Drop> Server<R> {
         poll: Poll,
         rounds: Arc<Rounds<R>>,
     ) -> Result<Server<R>, AllocError> {
-        let post = Post::new(rt, Arc::try_clone(&rounds.mailboxes)?, number);
+        let dispatcher = Dispatcher::new(rt, Arc::try_clone(&rounds.mailboxes)?, number);
         Ok(Server {
             rt,
             alloc,
             number,
             poll,
             events: Events::with_capacity(alloc, MOST_CLIENTS + 1)?,
-            guests: Guests::new(alloc, number)?,
+            clients: Clients::new(alloc, number)?,
             rounds,
             round: Round::new(alloc)?,
-            post,
+            dispatcher,
             has_news: true,
         })
     }
@@ -83,8 +83,8 @@ impl<R: Wait + Copy + Drop> Server<R> {
             if turn > 0 && self.events.is_empty() {
                 break;
             }
-            look_at_events(&self.events, &mut self.guests);
-            self.guests.read_all();
+            look_at_events(&self.events, &mut self.clients);
+            self.clients.read_all();
             patience = Some(Duration::ZERO);
         }
         true
@@ -102,28 +102,28 @@ impl<R: Wait + Copy + Drop> Server<R> {
             let Some(stream) = mailbox.newcomer(&rt) else {
                 break;
             };
-            let_in(self.alloc, &self.poll, &mut self.guests, mailbox, stream);
+            let_in(self.alloc, &self.poll, &mut self.clients, mailbox, stream);
         }
         if !mailbox.awaits_room() {
-            self.guests.let_on();
+            self.clients.let_on();
         }
-        mailbox.set_served(self.guests.served());
-        self.guests.take_lines(&rt, rounds);
-        let has_stepped = rounds.step(&rt, &mut self.round, &mut self.post);
-        let has_replies = self.guests.take_replies(&rt, mailbox);
+        mailbox.set_served(self.clients.served());
+        self.clients.take_lines(&rt, rounds);
+        let has_stepped = rounds.step(&rt, &mut self.round, &mut self.dispatcher);
+        let has_replies = self.clients.take_replies(&rt, mailbox);
         if (has_stepped || has_replies) && !mailbox.awaits_room() {
-            self.guests.let_on();
+            self.clients.let_on();
         }
         if self.has_news {
-            self.has_news = !tell_declarations(&rt, rounds, &mut self.guests);
+            self.has_news = !tell_declarations(&rt, rounds, &mut self.clients);
         }
-        self.guests.write_all(mailbox);
-        mailbox.set_served(self.guests.served());
+        self.clients.write_all(mailbox);
+        mailbox.set_served(self.clients.served());
     }
 
     /// How long to wait for the next event.
     fn patience(&self) -> Option<Duration> {
-        if self.guests.is_busy() || self.rounds.is_due(&self.rt) {
+        if self.clients.is_busy() || self.rounds.is_due(&self.rt) {
             Some(Duration::ZERO)
         } else if self.has_news {
             Some(Duration::from_millis(PAUSE_MILLISECONDS))
@@ -133,10 +133,10 @@ impl<R: Wait + Copy + Drop> Server<R> {
     }
 }
 
-fn look_at_events(events: &Events, guests: &mut Guests) {
+fn look_at_events(events: &Events, clients: &mut Clients) {
     for event in events.iter() {
         let Token(place) = event.token();
-        if let Some(connection) = guests.at(place) {
+        if let Some(connection) = clients.at(place) {
             connection.ready(event);
         }
     }
@@ -146,12 +146,12 @@ fn look_at_events(events: &Events, guests: &mut Guests) {
 fn let_in(
     alloc: Global,
     poll: &Poll,
-    guests: &mut Guests,
+    clients: &mut Clients,
     mailbox: &Mailbox,
     mut stream: TcpStream,
 ) {
     let both = Interest::READABLE | Interest::WRITABLE;
-    if let Some(place) = guests.free_place() {
+    if let Some(place) = clients.free_place() {
         if stream.set_nodelay(true).is_ok()
             && poll
                 .registry()
@@ -159,7 +159,7 @@ fn let_in(
                 .is_ok()
         {
             let talk = Talk::new(alloc, Lines::new(alloc));
-            guests.put(place, Connection::new(stream, talk));
+            clients.put(place, Connection::new(stream, talk));
             return;
         }
     }
@@ -167,13 +167,13 @@ fn let_in(
 }
 
 /// Tells declarations to the clients that watch. Where memory is refused it is to be tried again.
-fn tell_declarations<R: Wait + Drop>(rt: &R, rounds: &Rounds<R>, guests: &mut Guests) -> bool {
-    if !guests.has_watchers() {
+fn tell_declarations<R: Wait + Drop>(rt: &R, rounds: &Rounds<R>, clients: &mut Clients) -> bool {
+    if !clients.has_watchers() {
         return true;
     }
     match rounds.declarations(rt) {
         Some(declared) => {
-            guests.tell(declared.as_slice());
+            clients.tell(declared.as_slice());
             true
         }
         None => false,

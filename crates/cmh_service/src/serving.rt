@@ -5,7 +5,7 @@ ghost use Rattle.cmh_console.specs.Faults.{NamesFault};
 ghost use Rattle.cmh_console.specs.Status.{IsStatus};
 ghost use Rattle.cmh_service.specs.ServiceFaults.{IsServiceFault, as_fault};
 
-use crate::guests::MOST_CLIENTS;
+use crate::clients::MOST_CLIENTS;
 use crate::host::Host;
 use crate::mailbox::Mailbox;
 use crate::rounds::Rounds;
@@ -115,7 +115,7 @@ where
     if !setting.world.has_site(own.site) {
         return Err(ServiceFault::Site);
     }
-    let doors = Doors::open(&rt, start.port)?;
+    let acceptor = Acceptor::open(&rt, start.port)?;
     let setup = SiteSetup {
         topology: &setting.world,
         ports: &setting.ports,
@@ -141,7 +141,7 @@ where
         end(threads);
         return Err(ServiceFault::Output);
     }
-    Err(ServiceFault::from(serve_beside(rt, alloc, host, doors, threads)))
+    Err(ServiceFault::from(serve_beside(rt, alloc, host, acceptor, threads)))
 }
 
 fn say_listening<W: Write>(out: &mut Output<W>) -> Result<(), WriteFault>
@@ -166,7 +166,7 @@ fn serve_beside<R>(
     rt: R,
     alloc: Global,
     host: Host<R>,
-    doors: Doors,
+    acceptor: Acceptor,
     mut threads: Running<R>,
 ) -> Shortage
 where
@@ -179,14 +179,14 @@ where
         + Drop
         + 'static,
 {
-    let rounds = match start_servers(rt, alloc, host, &doors) {
+    let rounds = match start_servers(rt, alloc, host, &acceptor) {
         Ok(rounds) => rounds,
         Err(shortage) => {
             end(threads);
             return shortage;
         }
     };
-    let Ok(accepting) = thread::spawn(&rt, move || doors.accept_all(&rt, alloc, &rounds)) else {
+    let Ok(accepting) = thread::spawn(&rt, move || acceptor.accept_all(&rt, alloc, &rounds)) else {
         end(threads);
         return Shortage::Memory;
     };
@@ -202,14 +202,14 @@ fn start_servers<R>(
     rt: R,
     alloc: Global,
     host: Host<R>,
-    doors: &Doors,
+    acceptor: &Acceptor,
 ) -> Result<Arc<Rounds<R>>, Shortage>
 where
     R: Wait + Threads + Net + Copy + Send + Drop + 'static,
 {
     let Polled { mailboxes, polls } = make_polls(&rt, alloc)?;
     let parker = watch(alloc, &host)?;
-    let rounds = make_rounds(alloc, host, mailboxes, doors)?;
+    let rounds = make_rounds(alloc, host, mailboxes, acceptor)?;
     start_passing(rt, parker, &rounds)?;
     for (number, poll) in polls.into_iter().enumerate() {
         start_server(rt, alloc, number, poll, &rounds)?;
@@ -256,9 +256,9 @@ fn make_rounds<R: Wait + Drop>(
     alloc: Global,
     host: Host<R>,
     mailboxes: Vec<Mailbox>,
-    doors: &Doors,
+    acceptor: &Acceptor,
 ) -> Result<Arc<Rounds<R>>, Shortage> {
-    let Ok(waker) = Waker::new(doors.poll.registry(), ENDED) else {
+    let Ok(waker) = Waker::new(acceptor.poll.registry(), ENDED) else {
         return Err(Shortage::Listen);
     };
     let mailboxes = Arc::new(alloc, mailboxes)?;
@@ -308,13 +308,13 @@ fn pass_on<R: Wait + Drop>(rt: R, parker: &Parker, rounds: &Rounds<R>) {
 
 /// Where clients come in.
 #[derive(Drop)]
-struct Doors {
+struct Acceptor {
     poll: Poll,
     listener: Listener,
 }
 
-impl Doors {
-    fn open<R: Net>(rt: &R, port: u16) -> Result<Doors, Shortage> {
+impl Acceptor {
+    fn open<R: Net>(rt: &R, port: u16) -> Result<Acceptor, Shortage> {
         let address = SocketAddr::from((Ipv4Addr::LOCALHOST, port));
         let (Ok(poll), Ok(mut listener)) = (Poll::new(rt), Listener::bind(rt, address)) else {
             return Err(Shortage::Listen);
@@ -323,14 +323,14 @@ impl Doors {
             .registry()
             .register(&mut listener, LISTENER, Interest::READABLE);
         match registered {
-            Ok(()) => Ok(Doors { poll, listener }),
+            Ok(()) => Ok(Acceptor { poll, listener }),
             Err(_) => Err(Shortage::Listen),
         }
     }
 
     /// Lets clients in until that can't go on.
     fn accept_all<R: Wait + Drop>(self, rt: &R, alloc: Global, rounds: &Rounds<R>) -> Shortage {
-        let mut doors = self;
+        let mut acceptor = self;
         let Ok(mut events) = Events::with_capacity(alloc, 1) else {
             return Shortage::Memory;
         };
@@ -341,10 +341,10 @@ impl Doors {
             } else {
                 None
             };
-            if doors.poll.poll(&mut events, patience).is_err() || rounds.has_ended() {
+            if acceptor.poll.poll(&mut events, patience).is_err() || rounds.has_ended() {
                 return Shortage::Listen;
             }
-            may_accept = doors.accept(rt, rounds);
+            may_accept = acceptor.accept(rt, rounds);
         }
         unreachable!()
     }

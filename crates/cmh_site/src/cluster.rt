@@ -28,7 +28,7 @@ use cmh_host::{
     Ports, RunningSite, Setting, SiteReply, Speakers, System, can_be_made, closed_in, closed_out,
     open_station, parse_for_cluster, read_setting, start_threads,
 };
-use cmh_journal::Sink;
+use cmh_journal::{Journal, Sink};
 use cmh_links::LinkFault;
 use cmh_station::{KeptBoard, Listing, StationRefusal};
 use std::alloc::{AllocError, Global};
@@ -267,7 +267,7 @@ fn read_back<R: Files<File = File> + AllocGlobal>(
 
 /// Ends all threads. No frame is under way then on a link that is open, and a peer that is none of the sites is not waited
 /// for.
-fn stop_all<R>(mut members: Vec<RunningSite<R>>)
+fn stop_all<R>(mut members: Vec<RunningSite<R, Journal>>)
 where
     R: System + Send + 'static,
 {
@@ -278,7 +278,7 @@ where
     members.destroy_empty();
 }
 
-fn cut_off_all<R>(members: &[RunningSite<R>])
+fn cut_off_all<R>(members: &[RunningSite<R, Journal>])
 where
     R: System + Send + 'static,
 {
@@ -302,7 +302,7 @@ where
     tally: Tally,
     /// How many links could not be opened.
     unopened: usize,
-    members: Vec<RunningSite<R>>,
+    members: Vec<RunningSite<R, Journal>>,
 }
 
 impl<'a, R> Cluster<'a, R>
@@ -393,7 +393,7 @@ where
     fn start_one(
         &mut self,
         ports: &Ports,
-        opened: Opened<R>,
+        opened: Opened<R, Journal>,
         listen: TcpListen<R>,
     ) -> Result<(), ClusterFault>
         ensures topology { self.new.topology ≡ self.old.topology }
@@ -466,7 +466,7 @@ where
     }
 
     /// Makes all journals anew; none where one of them can't be made, so that a cluster which runs keeps its journals.
-    fn open_all(&self, dir: &str) -> Result<Vec<Opened<R>>, NoFile> {
+    fn open_all(&self, dir: &str) -> Result<Vec<Opened<R, Journal>>, NoFile> {
         let sites = self.topology.sites();
         let folder = JournalFolder::of_sites(&self.rt, self.alloc, dir, sites)?;
         let opened = self.open_in(&folder, dir)?;
@@ -474,7 +474,11 @@ where
         Ok(opened)
     }
 
-    fn open_in(&self, folder: &JournalFolder<'_, R>, dir: &str) -> Result<Vec<Opened<R>>, NoFile> {
+    fn open_in(
+        &self,
+        folder: &JournalFolder<'_, R>,
+        dir: &str,
+    ) -> Result<Vec<Opened<R, Journal>>, NoFile> {
         let mut opened = Vec::with_capacity(self.alloc, self.topology.sites().len())?;
         for site in self.topology.sites() {
             opened.push(self.open_one(folder, dir, *site)?)?;
@@ -487,7 +491,7 @@ where
         folder: &JournalFolder<'_, R>,
         dir: &str,
         site: SiteId,
-    ) -> Result<Opened<R>, NoFile> {
+    ) -> Result<Opened<R, Journal>, NoFile> {
         let sink = folder.replace(self.alloc, dir, site)?;
         open_station(self.rt, self.alloc, self.topology, site, sink)
     }
@@ -675,8 +679,12 @@ where
     }
 }
 
-/// Counts the receipts that are new in the journals of all sites.
-fn look_at_receipts<R>(rt: &R, members: &[RunningSite<R>], tally: &mut Tally) -> ReceiptLook
+/// Counts the receipts that are new in the journals of all sites, whose stations keep all their entries for that.
+fn look_at_receipts<R>(
+    rt: &R,
+    members: &[RunningSite<R, Journal>],
+    tally: &mut Tally,
+) -> ReceiptLook
 where
     R: System + Send + 'static,
     ensures { result.places ≡ length members.now }
@@ -692,7 +700,7 @@ where
 /// Counts the sendings that are new in the journals of all sites, after a look at their receipts.
 fn look_at_sendings<R>(
     rt: &R,
-    members: &[RunningSite<R>],
+    members: &[RunningSite<R, Journal>],
     tally: &mut Tally,
     receipts: ReceiptLook,
 ) -> SendingLook

@@ -9,3 +9,5 @@ pub mod Arriving
 pub mod KeptBatches
 pub mod Refused
 pub mod Alone
+pub mod NoBytes
+pub mod EarlierEntries

@@ -7,3 +7,4 @@ pub mod Stations
 pub mod Appends
 pub mod Arrivals
 pub mod Questions
+pub mod Keepers

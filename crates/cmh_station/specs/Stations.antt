@@ -1,5 +1,5 @@
 -- What a contract sees of a station: a controller with its journal, a board of what the journal declares, and the sink.
-use Rattle.std.specs.Prelude.{ℕ, ◌≡◌, ◌≤◌, false, List, length, take}
+use Rattle.std.specs.Prelude.{ℕ, ◌≡◌, ◌+◌, ◌≤◌, false, List, ◌++◌, length, take}
 use Rattle.cmh_frames.specs.Entries.{Entry}
 use Rattle.cmh_frames.specs.Declarations.{declarations}
 use Rattle.cmh_frames.specs.Runs.{IsBeginningOf}
@@ -36,3 +36,17 @@ pub record GoesOn (a b : Listed) : Type 0 where
 pub record KeepsUp (entries' : List Entry) (count : ℕ) (a b : Listed) : Type 0 where
   pub up_to_date : IsUpToDate entries' count b
   pub goes_on : GoesOn a b
+
+-- A station's board is up to date, and the entries that it has not taken in are in memory: so many of the first are not.
+pub record IsKept (entries' : List Entry) (gone count : ℕ) (board : Listed) : Type 0 where
+  pub up_to_date : IsUpToDate entries' count board
+  pub in_memory : gone ≤ count
+
+-- A board took in the first of these entries, which were not taken in yet: now so many of the journal are.
+pub record TookIn (more : List Entry) (count count' : ℕ) (a b : Listed) : Type 0 where
+  pub taken : ℕ
+  pub counted : count' ≡ count + taken
+  pub within : taken ≤ length more
+  pub listed : b.list ≡ a.list ++ declarations (take taken more)
+  pub book : b.book ≡ a.book
+  pub shown : b.shown ≡ a.shown

@@ -7,11 +7,12 @@ ghost use Rattle.cmh_station.specs.Batches.{AreUntilRefused, NotSteppedAll, NotS
 ghost use Rattle.cmh_station.specs.Journaled.{Journaled, batch_limit};
 ghost use Rattle.cmh_station.specs.Steps.{NotStepped, Stepped};
 
+use crate::keeper::Keeper;
 use crate::parking_tap::{LinkTap, ParkingTap};
 use crate::refusal::StationRefusal;
 use crate::station::Station;
 use cmh_frames::{Event, Frame, Outcome, SiteId};
-use cmh_journal::Sink;
+use cmh_journal::{Journal, Sink};
 use cmh_shared::Listing;
 use crossbeam_utils::sync::{Parker, Unparker};
 use std::alloc::{AllocError, Global};
@@ -20,8 +21,8 @@ use std::sync::{Arc, Mutex, MutexGuard, OnceLock, Wait};
 
 /// A station under a lock, and what wakes the threads of its taps.
 #[derive(Drop)]
-pub struct SharedStation<S: Sink, B: Listing> {
-    station: Mutex<Station<S, B>>,
+pub struct SharedStation<S: Sink, B: Listing, K: Keeper = Journal> {
+    station: Mutex<Station<S, B, K>>,
     sleepers: Vec<Sleeper>,
     /// What wakes the thread that tells declarations, where there is one.
     watcher: OnceLock<Unparker>,
@@ -43,14 +44,14 @@ struct News {
     declares: bool,
 }
 
-impl<S: Sink, B: Listing> SharedStation<S, B> {
+impl<S: Sink, B: Listing, K: Keeper> SharedStation<S, B, K> {
     /// The station under a lock, and its taps, each with a parker of its own, in their order. Where memory is refused
     /// all comes back.
     pub fn new(
         alloc: Global,
-        station: Station<S, B>,
+        station: Station<S, B, K>,
         taps: Vec<LinkTap>,
-    ) -> Result<(SharedStation<S, B>, Vec<ParkingTap>), (Station<S, B>, Vec<LinkTap>)>
+    ) -> Result<(SharedStation<S, B, K>, Vec<ParkingTap>), (Station<S, B, K>, Vec<LinkTap>)>
         ensures taps { IfOk result (λ shared. shared.1.items ≡ taps.items) }
         ensures refused { IfErr result (λ back. (back.0 ≡ station) × (back.1 ≡ taps)) }
     {
@@ -83,7 +84,7 @@ impl<S: Sink, B: Listing> SharedStation<S, B> {
             × NotStepped before event.now refusal after) }
     {
         let mut station = self.station.lock(rt);
-        let before = station.journal().len();
+        let before = station.count();
         let answer = station.step(rt, event);
         self.give_back(station, before);
         answer
@@ -102,7 +103,7 @@ impl<S: Sink, B: Listing> SharedStation<S, B> {
             × NotSteppedAll before events.now refusal after) }
     {
         let mut station = self.station.lock(rt);
-        let before = station.journal().len();
+        let before = station.count();
         let answers = station.step_all(rt, events);
         self.give_back(station, before);
         answers
@@ -123,7 +124,7 @@ impl<S: Sink, B: Listing> SharedStation<S, B> {
             × NotSteppedFromFirst before events.now refusal after) }
     {
         let mut station = self.station.lock(rt);
-        let before = station.journal().len();
+        let before = station.count();
         let answers = step_from_first(rt, &mut station, events);
         self.give_back(station, before);
         answers
@@ -143,7 +144,7 @@ impl<S: Sink, B: Listing> SharedStation<S, B> {
             × NotSteppedAll before events.now refusal after) }
     {
         let mut station = self.station.lock(rt);
-        let before = station.journal().len();
+        let before = station.count();
         let answers = station.step_until(rt, events);
         self.give_back(station, before);
         answers
@@ -161,23 +162,25 @@ impl<S: Sink, B: Listing> SharedStation<S, B> {
             × TookSome from frames.now refusal before after) }
     {
         let mut station = self.station.lock(rt);
-        let before = station.journal().len();
+        let before = station.count();
         let answer = station.take_frames(rt, from, frames);
         self.give_back(station, before);
         answer
     }
 
     /// Gives the lock back, and wakes who has something to do after the entries that the station has made since its journal
-    /// had so many.
-    fn give_back(&self, station: MutexGuard<'_, Station<S, B>>, before: usize) {
+    /// had so many. These need not stay in memory.
+    fn give_back(&self, station: MutexGuard<'_, Station<S, B, K>>, before: usize) {
+        let mut station = station;
         let news = self.news(&station, before);
+        station.let_go();
         drop(station);
         self.wake_for(news);
     }
 
     /// The station, lent until the guard is dropped, for a look or another call that makes no entry: after a step through
     /// it nobody would be woken. It waits for whoever holds it; a thread that holds it and asks again waits for ever.
-    pub fn lock<R: Wait>(&self, rt: &R) -> MutexGuard<'_, Station<S, B>> {
+    pub fn lock<R: Wait>(&self, rt: &R) -> MutexGuard<'_, Station<S, B, K>> {
         self.station.lock(rt)
     }
 
@@ -191,12 +194,12 @@ impl<S: Sink, B: Listing> SharedStation<S, B> {
     }
 
     /// Who has something to do after the entries that the station has made since its journal had so many.
-    fn news(&self, station: &Station<S, B>, before: usize) -> News {
+    fn news(&self, station: &Station<S, B, K>, before: usize) -> News {
         let mut news = News {
             links: 0,
             declares: false,
         };
-        for entry in station.journal().get(before..).unwrap_or(&[]) {
+        for entry in station.since(before) {
             news.declares |= entry.declared.is_some();
             for (to, _) in entry.sent.as_slice() {
                 if let Some(place) = self.sleepers.iter().position(|sleeper| sleeper.to == *to) {
@@ -231,7 +234,7 @@ impl<S: Sink, B: Listing> SharedStation<S, B> {
     }
 
     /// The station, which is no longer shared.
-    pub fn into_station(self) -> Station<S, B> {
+    pub fn into_station(self) -> Station<S, B, K> {
         let SharedStation {
             station,
             sleepers: _sleepers,
@@ -280,9 +283,9 @@ fn with_parkers(
 }
 
 /// Steps all events, if the station can step the first one.
-fn step_from_first<R: Wait, S: Sink, B: Listing>(
+fn step_from_first<R: Wait, S: Sink, B: Listing, K: Keeper>(
     rt: &R,
-    station: &mut Station<S, B>,
+    station: &mut Station<S, B, K>,
     events: &[Event],
 ) -> Result<Vec<Result<Outcome, StationRefusal>>, StationRefusal>
     requires some { 0 < length events.now }

@@ -6,9 +6,9 @@ pub returns-in_err-setting-clause-fault : goal.returns-in_err-setting-clause-fau
 returns-in_err-setting-clause-fault g c =
     setting_err _ _ _ c.from_residual.result c.in_err-setting.field-0.0 c.from_residual.ensures.1 c.in_err-setting.ensures.fault
 
-pub returns-in_err-doors-clause-fault : goal.returns-in_err-doors-clause-fault
-returns-in_err-doors-clause-fault g c =
-    short_err _ _ _ c.from_residual-in_err-doors.result c.in_err-doors.field-0.0 c.from_residual-in_err-doors.ensures.1
+pub returns-in_err-acceptor-clause-fault : goal.returns-in_err-acceptor-clause-fault
+returns-in_err-acceptor-clause-fault g c =
+    short_err _ _ _ c.from_residual-in_err-acceptor.result c.in_err-acceptor.field-0.0 c.from_residual-in_err-acceptor.ensures.1
     (c.in_ok-setting.setting.world, c.in_ok-setting.ensures.world, sym c.has_site.ensures ∙ c.if-not-has_site.false)
 
 pub returns-in_err-running-clause-fault : goal.returns-in_err-running-clause-fault

@@ -27,7 +27,7 @@ const MOST_READ: usize = 1 << 14;
 
 /// The clients of a thread, each at a place of its own.
 #[derive(Drop)]
-pub(crate) struct Guests {
+pub(crate) struct Clients {
     places: Vec<Option<Connection>>,
     /// The number of the thread.
     number: usize,
@@ -41,10 +41,10 @@ pub(crate) struct Guests {
     alloc: Global,
 }
 
-impl Guests {
+impl Clients {
     /// Nobody, with room for all.
-    pub fn new(alloc: Global, number: usize) -> Result<Guests, AllocError> {
-        Ok(Guests {
+    pub fn new(alloc: Global, number: usize) -> Result<Clients, AllocError> {
+        Ok(Clients {
             places: Vec::with_capacity(alloc, MOST_CLIENTS)?,
             number,
             waiting: 0,
@@ -57,7 +57,7 @@ impl Guests {
 
     /// A free place, if there is one.
     pub fn free_place(&mut self) -> Option<usize> {
-        let free = self.places.iter().position(|guest| guest.is_none());
+        let free = self.places.iter().position(|client| client.is_none());
         if free.is_some() {
             return free;
         }
@@ -70,8 +70,8 @@ impl Guests {
 
     /// Puts a client at a place.
     pub fn put(&mut self, place: usize, connection: Connection) {
-        if let Some(guest) = self.places.get_mut(place) {
-            *guest = Some(connection);
+        if let Some(client) = self.places.get_mut(place) {
+            *client = Some(connection);
         }
     }
 
@@ -85,8 +85,8 @@ impl Guests {
 
     /// Reads what clients sent.
     pub fn read_all(&mut self) {
-        for guest in self.places.iter_mut() {
-            if let Some(connection) = guest {
+        for client in self.places.iter_mut() {
+            if let Some(connection) = client {
                 connection.read(&mut self.scratch);
             }
         }
@@ -94,11 +94,11 @@ impl Guests {
 
     /// Sends what clients are to be sent, and closes those that are over.
     pub fn write_all(&mut self, mailbox: &Mailbox) {
-        for guest in self.places.iter_mut() {
-            if let Some(connection) = guest {
+        for client in self.places.iter_mut() {
+            if let Some(connection) = client {
                 connection.write();
                 if connection.is_over() {
-                    *guest = None;
+                    *client = None;
                     mailbox.leave();
                 }
             }
@@ -107,7 +107,7 @@ impl Guests {
 
     /// Whether there is more to do at once.
     pub fn is_busy(&self) -> bool {
-        self.places.iter().any(|guest| match guest {
+        self.places.iter().any(|client| match client {
             Some(connection) => connection.is_busy(),
             None => false,
         })
@@ -128,8 +128,8 @@ impl Guests {
 
     /// There may be room for events again.
     pub fn let_on(&mut self) {
-        for guest in self.places.iter_mut() {
-            if let Some(connection) = guest {
+        for client in self.places.iter_mut() {
+            if let Some(connection) = client {
                 connection.is_held = false;
             }
         }
@@ -137,8 +137,8 @@ impl Guests {
 
     /// Tells declarations to those who watch.
     pub fn tell(&mut self, declared: &[ProcId]) {
-        for guest in self.places.iter_mut() {
-            if let Some(connection) = guest {
+        for client in self.places.iter_mut() {
+            if let Some(connection) = client {
                 if connection.talk.tell(declared).is_err() {
                     connection.give_up();
                 }
@@ -147,7 +147,7 @@ impl Guests {
     }
 
     pub fn has_watchers(&self) -> bool {
-        self.places.iter().any(|guest| match guest {
+        self.places.iter().any(|client| match client {
             Some(connection) => connection.talk.watches(),
             None => false,
         })
@@ -187,7 +187,7 @@ impl Guests {
 
     /// How many clients have said something that is not answered yet.
     pub fn served(&self) -> usize {
-        let served = self.places.iter().filter(|guest| match guest {
+        let served = self.places.iter().filter(|client| match client {
             Some(connection) => connection.waiting() > 0 || connection.has_more(),
             None => false,
         });
