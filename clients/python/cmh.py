@@ -314,6 +314,10 @@ class Site3(Site):
             lines.append(line)
         return lines
 
+    def turn(self) -> int:
+        """The site begins its next epoch, in a new file of its journal; the answer is the number of the epoch."""
+        return int(self._words('turn')[2])
+
     def withdraw(self, process: int, holders: Iterable[int] = ()) -> None:
         """The process gives up its waits for these, or all of its waits."""
         self._words('withdraw', process, *sorted(set(holders)))

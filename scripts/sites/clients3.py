@@ -343,6 +343,16 @@ class Piped3:
                 end.close()
 
 
+def has_ended(site):
+    """Whether the site has ended. It is asked for one more answer: a child that another trial is just starting has our end of
+    the pipe for a moment, and takes an answer then."""
+    try:
+        site.say('waits 1\n')
+    except BrokenPipeError:
+        pass
+    return site.process.poll() is not None
+
+
 def lines_of_input(program):
     """`cmh site` of edition 3: the lines of a service from standard input, a pipe or a file, to its end or `quit`."""
     if program == FAKE:
@@ -391,8 +401,7 @@ def lines_of_input(program):
         with Piped3(world, 1, new=False) as site:
             site.hear()
             site.process.stdout.close()
-            site.say('waits 1\n')
-            site.process.wait(patience())
+            wait_until(lambda: has_ended(site), 'an end of a site that nobody reads')
             yield 'nobody reads', site.process.returncode == 3
             site.process.stdout = None
         with Piped3(world, 1) as site:

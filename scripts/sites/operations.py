@@ -493,7 +493,7 @@ def closes_by_itself(site, link='out 2'):
 # ---- 7. clusters that don't settle
 
 LOOK_SECONDS = 10.0  # the bound that the help names
-LOOK_PROCESSOR_SECONDS = 0.5  # that looks may take which pause
+LOOK_PROCESSOR_SECONDS = 1.5  # that looks may take which pause; without a pause they take all of the bound above
 
 
 def frames_that_dont_come(program):

@@ -8,6 +8,7 @@ import time
 
 import wire3
 from files import Segment
+from turns3 import epochs_of
 from world import patience, wait_until
 from world3 import World3, cmh
 
@@ -195,23 +196,31 @@ def lying_sender(program):
 
 
 def later_epochs(program):
-    """What is of a later epoch closes its connection, as long as there are no epochs: nothing of it is taken."""
+    """What a peer says of a later epoch is taken in that epoch. What is too far ahead closes its connection."""
     with World3(program, PAIR) as world:
         site = world.up(1)
         of, port = world.world, world.ports[1].number
         end = wire3.End.dial(port, patience())
         end.say(wire3.hello(of, 2, 1, epoch=1))
-        yield 'a hello', end.is_closed()
-        for name, said in (('a note', wire3.note(1)), ('a message', wire3.frame('request', 2, 1, clock=1 << 32)),
-                           ('one of the last epoch', wire3.frame('request', 2, 1, clock=(1 << 64) - 1))):
+        yield 'a hello', end.hear_answer() == (1, 0, wire3.EMPTY_MARK) and epochs_of(world, 1) == [0, 1]
+        end.say(wire3.note(2))
+        yield 'a note', end.hear_acknowledged(0) and epochs_of(world, 1)[-1] == 2
+        end.say(wire3.frame('request', 2, 1, clock=5 << 32))
+        yield 'a message', end.hear_acknowledged(1) and epochs_of(world, 1) == [0, 1, 2, 5]
+        yield 'it is the first entry of its epoch', site.status()['entries'] == '1' and site.ask('owed', 1) == 'owed 1 2'
+        far, mark = 5 + 65537, wire3.mark_of(wire3.frame('request', 2, 1, clock=5 << 32))
+        for name, said in (('a hello', wire3.hello(of, 2, 1, epoch=far)), ('a note', wire3.note(far)),
+                           ('a message', wire3.frame('withdraw', 2, 1, clock=far << 32)),
+                           ('one of the last epoch', wire3.frame('withdraw', 2, 1, clock=(1 << 64) - 1))):
             end = wire3.End.dial(port, patience())
-            end.say(wire3.hello(of, 2, 1))
-            yield name + ' comes', end.hear_answer() == (0, 0, wire3.EMPTY_MARK)
+            if name != 'a hello':
+                end.say(wire3.hello(of, 2, 1))
+                yield name + ' comes', end.hear_answer() == (5, 1, mark)
             end.say(said)
-            yield name, end.is_closed() and site.links()['in', 2] == 'resting' and site.status()['entries'] == '0'
+            yield name + ' too far ahead', end.is_closed() and site.status()['entries'] == '1' and epochs_of(world, 1)[-1] == 5
         end = wire3.End.dial(port, patience())
-        end.say(wire3.hello(of, 2, 1), request(0))
-        yield 'the link goes on', end.hear_answer() == (0, 0, wire3.EMPTY_MARK) and end.hear_acknowledged(1)
+        end.say(wire3.hello(of, 2, 1, epoch=3), wire3.frame('withdraw', 2, 1, clock=5 << 32))
+        yield 'the link goes on', end.hear_answer() == (5, 1, mark) and end.hear_acknowledged(2)
 
 
 def lying_receiver(program):

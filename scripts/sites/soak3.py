@@ -2,10 +2,13 @@
 """For so many minutes sites of edition 3 are killed, lose power, have their links cut and start again, all the time, while their
 clients go on. Then nothing that was answered is lost, nothing came twice, and the audit accepts.
 
-    scripts/sites/soak3.py [PROGRAM|--fake] --minutes N [--sites 3|4] [--seed S]
+    scripts/sites/soak3.py [PROGRAM|--fake] --minutes N [--sites 3|4] [--turns] [--seed S]
 
 PROGRAM: crates/cmh/out/cmh unless given. Every half minute all comes to rest, and is judged; then it goes on with the same
 journals, up to 100,000 entries a site, and then with new ones. The last line has the counts.
+
+With `--turns` sites begin epochs all the time, too. Then the folders are audited by definition (scripts/model3/folders.py), every
+six seconds, up to 15,000 entries a site.
 """
 import argparse
 import collections
@@ -16,22 +19,25 @@ import time
 import traceback
 
 from world import Missed, allow
+from turns3 import epochs_of, is_audited, lines_of, world_settles
 from world3 import FAKE, World3, cmh, lost_of, noted
 
 HERE = os.path.dirname(os.path.abspath(__file__))
 REST = 30.0             # seconds from one judgement to the next
+REST_MODELLED = 6.0     # where the folders are audited in Python
 MOST_ENTRIES = 100_000  # of a site, before a new world begins
+MOST_MODELLED = 15_000  # where the folders are audited in Python
 SYNC = 500              # microseconds that a sync takes
 MOST_BYTES = 20_000     # that pass a connection at most, where connections are cut
 
 
-TOLD = ('worlds', 'kills', 'power cuts', 'bytes lost', 'restarts', 'cut connections', 'resumed links', 'entries', 'messages',
-        'answered events', 'events in doubt', 'declarations', 'audits', 'lost', 'doubled')
+TOLD = ('worlds', 'kills', 'power cuts', 'bytes lost', 'restarts', 'turns', 'segments', 'cut connections', 'resumed links', 'entries',
+        'messages', 'answered events', 'events in doubt', 'declarations', 'audits', 'lost', 'doubled')
 
 
 class Soak:
-    def __init__(self, program, sites, seed):
-        self.program, self.seed, self.draw = program, seed, random.Random(seed)
+    def __init__(self, program, sites, seed, turns=False):
+        self.program, self.seed, self.draw, self.turns = program, seed, random.Random(seed), turns
         self.sites = {site: [100 * site + at for at in range(1, 7)] for site in range(1, sites + 1)}
         self.counts, self.failed = collections.Counter(), 0
 
@@ -63,8 +69,9 @@ class Wave:
         world = self.world
         self.running = {site: world.up(site, power=SYNC) for site in world.sites}
         try:
-            while time.monotonic() < self.end and self.counts['most'] < MOST_ENTRIES:
-                self.work(min(self.end, time.monotonic() + REST))
+            most = MOST_MODELLED if self.soak.turns else MOST_ENTRIES
+            while time.monotonic() < self.end and self.counts['most'] < most:
+                self.work(min(self.end, time.monotonic() + (REST_MODELLED if self.soak.turns else REST)))
                 self.judge()
         except (Missed, OSError, cmh.Ended) as missed:
             where = ' '.join('%s:%d' % (frame.name, frame.lineno) for frame in traceback.extract_tb(missed.__traceback__))
@@ -84,7 +91,9 @@ class Wave:
             relay.most = self.draw.choice([None, MOST_BYTES])
         while time.monotonic() < end:
             time.sleep(0.3 * self.draw.random())
-            if self.draw.random() < 0.3:
+            if self.soak.turns and self.draw.random() < 0.6:
+                self.turn_one()
+            elif self.draw.random() < 0.3:
                 self.draw.choice(list(self.world.relays.values())).cut_all()
             else:
                 self.kill_some()
@@ -95,6 +104,14 @@ class Wave:
             self.notes[client.site, tuple(client.own)] += client.notes
             self.counts['answered events'] += client.answered()
             self.counts['events in doubt'] += client.doubtful()
+
+    def turn_one(self):
+        try:
+            answer = self.draw.choice(list(self.running.values())).ask('turn')
+        except (OSError, cmh.Ended):
+            return
+        self.hold('a turn: %s' % answer, answer.startswith('ok epoch '))
+        self.counts['turns'] += 1
 
     def kill_some(self):
         several = self.draw.sample(list(self.running), self.draw.choice([1, 1, 1, 2, len(self.running)]))
@@ -112,16 +129,26 @@ class Wave:
             self.running[site] = self.world.up(site, power=SYNC)
             self.counts['restarts'] += 1
 
+    def audit(self):
+        world = self.world
+        if self.soak.turns:
+            world_settles(world, self.running)
+            self.hold(*is_audited(world, 'drained'))
+            self.hold('cmh audit', world.is_accepted('drained'))
+            self.counts['segments'] = sum(len(epochs_of(world, site)) for site in world.sites)
+            return
+        world.await_drained(self.running)
+        status, lines, fault = world.audit()
+        self.hold('the audit: %s %s' % (lines[:4], fault), status == 0 and lines[:1] == ['accepted'] and 'drained' in lines)
+
     def judge(self):
         """All comes to rest: each message that was sent was got once, each answered event is there, and the audit accepts."""
         world = self.world
-        world.await_drained(self.running)
-        status, lines, fault = world.audit()
+        self.audit()
         self.counts['audits'] += 1
-        self.hold('the audit: %s %s' % (lines[:4], fault), status == 0 and lines[:1] == ['accepted'] and 'drained' in lines)
         sent, got, entries = collections.Counter(), collections.Counter(), {}
         for site in world.sites:
-            entries[site] = world.entries(site)
+            entries[site] = lines_of(world, site) if self.soak.turns else world.entries(site)
             for entry in entries[site]:
                 front, *sendings = entry.split(' declared ')[0].split(' sent ')
                 sent.update((site, *each.split(' to ')) for each in sendings)
@@ -145,10 +172,11 @@ def main():
     parser.add_argument('--fake', action='store_true', help='the small site of fake3.py')
     parser.add_argument('--minutes', type=float, default=1)
     parser.add_argument('--sites', type=int, choices=[3, 4], default=3)
+    parser.add_argument('--turns', action='store_true', help='sites begin epochs, too')
     parser.add_argument('--seed', type=int, default=int(time.time()))
     options = parser.parse_args()
     allow(options.minutes * 60 + 600)
-    return Soak(FAKE if options.fake else os.path.abspath(options.program), options.sites, options.seed).run(options.minutes)
+    return Soak(FAKE if options.fake else os.path.abspath(options.program), options.sites, options.seed, options.turns).run(options.minutes)
 
 
 if __name__ == '__main__':

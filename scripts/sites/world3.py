@@ -52,7 +52,17 @@ class Disk:
 
     def environment(self, microseconds):
         return {**os.environ, 'LD_PRELOAD': power_library(), 'POWER_FOLDER': self.folder, 'POWER_KEPT': self.kept,
-                'POWER_SYNC': str(microseconds)}
+                'POWER_SYNC': str(microseconds), 'POWER_MOMENT': self.kept + '.moment'}
+
+    def at_moment(self, what, number):
+        """From now on: the call of this number on the folder kills the program, or fails as each later one."""
+        with open(self.kept + '.told', 'w') as file:
+            file.write('%s %d' % (what, number))
+        os.rename(self.kept + '.told', self.kept + '.moment')
+
+    def no_moment(self):
+        if os.path.exists(self.kept + '.moment'):
+            os.remove(self.kept + '.moment')
 
     def names(self):
         """The names that last, with their inodes."""

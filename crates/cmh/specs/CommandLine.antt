@@ -9,6 +9,7 @@ use Rattle.cmh_frames.specs.Number.{IsNumber}
 use Rattle.cmh_console.specs.Status.{IsStatus}
 use Rattle.cmh_commands.specs.Drawing.{TellsColumn}
 use Rattle.cmh_commands.specs.Files.{AsksFor, IsUnset}
+use Rattle.cmh_commands.specs.Later as later
 use Rattle.cmh_commands.specs.Numbers.{TellsNumber}
 use Rattle.cmh_files3.specs.declared.more.More.{More}
 
@@ -99,6 +100,10 @@ NamesColumn matches name told = OfWords matches (λ found. TellsColumn (one_text
 -- what the audit is asked to tell after its report
 abbrev pub AsksAudit : ArgMatches → More → Type 0
 AsksAudit matches more = OfWords matches (λ found. AsksFor found more)
+
+-- no epoch is named
+abbrev pub NamesNoEpoch : ArgMatches → Type 0
+NamesNoEpoch matches = OfWords matches later.NamesNoEpoch
 
 -- a page is not asked for
 abbrev pub NamesNoPage : ArgMatches → Type 0

@@ -1,16 +1,17 @@
 //! The program: it reads its command line and calls a command.
 #![tactic(auto)]
 
-ghost use Rattle.std.specs.Prelude.{◌≡◌, ℕ, List, Option, Some, codes};
+ghost use Rattle.std.specs.Prelude.{◌≡◌, ◌⊎◌, ℕ, List, Option, Some, codes};
 ghost use Rattle.clap.specs.Matches.{found_of, one_text};
 ghost use Rattle.cmh_commands.specs.Drawing.{DrawsFiles, DrawsSome, part_between};
 ghost use Rattle.cmh_commands.specs.Files.{AuditsFiles, IsUnset, ShowsFiles};
 ghost use Rattle.cmh_files3.specs.declared.more.More.{More};
+ghost use Rattle.cmh_commands.specs.Later.{SomePartEnds};
 ghost use Rattle.cmh_commands.specs.NewWorld.{WorldEnds};
 ghost use Rattle.cmh_commands.specs.Numbers.{TellsNumber};
 ghost use Rattle.cmh_commands.specs.Paging.{PagesFiles, PlaysToPage};
 ghost use Rattle.cmh_commands.specs.Playing.{PlaysAlone, PlaysScript};
-ghost use Rattle.cmh.specs.CommandLine.{AsksAudit, IsEnd, NamesAudit, NamesCluster, NamesColumn, NamesDraw, NamesEdition, NamesFolder, NamesNewWorld, NamesNoEdition, NamesNoFolder, NamesNoPage, NamesNoPageFile, NamesNoStrictness, NamesNothing, NamesOption, NamesPage, NamesPlay, NamesShow, NamesSite, NamesSiteNumber, NamesStrictness, ReadsNoInput};
+ghost use Rattle.cmh.specs.CommandLine.{AsksAudit, IsEnd, NamesAudit, NamesCluster, NamesColumn, NamesDraw, NamesEdition, NamesFolder, NamesNewWorld, NamesNoEdition, NamesNoEpoch, NamesNoFolder, NamesNoPage, NamesNoPageFile, NamesNoStrictness, NamesNothing, NamesOption, NamesPage, NamesPlay, NamesShow, NamesSite, NamesSiteNumber, NamesStrictness, ReadsNoInput};
 ghost use Rattle.cmh.specs.Playing.{PlaysEdition3};
 ghost use Rattle.cmh_folder3.specs.Plays.{PlaysInto};
 ghost use Rattle.cmh.specs.Serving.{ServesCluster, ServesCluster3, ServesFile, ServesSite, ServesSome, ServesStrictly, SiteEnds};
@@ -245,9 +246,14 @@ where
 
     // Where an audit is named, files are audited; the reasons for stops, a run, or its declarations, are told where they
     // are asked for.
-    ensures audits { NamesAudit matches.now → (more : More) → AsksAudit matches.now more
+    ensures audits { NamesAudit matches.now → NamesNoEpoch matches.now → (more : More) → AsksAudit matches.now more
         → AuditsFiles more out.old out.new err.old err.new result }
-    ensures audits_some { NamesAudit matches.now → (more : More) × AuditsFiles more out.old out.new err.old err.new result }
+    ensures audits_some { NamesAudit matches.now → NamesNoEpoch matches.now
+        → (more : More) × AuditsFiles more out.old out.new err.old err.new result }
+
+    // Where an epoch is named besides, some epochs are.
+    ensures audits_part { NamesAudit matches.now → ((more : More) × AuditsFiles more out.old out.new err.old err.new result)
+        ⊎ SomePartEnds result }
 
     // Where `show` or `draw` is named, lines of journals are written, or a picture of the kind and the format asked for, or
     // a page.

@@ -126,7 +126,7 @@ fn end_of(
 }
 
 /// The controllers of the segments' bases; none where one of these is of no state of the rules.
-fn controllers_of(
+pub(crate) fn controllers_of(
     alloc: Global,
     topology: &Topology,
     segments: &[Segment],

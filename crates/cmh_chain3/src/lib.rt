@@ -5,9 +5,11 @@
 #![tactic(auto)]
 
 mod chain;
+mod judged;
 mod links;
 mod next;
 mod states;
 
 pub use crate::chain::{ChainVerdict, audit_chain};
+pub use crate::judged::verdict_on;
 pub use crate::next::follows;

@@ -11,6 +11,7 @@ mod stepping;
 mod tail_text;
 mod talker;
 mod telling;
+mod turning;
 
 pub use crate::batch::{Batch, MOST_TOGETHER};
 pub use crate::meeting::Meeting;

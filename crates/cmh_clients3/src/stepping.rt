@@ -9,8 +9,7 @@ use crate::noting::Noting;
 use crate::replying::step_all;
 use crate::tail_text::{NoTail, tail_of};
 use crate::telling::Teller;
-use cmh_disk3::{SegmentReader, Tail};
-use cmh_log3::SegmentFile;
+use cmh_disk3::{JournalFolder, SegmentReader, Tail};
 use cmh_model3::{Event, ProcId, Targets};
 use cmh_node3::Node;
 use cmh_talk3::{EventReply, Figures, Question, Reply, answer_question};
@@ -18,11 +17,13 @@ use std::alloc::{AllocError, Global};
 
 /// A site, the events that it is given next, and what its clients and its operator were not told yet.
 #[derive(Drop)]
-pub struct Site<F: SegmentFile> {
+pub struct Site<D: JournalFolder> {
     pub alloc: Global,
-    pub node: Node<F>,
-    /// The file of its journal, to look at.
-    pub reader: SegmentReader,
+    pub node: Node<D::File>,
+    /// The folder of its journal.
+    pub folder: D,
+    /// The file of its newest segment, to look at; none where it could not be opened.
+    pub reader: Option<SegmentReader>,
     pub batch: Batch,
     pub replies: Vec<EventReply>,
     pub teller: Teller,
@@ -30,11 +31,11 @@ pub struct Site<F: SegmentFile> {
     pub noting: Noting,
 }
 
-impl<F: SegmentFile> Site<F> {
+impl<D: JournalFolder> Site<D> {
     /// Gives the events of the batch to the site, and keeps the reply to each, in their order. Where memory for the replies is
     /// refused there is none, and the site was given no event.
     pub fn step(&mut self)
-        ensures replied { Replied F.told F.has_failed self.old.node self.old.batch.events self.new.replies.items self.new.node
+        ensures replied { Replied D.File.told D.File.has_failed self.old.node self.old.batch.events self.new.replies.items self.new.node
             ⊎ ((self.new.replies.items ≡ []) × (self.new.node ≡ self.old.node)) }
         ensures batch { self.new.batch ≡ self.old.batch }
     {
@@ -68,9 +69,12 @@ impl<F: SegmentFile> Site<F> {
         answer_question(self.alloc, &self.node, question, figures)
     }
 
-    /// The last so many entries of its journal.
+    /// The last so many entries of its newest segment.
     pub fn tail(&mut self, count: usize) -> Result<Tail, NoTail> {
-        tail_of(self.alloc, &mut self.reader, count)
+        match &mut self.reader {
+            Some(reader) => tail_of(self.alloc, reader, count),
+            None => Err(NoTail::Disk),
+        }
     }
 
     /// Looks how its links stand, for those who wait for that.

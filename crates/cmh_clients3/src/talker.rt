@@ -4,8 +4,9 @@ ghost use Rattle.cmh_client.specs.Lines.{HasFeed};
 
 use crate::stepping::Site;
 use crate::tail_text::{NoTail, TailText};
+use crate::turning::number_of;
 use cmh_client::{Client, Next, Wish};
-use cmh_log3::SegmentFile;
+use cmh_disk3::JournalFolder;
 use cmh_talk3::{
     Deed, EventReply, Figures, Lines, News, Question, Reply, declared_before, reply_while_waiting,
 };
@@ -69,11 +70,11 @@ impl Talker {
 
     /// Takes lines of it: at most so many events wait for the next batch then, and other lines are answered. `place` is where
     /// the reply to an event goes.
-    pub fn take_lines<F: SegmentFile>(
+    pub fn take_lines<D: JournalFolder>(
         &mut self,
         place: usize,
         most: usize,
-        site: &mut Site<F>,
+        site: &mut Site<D>,
         figures: &Figures,
     ) {
         for _ in 0..MOST_LINES {
@@ -87,15 +88,16 @@ impl Talker {
     }
 
     /// Takes a line, if there is one and it can be taken now.
-    fn take_line<F: SegmentFile>(
+    fn take_line<D: JournalFolder>(
         &mut self,
         place: usize,
-        site: &mut Site<F>,
+        site: &mut Site<D>,
         figures: &Figures,
     ) -> bool {
         match self.client.wish(&mut self.lines) {
             Ok(Wish::Silence) => true,
             Ok(Wish::Question(Question::Tail(count))) => self.answer_tail(site, count),
+            Ok(Wish::Question(Question::Turn)) => self.answer_turn(site),
             Ok(Wish::Question(question)) => self.answer_question(site, &question, figures),
             Ok(Wish::Event(deed)) => self.take_deed(place, site, deed),
             Ok(Wish::Nothing) => false,
@@ -110,7 +112,7 @@ impl Talker {
 
     /// Has an event of it wait for the next batch, if there is room. Which waits a process gives up that gives up all is known
     /// only before other events are under way.
-    fn take_deed<F: SegmentFile>(&mut self, place: usize, site: &mut Site<F>, deed: Deed) -> bool
+    fn take_deed<D: JournalFolder>(&mut self, place: usize, site: &mut Site<D>, deed: Deed) -> bool
         requires { HasFeed self.old.client.unread }
     {
         if site.is_waiting() {
@@ -149,7 +151,7 @@ impl Talker {
     }
 
     /// Tells it the last so many entries, as the file of the journal has them, also behind what the site knows of.
-    fn answer_tail<F: SegmentFile>(&mut self, site: &mut Site<F>, count: u16) -> bool
+    fn answer_tail<D: JournalFolder>(&mut self, site: &mut Site<D>, count: u16) -> bool
         requires { HasFeed self.old.client.unread }
     {
         if count > MOST_TAIL {
@@ -162,9 +164,19 @@ impl Talker {
         }
     }
 
-    fn answer_question<F: SegmentFile>(
+    /// Has the site begin its next epoch.
+    fn answer_turn<D: JournalFolder>(&mut self, site: &mut Site<D>) -> bool
+        requires { HasFeed self.old.client.unread }
+    {
+        match site.turn() {
+            Ok(epoch) => self.reply(Reply::Turned(epoch)),
+            Err(why) => self.reply(EventReply::Refused(number_of(why))),
+        }
+    }
+
+    fn answer_question<D: JournalFolder>(
         &mut self,
-        site: &mut Site<F>,
+        site: &mut Site<D>,
         question: &Question,
         figures: &Figures,
     ) -> bool
@@ -183,7 +195,7 @@ impl Talker {
     }
 
     /// From now on it is told news. First those that are declared now.
-    fn watch<F: SegmentFile>(&mut self, site: &mut Site<F>) {
+    fn watch<D: JournalFolder>(&mut self, site: &mut Site<D>) {
         self.client.watch();
         if site.teller.begin(&site.node).is_err() {
             self.is_broken = true;

@@ -9,6 +9,7 @@ use Rattle.cmh_inputs.specs.Editions.{BeginWithSegment, SaysSomeWorld}
 use Rattle.cmh_inputs.specs.FileFaults.{IsUnread, as_fault}
 use Rattle.cmh_inputs.specs.Readings.{AreNamed, AreNamedJournals, AreUnnamed, AreUnread}
 use Rattle.cmh_inputs.specs.Stored.{Stored}
+use Rattle.cmh_commands.specs.Later.{LongEnds, OneBeginsLater}
 use Rattle.cmh_commands.specs.Paths.{journal_paths, topology_path}
 use Rattle.cmh_files.specs.Audits.{AuditEnds}
 use Rattle.cmh_files.specs.Explains.{ExplainEnds}
@@ -57,11 +58,13 @@ AuditEndsInOlder Run topology files old new err_old err_new status =
 AuditEndsInOlder Declarations topology files old new err_old err_new status =
     MoreEnds Declarations topology files old new err_old err_new status
 
--- the audit of these files: of edition 3 where the topology file says a world of it, else of editions 1 and 2
+-- The audit of these files: of edition 3 where the topology file says a world of it, else of editions 1 and 2. Where one of
+-- them is of a later epoch, it is one over several epochs.
 abbrev pub AuditEndsByEdition : {W E : Type 0} → More → List ℕ → List (List ℕ) → Writing W → Writing W → Writing E → Writing E → ℕ → Type 0
 AuditEndsByEdition more topology files old new err_old err_new status =
     (SaysSomeWorld topology × MoreEnds more topology files old new err_old err_new status)
     ⊎ (SaysNoWorld topology × AuditEndsInOlder more topology files old new err_old err_new status)
+    ⊎ (SaysSomeWorld topology × OneBeginsLater files × LongEnds topology status)
 
 -- the files that are named were audited
 abbrev pub AuditsNamed : {W E : Type 0} → More → Option Stored → Found → Writing W → Writing W → Writing E → Writing E → ℕ → Type 0

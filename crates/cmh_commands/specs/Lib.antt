@@ -1,5 +1,6 @@
 pub mod Numbers
 pub mod Paths
+pub mod Later
 pub mod Files
 pub mod Drawing
 pub mod Playing

@@ -1,5 +1,5 @@
 -- The command `new-world`: a line with the number of a world.
-use Rattle.std.specs.Prelude.{◌≡◌, ◌≢◌, ℕ, Bool, true, List, [], ◌∷◌, ◌++◌, length, Option, ⊤}
+use Rattle.std.specs.Prelude.{◌≡◌, ◌≢◌, ℕ, true, List, [], ◌∷◌, ◌++◌, length, Option, ⊤}
 use Rattle.std.specs.Io.KnownBytes.{Appends}
 use Rattle.cmh_topology3.specs.World.{world_text}
 use Rattle.cmh_console.specs.Device.{Writing}

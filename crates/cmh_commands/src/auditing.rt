@@ -1,27 +1,60 @@
 //! The commands `audit` and `show`.
 
-ghost use Rattle.std.specs.Prelude.{◌≡◌, MatchBool, map};
+ghost use Rattle.std.specs.Prelude.{◌≡◌, ◌⊎◌, MatchBool, map};
 ghost use Rattle.clap.specs.Matches.{found_of};
 ghost use Rattle.cmh_console.specs.Status.{IsStatus};
 ghost use Rattle.cmh_console.specs.TopologyFile3.{SaysNoWorld};
 ghost use Rattle.cmh_files3.specs.More.{MoreEnds};
 ghost use Rattle.cmh_files3.specs.declared.more.More.{More as MoreType};
 ghost use Rattle.cmh_inputs.specs.Editions.{BeginWithSegment, SaysSomeWorld};
+ghost use Rattle.cmh_commands.specs.Later.{LongEnds, NamesNoEpoch, SomePartEnds};
 ghost use Rattle.cmh_commands.specs.Files.{AsksFor, AuditEndsByEdition, AuditEndsInOlder, AuditsFiles, AuditsNamed, ShowEndsByEdition, ShowsFiles, ShowsNamed};
 
+use crate::earlier::{all_segments, have_later};
 use crate::files::{files_named, journals_named};
-use crate::options::{DECLARATIONS, RUN, WHY};
+use crate::options::{DECLARATIONS, JOURNALS, RUN, WHY};
+use crate::parts::{audit_part, range_of};
 use clap::ArgMatches;
 use cmh_console::{Fault, Output};
 use cmh_files::{run_audit, run_audit_run, run_audit_why, run_show};
 use cmh_files3::{More, run_audit3_with, run_show3};
 use cmh_inputs::{AuditFiles, Inputs, begins_segment};
+use cmh_long_audit3::run_long_audit3;
 use std::alloc::Global;
 use std::io::Write;
 
+/// Audits the epochs that the words ask for, or all that the files that they name hold, as `audit_whole` does.
+pub fn audit<N: Inputs, W: Write, E: Write>(
+    alloc: Global,
+    inputs: &N,
+    words: &ArgMatches<'_>,
+    out: &mut Output<W>,
+    err: &mut Output<E>,
+) -> u8
+    ensures status { IsStatus result }
+
+    // Where they name no epoch, all are audited.
+    ensures audits_named { NamesNoEpoch (found_of words.now) → (more : MoreType) → AsksFor (found_of words.now) more
+        → AuditsNamed more (N.holds inputs.now) (found_of words.now) out.old out.new err.old err.new result }
+    ensures audits { NamesNoEpoch (found_of words.now) → (more : MoreType) → AsksFor (found_of words.now) more
+        → AuditsFiles more out.old out.new err.old err.new result }
+
+    ensures audits_some { NamesNoEpoch (found_of words.now)
+        → (more : MoreType) × AuditsFiles more out.old out.new err.old err.new result }
+
+    // Else those that they name.
+    ensures audits_part { ((more : MoreType) × AuditsFiles more out.old out.new err.old err.new result)
+        ⊎ SomePartEnds result }
+{
+    match range_of(words) {
+        Some(range) => audit_part(alloc, inputs, words, &range, out, err),
+        None => audit_whole(alloc, inputs, words, out, err),
+    }
+}
+
 /// Audits the files that the words name, and tells the reasons for stops, a run, or its declarations, where they ask for
 /// them. Where the topology is one of edition 3, the journals are segments of it. Declarations are told of edition 3 alone.
-pub fn audit<N: Inputs, W: Write, E: Write>(
+fn audit_whole<N: Inputs, W: Write, E: Write>(
     alloc: Global,
     inputs: &N,
     words: &ArgMatches<'_>,
@@ -41,7 +74,38 @@ pub fn audit<N: Inputs, W: Write, E: Write>(
 {
     let more = more_of(words);
     match files_named(alloc, inputs, words) {
+        Ok(files) if files.is_edition3 && have_later(&files.journals) => {
+            audit_all(alloc, inputs, words, more, files, out, err)
+        }
         Ok(files) => audit_files(alloc, more, &files, out, err),
+        Err(fault) => Fault::from(fault).name_on(err),
+    }
+}
+
+/// Audits journals of edition 3 of which one is of a later epoch than the first: with all segments that stand before it, and
+/// before the others.
+fn audit_all<N: Inputs, W: Write, E: Write>(
+    alloc: Global,
+    inputs: &N,
+    words: &ArgMatches<'_>,
+    more: More,
+    files: AuditFiles,
+    out: &mut Output<W>,
+    err: &mut Output<E>,
+) -> u8
+    ensures { LongEnds files.topology.items result }
+{
+    let AuditFiles {
+        topology,
+        journals,
+        ..
+    } = files;
+    let read = match words.get_strs(JOURNALS) {
+        Some(paths) => all_segments(alloc, inputs, paths, journals),
+        None => all_segments(alloc, inputs, &[], journals),
+    };
+    match read {
+        Ok(journals) => run_long_audit3(alloc, &topology, &journals, more, out, err),
         Err(fault) => Fault::from(fault).name_on(err),
     }
 }

@@ -462,7 +462,7 @@ const fn trouble_of_segments(number: Option<u16>) -> &'static str {
         Some(3) => "two segments are of one site",
         Some(4) => "a site has no segment here",
         Some(5) => "a segment is of another world than the topology",
-        _ => "a segment does not begin with its world: it is of a later epoch",
+        _ => "a segment is of a later epoch, and the one before it is missing, or is not read",
     }
 }
 

@@ -86,7 +86,8 @@ with the one that is there; links that were cut resume. --patience, --backlog an
   leaving J      `leaving J K..`: whom J has left and can't ask again yet
   watch          also `! active J`, `! asked K J`, `! free J K`, `! link out S X` and `! link in S X`; a declaration is
                  `! declared J at N`, its cycle stood at stop N
-  tail N         the last N entries of the journal, 1 to 1000, as lines of `cmh show`, and then `ok`
+  tail N         the last N entries of the newest segment, 1 to 1000, as lines of `cmh show`, and then `ok`
+  turn           the site begins its next epoch, in a new file of its journal: `ok epoch E`
 A link is `open`, `down N` (N messages are kept for it), `refused N`, `resting` or `closed 4`.
 ";
 
@@ -222,6 +223,9 @@ Where the topology file is of edition 3, as in {\"edition\":3,\"world\":\"32 HEX
 is a segment, or a folder whose newest segment is meant. Then the report also says who is leaving whom, and of each
 declared process at which stop its cycle stood, and who left it since. In the lines of --why
 ` clock C`, the clock of the message, follows F, and ` at N`, the stop at which the cycle stood, follows I.
+A folder has a segment for each epoch that its site began, and all of them are audited. --from E audits the epochs from E
+on, and --epoch E that one alone, from the bases with which it begins and up to those of the next one: no earlier segment
+need be there. Their report has `declared I at N` alone of a declared process.
 ";
 
 const AUDIT_STATUSES: &str = "\
@@ -435,7 +439,11 @@ fn audit(alloc: Global) -> Result<String, AllocError> {
         5,
         "a segment is of another world than the topology",
     )?;
-    row(&mut text, 6, "a segment is of a later epoch")?;
+    row(
+        &mut text,
+        6,
+        "a segment is of a later epoch and the one before it is missing, or a site has not begun the epoch that is asked for",
+    )?;
     write!(
         text,
         "\n{AUDIT_RUN}\n{AUDIT_DECLARATIONS}\n{AUDIT_REASONS}\nRefusals, as in `refused 3`:\n"

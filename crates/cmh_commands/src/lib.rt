@@ -4,6 +4,7 @@
 
 mod auditing;
 mod drawing;
+mod earlier;
 mod explaining;
 mod files;
 mod help;
@@ -12,6 +13,7 @@ mod listener;
 mod new_world;
 mod options;
 mod paging;
+mod parts;
 mod playing;
 mod topology_trouble;
 
@@ -23,9 +25,9 @@ pub use crate::help::Help;
 pub use crate::listener::Listener;
 pub use crate::new_world::run_new_world;
 pub use crate::options::{
-    AUDIT, BACKLOG, CLUSTER, DECLARATIONS, DRAW, EDITION, EDITION_THREE, EXPLAIN, FORMAT, FROM,
-    JOURNAL, JOURNALS, KIND, NEW, NEW_WORLD, NOTES, OUT, PAGE, PATIENCE, PLAY, PORT, QUIET, RUN,
-    SCRIPT, SERVE, SHOW, SITE, STRICT, TO, TOPOLOGY, WAIT_FOR_PEERS, WHY, command,
+    AUDIT, BACKLOG, CLUSTER, DECLARATIONS, DRAW, EDITION, EDITION_THREE, EPOCH, EXPLAIN, FORMAT,
+    FROM, JOURNAL, JOURNALS, KIND, NEW, NEW_WORLD, NOTES, OUT, PAGE, PATIENCE, PLAY, PORT, QUIET,
+    RUN, SCRIPT, SERVE, SHOW, SITE, STRICT, TO, TOPOLOGY, WAIT_FOR_PEERS, WHY, command,
 };
 pub use crate::paging::{draw_or_page, play_page};
 pub use crate::playing::play_into;

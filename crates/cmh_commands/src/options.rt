@@ -36,6 +36,9 @@ pub const RUN: &str = "run";
 
 pub const DECLARATIONS: &str = "declarations";
 
+/// The epoch that is audited.
+pub const EPOCH: &str = "epoch";
+
 pub const NOTES: &str = "notes";
 
 pub const STRICT: &str = "strict";
@@ -131,6 +134,8 @@ fn show_command<'a>(alloc: Global, help: &'a Help) -> Result<Command<'a>, Error>
 fn audit_command<'a>(alloc: Global, help: &'a Help) -> Result<Command<'a>, Error> {
     let run = run_arg(alloc)?;
     let declarations = declarations_arg(alloc)?;
+    let from = first_epoch_arg(alloc)?;
+    let epoch = epoch_arg(alloc)?;
     let audit = Command::new(alloc, AUDIT)
         .about(
             "Tells whether the journals of all sites come from one run, and who waits and is deadlocked at its end",
@@ -140,6 +145,8 @@ fn audit_command<'a>(alloc: Global, help: &'a Help) -> Result<Command<'a>, Error
         .arg(why_arg(alloc))?
         .arg(run)?
         .arg(declarations)?
+        .arg(from)?
+        .arg(epoch)?
         .arg(explain_arg(alloc))?
         .arg(journals_arg(alloc).help(
             "The journal files of all sites, or their folders of edition 3, in any order",
@@ -274,6 +281,35 @@ fn declarations_arg<'a>(alloc: Global) -> Result<Arg<'a>, Error> {
         .conflicts_with(WHY)?
         .conflicts_with(RUN)?;
     Ok(declarations)
+}
+
+/// From which epoch on journals of edition 3 are audited.
+fn first_epoch_arg<'a>(alloc: Global) -> Result<Arg<'a>, Error> {
+    let from = epoch_option(alloc, FROM)?.help(
+        "Audits journals of edition 3 from this epoch on, from the bases with which it begins",
+    );
+    Ok(from)
+}
+
+/// The one epoch that is audited.
+fn epoch_arg<'a>(alloc: Global) -> Result<Arg<'a>, Error> {
+    let epoch = epoch_option(alloc, EPOCH)?
+        .help("Audits this epoch alone of journals of edition 3, to the bases of the next one")
+        .conflicts_with(FROM)?;
+    Ok(epoch)
+}
+
+/// An epoch of an audit, which tells the report alone then.
+fn epoch_option<'a>(alloc: Global, name: &'a str) -> Result<Arg<'a>, Error> {
+    let option = Arg::new(alloc, name)
+        .long(name)
+        .value_name("EPOCH")
+        .value_parser(value_parser!(u32).range(0..=4_294_967_295))
+        .action(ArgAction::Set)
+        .conflicts_with(WHY)?
+        .conflicts_with(RUN)?
+        .conflicts_with(DECLARATIONS)?;
+    Ok(option)
 }
 
 /// The folder of a script that is played.

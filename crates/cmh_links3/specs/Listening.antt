@@ -158,6 +158,7 @@ module _ {File : Type 0} where
 
   pub record IsAdmitted (hello : Hello) (now : ℕ) (a : Incoming) (m : Node File) (onward : Onward) (b : Incoming) (n : Node File)
       : Type 0 where
+    pub no_later : hello.epoch ≤ epoch_of m
     pub admitted : Admitted
     pub admits : Admits a.line now hello m admitted n
     pub said : SaysSo (answer_spelling admitted.answer) (record a { place = Some admitted.place }) onward b
@@ -170,7 +171,7 @@ module _ {File : Type 0} where
 
   pub record IsAhead (hello : Hello) (a : Incoming) (m : Node File) (onward : Onward) (b : Incoming) (n : Node File)
       : Type 0 where
-    pub later : hello.epoch ≢ 0
+    pub later : epoch_of m < hello.epoch
     pub stays : Stays a m b n
     pub closes : onward ≡ Close
 

@@ -3,6 +3,7 @@
 ghost use Rattle.std.specs.Prelude.{◌≡◌, IfOk};
 ghost use Rattle.cmh_links3.specs.Hearing.{IsBatch};
 
+use crate::ahead::epoch_of_message;
 use cmh_hello3::{Item, ItemFront, decode_item};
 use cmh_model3::Message;
 use cmh_wire3::Epoch;
@@ -10,9 +11,6 @@ use std::alloc::{AllocError, Global};
 
 /// How many messages are taken at once.
 const MOST_TAKEN: usize = 64;
-
-/// How many ticks of a clock an epoch has.
-const EPOCH_TICKS: u64 = 1 << 32;
 
 /// Messages, and how many bytes spell them.
 #[derive(Drop)]
@@ -43,5 +41,5 @@ pub(crate) fn batch_of(alloc: Global, bytes: &[u8], epoch: Epoch) -> Result<Batc
 
 /// Whether a message is of a later epoch than the site's: then it can't be taken.
 fn is_later(message: &Message, epoch: Epoch) -> bool {
-    message.clock.get() / EPOCH_TICKS > u64::from(epoch.get())
+    epoch_of_message(message).get() > epoch.get()
 }

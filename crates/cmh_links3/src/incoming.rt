@@ -1,14 +1,17 @@
 //! A connection that was accepted.
 
-ghost use Rattle.std.specs.Prelude.{◌≡◌, ℕ, ◌<◌, ◌≤◌, drop, length, true, false, None, IfOk, OnErr, OnOk};
+ghost use Rattle.std.specs.Prelude.{◌≡◌, ℕ, ◌<◌, ◌≤◌, drop, length, true, false, None, IfOk, IfSome, OnErr, OnOk};
 ghost use Rattle.cmh_hello3.specs.Hello.{IsShortHello, refusal_spelling};
 ghost use Rattle.cmh_hello3.specs.Stream.{IsItemFront, IsShortItem};
 ghost use Rattle.cmh_hello3.specs.declared.item.Item.TheVariants as ItemType;
+ghost use Rattle.cmh_node3.specs.Nodes.{epoch_of};
 ghost use Rattle.cmh_links3.specs.Connections.{accepted, carries, closed, hears, with_unread};
+ghost use Rattle.cmh_links3.specs.Ahead.{IsAheadOf, IsHeard};
 ghost use Rattle.cmh_links3.specs.Growing.{Grows};
 ghost use Rattle.cmh_links3.specs.Hearing.{AreUpcoming};
 ghost use Rattle.cmh_links3.specs.Listening.{BeginsHello, BeginsItem, Claims, EndsFor, Gives, GoesOn, Greets, HearsNext, IsMore, IsPart, Listens, MayAcknowledge, Rests, SaidIfRoom, SaysSo, Stays, TakesMessages, owing};
 
+use crate::ahead::{epoch_of_hello, epoch_of_item, later_than};
 use crate::batch::batch_of;
 use crate::onward::Onward;
 use crate::unread::Unread;
@@ -89,6 +92,17 @@ impl Incoming {
         match self.place {
             Some(_) => Ok(batch_of(self.alloc, self.unread.as_slice(), epoch)?.messages),
             None => Ok(Vec::new(self.alloc)),
+        }
+    }
+
+    /// The later epoch to which the site turns before it goes on, since what is next in what was heard is of that one. Where it
+    /// does not turn, the connection is closed.
+    pub fn ahead<F: SegmentFile>(&self, node: &Node<F>) -> Option<Epoch>
+        ensures { IfSome result (λ later. IsAheadOf (epoch_of node.now) later × IsHeard self.now.place self.now.unread later) }
+    {
+        match self.place {
+            None => later_than(node.epoch(), epoch_of_hello(node, self.unread.as_slice())?),
+            Some(_) => later_than(node.epoch(), epoch_of_item(self.unread.as_slice())?),
         }
     }
 
@@ -193,7 +207,7 @@ impl Incoming {
         ensures claims { Claims hello.now now self.old node.old result self.new node.new }
         ensures exact { Grows F.told F.has_failed node.old node.new }
     {
-        if hello.epoch.get() != 0 {
+        if hello.epoch.get() > node.epoch().get() {
             return Onward::Close;
         }
         let admitted = match node.hello(self.line, hello, now) {

@@ -4,6 +4,7 @@
 //! Times are milliseconds, and connections have numbers; both come from the caller.
 #![tactic(auto)]
 
+mod ahead;
 mod batch;
 mod incoming;
 mod onward;

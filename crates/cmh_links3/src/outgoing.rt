@@ -1,14 +1,18 @@
 //! The connection that a site dials.
 
-ghost use Rattle.std.specs.Prelude.{◌≡◌, ◌≤◌, ◌<◌, ◌⊎◌, length, false, true, OnErr, OnOk};
+ghost use Rattle.std.specs.Prelude.{◌≡◌, ◌≤◌, ◌<◌, ◌⊎◌, length, false, true, IfSome, OnErr, OnOk};
 ghost use Rattle.cmh_peers3.specs.declared.happening.Action.TheVariants.{Dial};
 ghost use Rattle.cmh_peers3.specs.declared.happening.Happening.TheVariants.{Passed};
 ghost use Rattle.cmh_hello3.specs.Hello.{IsReplyFront};
-ghost use Rattle.cmh_node3.specs.Nodes.{AtPlace};
+ghost use Rattle.cmh_hello3.specs.Stream.{item_spelling};
+ghost use Rattle.cmh_hello3.specs.declared.item.Item.TheVariants as ItemType;
+ghost use Rattle.cmh_node3.specs.Nodes.{AtPlace, epoch_of};
+ghost use Rattle.cmh_links3.specs.Ahead.{IsAheadOf, IsHeardBack};
 ghost use Rattle.cmh_links3.specs.Connections.{undialled};
 ghost use Rattle.cmh_links3.specs.Growing.{Grows};
-ghost use Rattle.cmh_links3.specs.Speaking.{HearsAnswer, HearsStranger, IsOfPeer, Dials, Does, Ends, GoesOnSo, HearsAcknowledgement, HearsNext, HearsReply, IsNotDue, IsPlacedSo, Listens, Passes, SaysSo, Tells, Turns, WritesSo, carries, closed, hears, hello_to};
+ghost use Rattle.cmh_links3.specs.Speaking.{HearsAnswer, HearsStranger, SaidIfRoom, Dials, Does, Ends, GoesOnSo, HearsAcknowledgement, HearsNext, HearsReply, IsNotDue, IsPlacedSo, Listens, Passes, SaysSo, Tells, Turns, WritesSo, carries, closed, hears, hello_to};
 
+use crate::ahead::{epoch_of_acknowledgement, epoch_of_answer, is_of_peer, later_than};
 use crate::onward::Onward;
 use crate::unread::Unread;
 use cmh_hello3::{
@@ -18,7 +22,7 @@ use cmh_hello3::{
 use cmh_log3::SegmentFile;
 use cmh_node3::Node;
 use cmh_peers3::{Action, Happening};
-use cmh_wire3::encode;
+use cmh_wire3::{Epoch, encode};
 use std::alloc::{AllocError, Global};
 use std::marker::Model;
 
@@ -134,6 +138,34 @@ impl Outgoing {
         ensures { result ≡ self.now.is_dialled }
     {
         self.is_dialled
+    }
+
+    /// The later epoch to which the site turns before it goes on, since what is next in what was heard is of that one. Where it
+    /// does not turn, the connection is closed.
+    pub fn ahead<F: SegmentFile>(&self, node: &Node<F>) -> Option<Epoch>
+        ensures { IfSome result (λ later. IsAheadOf (epoch_of node.now) later
+            × IsHeardBack self.now.is_answered self.now.unread later) }
+    {
+        if self.place >= node.peers().len() {
+            return None;
+        }
+        let heard = if self.is_answered {
+            epoch_of_acknowledgement(self.unread.as_slice())
+        } else {
+            epoch_of_answer(node, self.place, self.unread.as_slice())
+        };
+        later_than(node.epoch(), heard?)
+    }
+
+    /// The site has begun an epoch: a note says so, where the receiver has answered. Where memory is refused none is queued, and
+    /// the next one says it.
+    pub fn tell_epoch<F: SegmentFile>(&mut self, node: &Node<F>)
+        ensures answered { self.old.is_answered ≡ true → SaidIfRoom (item_spelling (ItemType.Note (epoch_of node.now))) self.old self.new }
+        ensures other { self.old.is_answered ≡ false → self.new ≡ self.old }
+    {
+        if self.is_answered {
+            let _ = self.say(&spell_note(node.epoch()));
+        }
     }
 
     /// Takes bytes that the receiver wrote. Where memory is refused the connection is closed.
@@ -387,15 +419,4 @@ fn hello_at<F: SegmentFile>(node: &Node<F>, place: usize) -> Hello
         to: node.peers()[place].site,
         epoch: node.epoch(),
     }
-}
-
-/// Whether a hello is of the peer at this place, to this site and of its world.
-fn is_of_peer<F: SegmentFile>(node: &Node<F>, place: usize, hello: &Hello) -> bool
-    requires { place < length node.now.peers }
-    ensures yes { result ≡ true → AtPlace node.now place (IsOfPeer hello.now node.now) }
-    ensures no { result ≡ false → AtPlace node.now place (λ peer. ¬ IsOfPeer hello.now node.now peer) }
-{
-    let beginning = node.station().base();
-    let peer = node.peers()[place].site;
-    hello.world == beginning.topology.world() && hello.from == peer && hello.to == beginning.site
 }

@@ -4,3 +4,4 @@ pub mod Growing
 pub mod Answered
 pub mod Beginning
 pub mod Taking
+pub mod Epochs

@@ -1,3 +1,4 @@
 pub mod Nodes
 pub mod Changes
 pub mod Steps
+pub mod Turns

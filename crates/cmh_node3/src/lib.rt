@@ -11,9 +11,12 @@ mod sealed;
 mod sending;
 mod settling;
 mod stepping;
+mod stops;
+mod turning;
 
 pub use crate::node::Node;
 pub use crate::receiving::{Admitted, NotTaken, Taken};
 pub use crate::sealed::Sealed;
 pub use crate::settling::StepFault;
 pub use crate::stepping::NotStepped;
+pub use crate::turning::NotTurned;

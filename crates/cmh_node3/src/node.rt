@@ -18,6 +18,7 @@ ghost use Rattle.cmh_topology3.specs.Topology.{sites_of};
 
 use crate::sealed::Sealed;
 use crate::settling::give_all;
+use crate::stops::{Stops, first_clock};
 use cmh_controller3::Controller;
 use cmh_journaled::Handed;
 use cmh_log3::SegmentFile;
@@ -47,6 +48,7 @@ pub struct Node<F: SegmentFile> {
     pub(crate) sealed: Option<Sealed>,
     /// The entries of the last call that took events; `None` before any.
     pub(crate) last: Option<Handed<Event, Message>>,
+    pub(crate) stops: Stops,
 }
 
 impl<F: SegmentFile> Model for Node<F> {
@@ -99,6 +101,7 @@ impl<F: SegmentFile> Node<F> {
                     others,
                     peers,
                     sealed,
+                    stops,
                 } = met;
                 Ok(Node {
                     alloc,
@@ -109,6 +112,7 @@ impl<F: SegmentFile> Node<F> {
                     others,
                     sealed,
                     last: None,
+                    stops,
                 })
             }
             Err(why) => Err(why),
@@ -170,12 +174,13 @@ impl<F: SegmentFile> Node<F> {
     }
 }
 
-/// The other sites, and the ends of their links.
+/// The other sites, and the ends of their links; and at which stops processes were declared.
 #[derive(Drop)]
 struct Met {
     others: Vec<SiteId>,
     peers: Vec<Peer>,
     sealed: Option<Sealed>,
+    stops: Stops,
 }
 
 /// Hands over all that the station has, and meets the other sites by it and by the links of its base. It stands apart, so that
@@ -200,7 +205,12 @@ fn meet_all<F: SegmentFile>(
     let Ok(others) = others_in(alloc, topology, site) else {
         return Err(Unmet::Memory);
     };
+    let processes = station.machine().controller().members().len();
+    let Ok(mut stops) = Stops::of(alloc, station.base(), processes) else {
+        return Err(Unmet::Memory);
+    };
     let handed = station.hand_over();
+    stops.note(first_clock(station.base()), handed.as_slice());
     let links = station.base().base.links.as_slice();
     let mut peers = match peers_from(alloc, &others, links, handed.as_slice()) {
         Ok(peers) => peers,
@@ -211,6 +221,7 @@ fn meet_all<F: SegmentFile>(
         others,
         peers,
         sealed,
+        stops,
     })
 }
 

@@ -114,12 +114,14 @@ impl<F: SegmentFile> Node<F> {
         let Ok(events) = events_of(self.alloc, from, messages) else {
             return Err(NotTaken::Failed(StepFault::Memory));
         };
+        let clock = self.controller().clock();
         match self.station.step_until(&events) {
             Ok(answers) => {
                 let taken = taken_by(&answers);
                 let first = first_of(messages, taken.count);
                 receive_at(&mut self.peers, place, line, first, now, taken.closed);
                 let settled = settle(&mut self.station, &mut self.peers);
+                self.stops.note(clock, settled.last.as_slice());
                 self.sealed = settled.sealed;
                 self.last = Some(settled.last);
                 Ok(taken)

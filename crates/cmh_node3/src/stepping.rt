@@ -47,9 +47,11 @@ impl<F: SegmentFile> Node<F> {
         if must_wait(events, &self.peers) {
             return Err(NotStepped::Behind);
         }
+        let clock = self.controller().clock();
         match self.station.step_all(events) {
             Ok(answers) => {
                 let settled = settle(&mut self.station, &mut self.peers);
+                self.stops.note(clock, settled.last.as_slice());
                 self.sealed = settled.sealed;
                 self.last = Some(settled.last);
                 Ok(answers)

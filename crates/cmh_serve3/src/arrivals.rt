@@ -2,8 +2,8 @@
 
 use crate::socket::Socket;
 use cmh_clients3::Site;
+use cmh_disk3::JournalFolder;
 use cmh_links3::{Incoming, Onward};
-use cmh_log3::SegmentFile;
 use std::alloc::Global;
 
 /// How many connections of other sites there are at once, at most.
@@ -70,9 +70,9 @@ impl Arrival {
     }
 
     /// Reads, takes what came, and writes what is to be said. Answers whether it goes on.
-    pub fn go_on<F: SegmentFile>(
+    pub fn go_on<D: JournalFolder>(
         &mut self,
-        site: &mut Site<F>,
+        site: &mut Site<D>,
         scratch: &mut [u8],
         now: u64,
     ) -> bool {
@@ -96,7 +96,7 @@ impl Arrival {
     }
 
     /// Takes what came, a batch at a time.
-    fn take<F: SegmentFile>(&mut self, site: &mut Site<F>, filled: bool, now: u64) -> bool {
+    fn take<D: JournalFolder>(&mut self, site: &mut Site<D>, filled: bool, now: u64) -> bool {
         for _ in 0..MOST_BATCHES {
             let onward = self.take_batch(site, filled, now);
             if let Onward::Close = onward {
@@ -109,8 +109,16 @@ impl Arrival {
         true
     }
 
-    /// Takes the next messages, or what else comes next.
-    fn take_batch<F: SegmentFile>(&mut self, site: &mut Site<F>, filled: bool, now: u64) -> Onward {
+    /// Takes the next messages, or what else comes next. What is of a later epoch is taken in that.
+    fn take_batch<D: JournalFolder>(
+        &mut self,
+        site: &mut Site<D>,
+        filled: bool,
+        now: u64,
+    ) -> Onward {
+        site.make_room();
+        let later = self.incoming.ahead(&site.node);
+        site.follow(later);
         if !site.teller.has_watchers() {
             return self.incoming.go_on(&mut site.node, filled, now);
         }
@@ -128,7 +136,7 @@ impl Arrival {
     }
 
     /// It is closed.
-    pub fn end<F: SegmentFile>(mut self, site: &mut Site<F>) {
+    pub fn end<D: JournalFolder>(mut self, site: &mut Site<D>) {
         self.incoming.end(&mut site.node);
     }
 }

@@ -2,8 +2,9 @@
 
 use crate::socket::Socket;
 use cmh_clients3::Site;
+use cmh_disk3::JournalFolder;
 use cmh_links3::{Onward, Outgoing};
-use cmh_log3::SegmentFile;
+use cmh_wire3::Epoch;
 use mio::net::TcpStream;
 use mio::{Interest, Registry, Token};
 use std::alloc::Global;
@@ -21,6 +22,8 @@ pub(crate) struct Call {
     token: Token,
     /// Whether the other site said hello, so that it can be dialled at once.
     is_up: bool,
+    /// The epoch of which the other site was told last.
+    told: Epoch,
 }
 
 impl Call {
@@ -31,6 +34,7 @@ impl Call {
             port,
             token,
             is_up: false,
+            told: Epoch::new(0),
         }
     }
 
@@ -53,11 +57,11 @@ impl Call {
     }
 
     /// Does what is to be done: dials, reads, and writes what the site has for it.
-    pub fn go_on<R: Net, F: SegmentFile>(
+    pub fn go_on<R: Net, D: JournalFolder>(
         &mut self,
         net: &R,
         registry: &Registry,
-        site: &mut Site<F>,
+        site: &mut Site<D>,
         scratch: &mut [u8],
         now: u64,
     ) {
@@ -65,6 +69,11 @@ impl Call {
             self.dial_if_due(net, registry, site, now);
         }
         self.is_up = false;
+        let epoch = site.node.epoch();
+        if self.told != epoch {
+            self.told = epoch;
+            self.outgoing.tell_epoch(&site.node);
+        }
         let Some(socket) = &mut self.socket else {
             return;
         };
@@ -74,11 +83,11 @@ impl Call {
         }
     }
 
-    fn dial_if_due<R: Net, F: SegmentFile>(
+    fn dial_if_due<R: Net, D: JournalFolder>(
         &mut self,
         net: &R,
         registry: &Registry,
-        site: &mut Site<F>,
+        site: &mut Site<D>,
         now: u64,
     ) {
         if !self.is_up && !self.outgoing.is_due(&mut site.node, now) {
@@ -109,10 +118,10 @@ fn connect<R: Net>(net: &R, registry: &Registry, port: u16, token: Token) -> Opt
 }
 
 /// Reads and writes on a connection as far as it can. Answers whether it goes on.
-fn carry<F: SegmentFile>(
+fn carry<D: JournalFolder>(
     socket: &mut Socket,
     outgoing: &mut Outgoing,
-    site: &mut Site<F>,
+    site: &mut Site<D>,
     scratch: &mut [u8],
     now: u64,
 ) -> bool {
@@ -121,6 +130,8 @@ fn carry<F: SegmentFile>(
         if count > 0 && outgoing.hear(&scratch[..count]).is_err() {
             return false;
         }
+        let later = outgoing.ahead(&site.node);
+        site.follow(later);
         let onward = outgoing.go_on(&mut site.node, now);
         let written = socket.write(outgoing.to_write());
         outgoing.wrote(written);

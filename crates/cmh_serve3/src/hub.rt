@@ -13,7 +13,7 @@ use crate::socket::Socket;
 use crate::voice::SiteVoice;
 use cmh_clients3::{MOST_TOGETHER, Site, Talker};
 use cmh_console::{Ahead, Input, Output};
-use cmh_log3::SegmentFile;
+use cmh_disk3::JournalFolder;
 use cmh_talk3::Figures;
 use mio::net::{TcpListener, TcpStream};
 use mio::{Events, Interest, Poll, Token};
@@ -59,13 +59,13 @@ const CONSOLE: usize = MOST_CLIENTS;
 
 /// A site with its connections.
 #[derive(Drop)]
-pub(crate) struct Hub<F: SegmentFile> {
+pub(crate) struct Hub<D: JournalFolder> {
     alloc: Global,
     poll: Poll,
     events: Events,
     links: TcpListener,
     clients: Option<TcpListener>,
-    site: Site<F>,
+    site: Site<D>,
     calls: Vec<Call>,
     arrivals: Vec<Option<Arrival>>,
     guests: Vec<Option<Guest>>,
@@ -107,8 +107,8 @@ impl Spare {
 
 /// A site that waits for nothing yet.
 #[derive(Drop)]
-pub(crate) struct Parts<F: SegmentFile> {
-    pub site: Site<F>,
+pub(crate) struct Parts<D: JournalFolder> {
+    pub site: Site<D>,
     pub calls: Vec<Call>,
     pub spare: Spare,
     /// Whether its lines come from standard input.
@@ -117,8 +117,8 @@ pub(crate) struct Parts<F: SegmentFile> {
     pub has_notes: bool,
 }
 
-impl<F: SegmentFile> Hub<F> {
-    pub fn new(alloc: Global, doors: Doors, parts: Parts<F>) -> Hub<F> {
+impl<D: JournalFolder> Hub<D> {
+    pub fn new(alloc: Global, doors: Doors, parts: Parts<D>) -> Hub<D> {
         let Doors {
             poll,
             links,
@@ -478,6 +478,7 @@ impl<F: SegmentFile> Hub<F> {
         if self.site.batch.is_empty() {
             return false;
         }
+        self.site.make_room();
         self.site.step();
         self.answer_clients();
         true

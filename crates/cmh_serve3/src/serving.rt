@@ -13,7 +13,7 @@ use crate::setting::{Setting, read_setting};
 use crate::voice::SiteVoice;
 use cmh_clients3::{Batch, SiteNote};
 use cmh_console::{Ahead, Input, Output, WriteFault};
-use cmh_disk3::{DiskFile, Start};
+use cmh_disk3::{DiskFolder, Start};
 use cmh_runs::SiteId;
 use std::alloc::{AllocError, Global};
 use std::fs::File;
@@ -154,15 +154,16 @@ where
 }
 
 /// Runs it from the first word on standard output to the last.
-fn run<R, I: BufRead + Ahead, W: Write, V: SiteVoice + Drop>(
+fn run<R, F, I: BufRead + Ahead, W: Write, V: SiteVoice + Drop>(
     rt: &R,
-    hub: &mut Hub<DiskFile>,
+    hub: &mut Hub<DiskFolder<'_, F>>,
     input: &mut Input<I>,
     out: &mut Output<W>,
     voice: Option<V>,
 ) -> Result<(), ServeFault>
 where
     R: Wait + Clock + Net,
+    F: Files<File = File>,
 {
     if say(out, "listening").is_err() {
         return Err(ServeFault::Output);
@@ -178,13 +179,13 @@ where
 }
 
 /// The site with its ports. They stand before the journal is made, but nobody is answered before it is read.
-fn open_hub<R: Net + Files<File = File>>(
-    rt: &R,
+fn open_hub<'a, R: Net + Files<File = File>>(
+    rt: &'a R,
     alloc: Global,
     start: &ServeStart<'_>,
     port: Option<u16>,
     has_notes: bool,
-) -> Result<Hub<DiskFile>, ServeFault> {
+) -> Result<Hub<DiskFolder<'a, R>>, ServeFault> {
     let setting = read_setting(alloc, start.topology)?;
     let Room {
         doors,

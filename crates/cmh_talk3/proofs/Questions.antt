@@ -27,6 +27,7 @@ asks_nothing words no_word no_waits no_owed no_leaving no_tail (Question asks.De
 asks_nothing words no_word no_waits no_owed no_leaving no_tail (Question asks.Links) asks = no_word word.Links asks
 asks_nothing words no_word no_waits no_owed no_leaving no_tail (Question asks.Status) asks = no_word word.Status asks
 asks_nothing words no_word no_waits no_owed no_leaving no_tail (Question asks.Watch) asks = no_word word.Watch asks
+asks_nothing words no_word no_waits no_owed no_leaving no_tail (Question asks.Turn) asks = no_word word.Turn asks
 asks_nothing words no_word no_waits no_owed no_leaving no_tail Quit asks = no_word word.Quit asks
 asks_nothing words no_word no_waits no_owed no_leaving no_tail (Question (asks.Waits process)) asks = no_waits process asks
 asks_nothing words no_word no_waits no_owed no_leaving no_tail (Question (asks.Owed process)) asks = no_owed process asks

@@ -24,8 +24,9 @@ use Rattle.cmh_talk3.specs.declared.link_state.OutState.{OutState}
 use Rattle.cmh_talk3.specs.declared.link_state.OutState.TheVariants as out
 use Rattle.cmh_talk3.specs.declared.reply.EventReply.{EventReply}
 use Rattle.cmh_talk3.specs.declared.reply.Figures.{Figures}
+use Rattle.cmh_talk3.specs.declared.reply.EventReply.TheVariants as replies
 use Rattle.cmh_talk3.specs.declared.reply.Reply.{Reply}
-use Rattle.cmh_talk3.specs.declared.reply.Reply.TheVariants.{BadLine, Declared, Waits, Owed, Leaving, Refused, Links, Status as StatusReply, Ok}
+use Rattle.cmh_talk3.specs.declared.reply.Reply.TheVariants.{BadLine, Declared, Waits, Owed, Leaving, Refused, Links, Status as StatusReply, Turned, Ok}
 use Rattle.cmh_talk3.specs.declared.reply.Status.{Status}
 
 -- How a site stands: its controller, the ends of its links, the entries of its journal, why it has stopped, its clients.
@@ -146,13 +147,19 @@ Answers at asks.Links reply = AnswersLinks at.peers reply
 Answers at asks.Status reply = AnswersStatus at reply
 Answers at asks.Watch reply = reply ≡ Ok
 Answers at (asks.Tail count) reply = reply ≡ BadLine
+Answers at asks.Turn reply = reply ≡ BadLine
 Answers at asks.Bad reply = reply ≡ BadLine
 
 -- ---- what a client is sent
 
+-- The epoch in which the site is, or why it did not begin the next one.
+abbrev pub AnswersTurn : List ℕ → Type 0
+AnswersTurn text = ((epoch : ℕ) × (text ≡ reply_text (Turned epoch))) ⊎ ((number : ℕ) × (text ≡ event_text (replies.Refused number)))
+
 -- The text of such an answer, of some site as it stands at some moment. What `tail` answers has lines of the journal.
 abbrev pub AnswersQuestion : Question → List ℕ → Type 0
 AnswersQuestion (asks.Tail count) text = ⊤
+AnswersQuestion asks.Turn text = AnswersTurn text
 AnswersQuestion question text = (at : Standing) × (reply : Reply) × Answers at question reply × (text ≡ reply_text reply)
 
 -- the reply to an answer of a node for one event, or to why it took none; or that it was given none yet

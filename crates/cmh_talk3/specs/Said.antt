@@ -31,6 +31,7 @@ word_of word.Declared = codes "declared"
 word_of word.Links = codes "links"
 word_of word.Status = codes "status"
 word_of word.Watch = codes "watch"
+word_of word.Turn = codes "turn"
 word_of word.Quit = codes "quit"
 
 abbrev pub said_by_word : Word → Said
@@ -38,6 +39,7 @@ said_by_word word.Declared = Question asks.Declared
 said_by_word word.Links = Question asks.Links
 said_by_word word.Status = Question asks.Status
 said_by_word word.Watch = Question asks.Watch
+said_by_word word.Turn = Question asks.Turn
 said_by_word word.Quit = Quit
 
 -- this word, and behind it this number and nothing else
@@ -51,6 +53,7 @@ AsksSomething words (Question asks.Declared) = words ≡ codes "declared" ∷ []
 AsksSomething words (Question asks.Links) = words ≡ codes "links" ∷ []
 AsksSomething words (Question asks.Status) = words ≡ codes "status" ∷ []
 AsksSomething words (Question asks.Watch) = words ≡ codes "watch" ∷ []
+AsksSomething words (Question asks.Turn) = words ≡ codes "turn" ∷ []
 AsksSomething words Quit = words ≡ codes "quit" ∷ []
 AsksSomething words (Question (asks.Waits process)) = NamesNumber (codes "waits") words process
 AsksSomething words (Question (asks.Owed process)) = NamesNumber (codes "owed") words process

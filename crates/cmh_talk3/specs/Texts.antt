@@ -12,7 +12,7 @@ use Rattle.cmh_talk3.specs.declared.news.News.TheVariants as news
 use Rattle.cmh_talk3.specs.declared.reply.EventReply.{EventReply}
 use Rattle.cmh_talk3.specs.declared.reply.EventReply.TheVariants as event
 use Rattle.cmh_talk3.specs.declared.reply.Reply.{Reply}
-use Rattle.cmh_talk3.specs.declared.reply.Reply.TheVariants.{BadLine, Declared, Waits, Owed, Leaving, Refused, Links, Status as StatusReply, Ok}
+use Rattle.cmh_talk3.specs.declared.reply.Reply.TheVariants.{BadLine, Declared, Waits, Owed, Leaving, Refused, Links, Status as StatusReply, Turned, Ok}
 use Rattle.cmh_talk3.specs.declared.reply.Status.{Status}
 
 -- ---- answers
@@ -47,6 +47,7 @@ reply_text (Leaving process others) = codes "leaving " ++ decimal process ++ pro
 reply_text (Refused refusal) = codes "refused " ++ decimal (rules.number_of refusal) ++ codes "\n"
 reply_text (Links links) = flat_map states_text links.items
 reply_text (StatusReply status) = status_text status
+reply_text (Turned epoch) = codes "ok epoch " ++ decimal epoch ++ codes "\n"
 reply_text Ok = codes "ok\n"
 
 -- ---- news

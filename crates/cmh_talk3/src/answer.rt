@@ -16,7 +16,8 @@ use cmh_node3::Node;
 use cmh_peers3::Peer;
 use std::alloc::{AllocError, Global};
 
-/// The answer to a question, by how the site stands. `Tail` is answered by whoever has the segment: here as a bad line.
+/// The answer to a question, by how the site stands. `Tail` and `Turn` are answered by whoever has the segments: here as a bad
+/// line.
 pub fn answer_question<F: SegmentFile>(
     alloc: Global,
     node: &Node<F>,
@@ -34,7 +35,7 @@ pub fn answer_question<F: SegmentFile>(
         Question::Links => Ok(Reply::Links(states_of(alloc, node)?)),
         Question::Status => Ok(Reply::Status(status_of(alloc, node, figures)?)),
         Question::Watch => Ok(Reply::Ok),
-        Question::Tail(_) | Question::Bad => Ok(Reply::BadLine),
+        Question::Tail(_) | Question::Turn | Question::Bad => Ok(Reply::BadLine),
     }
 }
 

@@ -30,6 +30,8 @@ pub enum Question {
     Watch,
     /// The last so many entries of the segment.
     Tail(u16),
+    /// That the site begins its next epoch.
+    Turn,
     /// A line that fits nothing, or is too long.
     Bad,
 }

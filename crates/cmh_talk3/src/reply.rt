@@ -9,6 +9,7 @@ use cmh_controller3::Refusal;
 use cmh_frames::ProcessesText;
 use cmh_model3::{ProcId, SiteId, Stamp};
 use cmh_node3::Sealed;
+use cmh_wire3::Epoch;
 use std::fmt;
 
 /// What is sent for a deed.
@@ -62,6 +63,8 @@ pub enum Reply {
     /// The links with each other site, ascending.
     Links(Vec<LinkStates>),
     Status(Status),
+    /// The site is in this epoch.
+    Turned(Epoch),
     /// News will be told; or the entries were.
     Ok,
 }
@@ -210,6 +213,10 @@ impl fmt::Display for Reply {
                 write!(f, "{lines}")
             }
             Reply::Status(status) => write!(f, "{status}"),
+            Reply::Turned(epoch) => {
+                let number = epoch.get();
+                write!(f, "ok epoch {number}\n")
+            }
             Reply::Ok => write!(f, "ok\n"),
         }
     }

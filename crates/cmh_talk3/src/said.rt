@@ -31,6 +31,7 @@ enum Word {
     Links,
     Status,
     Watch,
+    Turn,
     Quit,
 }
 
@@ -124,6 +125,7 @@ fn word_named(name: &[u8]) -> Option<Word>
         b"links" => Some(Word::Links),
         b"status" => Some(Word::Status),
         b"watch" => Some(Word::Watch),
+        b"turn" => Some(Word::Turn),
         b"quit" => Some(Word::Quit),
         _ => None,
     }
@@ -137,6 +139,7 @@ fn said_by_word(word: Word) -> Said
         Word::Links => Said::Question(Question::Links),
         Word::Status => Said::Question(Question::Status),
         Word::Watch => Said::Question(Question::Watch),
+        Word::Turn => Said::Question(Question::Turn),
         Word::Quit => Said::Quit,
     }
 }

@@ -1,7 +1,12 @@
 use Rattle.cmh.proofs.carry_out.Goals as goal
 
 pub returns-in-Some-clause-audits : goal.returns-in-Some-clause-audits
-returns-in-Some-clause-audits g c = λ named more asked. c.audit.ensures.audits more (asked _ c.in-Some.ensures.rows)
+returns-in-Some-clause-audits g c = λ named none more asked.
+    let rows = c.in-Some.ensures.rows in
+    c.audit.ensures.audits (none _ rows) more (asked _ rows)
+
+pub returns-in-Some-clause-audits_some : goal.returns-in-Some-clause-audits_some
+returns-in-Some-clause-audits_some g c = λ named none. c.audit.ensures.audits_some (none _ c.in-Some.ensures.rows)
 
 pub returns-in-Some-subcommand_matches-clause-draws :
     goal.returns-in-Some-subcommand_matches-clause-draws

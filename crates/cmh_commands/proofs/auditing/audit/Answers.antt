@@ -1,2 +1,0 @@
-use Rattle.std.proofs.Common.{inl}
-use Rattle.cmh_commands.proofs.auditing.audit.Goals as goal

@@ -1,0 +1,8 @@
+use Rattle.std.proofs.Common.{take}
+use Rattle.std.specs.List.{All}
+use Rattle.cmh_parts3.specs.Set.{IsEpochSet}
+use Rattle.cmh_history3.proofs.part.check_sets.Given as goal
+
+-- the epochs so far are such
+abbrev pub invariant-loop-epoch : goal.invariant-loop-epoch
+invariant-loop-epoch l = All (IsEpochSet l.topology) (take l.epoch-index l.epochs)

@@ -1,0 +1,25 @@
+use Rattle.std.proofs.Common.{List, subst, sym}
+use Rattle.std.specs.List.{All}
+use Rattle.cmh_segment3.specs.declared.segment.Segment.{Segment}
+use Rattle.cmh_chain3.specs.Chains as chain
+use Rattle.cmh_chain3.specs.Chains.{AreOneRun, IsReadEpoch}
+use Rattle.cmh_chain3.specs.declared.chain.ChainVerdict.{ChainVerdict}
+use Rattle.cmh_parts3.specs.Set.{IsEpochSet}
+use Rattle.cmh_history3.specs.Inner.Sets.{BeginWorld}
+use Rattle.cmh_history3.proofs.Reading.{one_history, read_epochs}
+use Rattle.cmh_history3.proofs.verdict.audit_history.Goals as goal
+
+pub audit_chain-requires : goal.audit_chain-requires
+audit_chain-requires c =
+    let t = c.args.topology.now in
+    let epochs = c.in_ok-epochs.epochs.items in
+    let sets = subst (All (IsEpochSet t)) c.deref.ensures.value c.in_ok-check_epochs.ensures.sets in
+    subst (All (IsReadEpoch t)) (sym c.deref-2.ensures.value) (read_epochs t c.args.journals.items epochs c.requires c.in_ok-epochs.ensures sets)
+
+pub returns-in-Accepted : goal.returns-in-Accepted
+returns-in-Accepted c =
+    let t = c.args.topology.now in
+    let epochs = c.in_ok-epochs.epochs.items in
+    let begin = subst (BeginWorld t) c.deref.ensures.value c.in_ok-check_epochs.ensures.first in
+    let one = subst (λ (v : ChainVerdict). chain.IfAccepted v (AreOneRun t c.deref-2.result.now)) c.in-Accepted.is c.in_ok-audit_chain.ensures in
+    one_history t c.args.journals.items epochs c.first_law.ensures.runs c.in_ok-epochs.ensures begin (subst (λ (l : List (List Segment)). AreOneRun t l) c.deref-2.ensures.value one)

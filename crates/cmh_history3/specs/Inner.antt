@@ -1,0 +1,3 @@
+-- This crate's own words. No contract of what it gives to its callers cites them.
+pub mod Taking
+pub mod Sets

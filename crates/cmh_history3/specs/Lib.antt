@@ -1,0 +1,5 @@
+pub mod Journals
+pub mod Epochs
+pub mod Histories
+pub mod Parts
+pub mod Inner

@@ -1,0 +1,5 @@
+pub mod Standing
+pub mod Worlds
+pub mod Histories
+pub mod Beginnings
+pub mod Fronts

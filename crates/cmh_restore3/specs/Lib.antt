@@ -1,0 +1,5 @@
+pub mod Restored
+pub mod Laws
+pub mod Reading
+pub mod Keeping
+pub mod Restores
