@@ -7,9 +7,10 @@ ghost use Rattle.cmh_console.specs.Status.{IsStatus};
 ghost use Rattle.cmh_long_audit3.specs.Audits.{HasReport, IsAccepted};
 
 use crate::bases::{base_lines, link_lines};
-use crate::journals::{cuts_of, journals_of, journals_until, segments_of};
+use crate::journals::{journals_of, journals_until, segments_of};
 use crate::keeping::{Flaw, first_flawed, flaw_lines};
 use crate::lines::{placed_reasons, run_lines, stop_lines};
+use crate::noted::Noted;
 use crate::places::{events_in, place_of};
 use cmh_audit3::{Segment, Stop, Verdict, audit, check_set};
 use cmh_console::{Fault, Output, read_topology_file3};
@@ -88,15 +89,15 @@ fn audited(
 {
     let file = read_topology_file3(alloc, topology)?;
     let world = Topology::new(alloc, file.world, &file.rows)?;
-    let mut flaws = Vec::new(alloc);
-    let journals = journals_of(alloc, files, &mut flaws)?;
-    let cuts = cuts_of(alloc, files)?;
+    let mut noted = Noted::new(alloc);
+    let journals = journals_of(alloc, files, &mut noted)?;
+    let cuts = noted.cuts(alloc)?;
     let verdict = match audit_history(alloc, &world, journals) {
         Ok(verdict) => verdict,
         Err(fault) => return Err(of_history(fault)),
     };
     let told = match verdict {
-        HistoryVerdict::Accepted => unless_flawed(alloc, &world, files, more, &flaws)?,
+        HistoryVerdict::Accepted => unless_flawed(alloc, &world, files, more, &noted.flaws)?,
         HistoryVerdict::Refused(epoch) => stopped(alloc, &world, files, epoch, more)?,
         HistoryVerdict::Apart(epoch) => apart(alloc, &world, files, epoch)?,
     };
@@ -152,8 +153,8 @@ fn accepted(
     ensures { IfOk result (λ told. told.is_accepted ≡ true → HasReport world.now
         (map (λ segments. map (λ file. file.items) segments.items) files.now)) }
 {
-    let mut flaws = Vec::new(alloc);
-    let wholes = whole_journals(alloc, journals_of(alloc, files, &mut flaws)?)?;
+    let mut noted = Noted::new(alloc);
+    let wholes = whole_journals(alloc, journals_of(alloc, files, &mut noted)?)?;
     check_set(world, &wholes)?;
     let events = events_in(&wholes);
     let listed = run_listed(alloc, world, &wholes, more)?;

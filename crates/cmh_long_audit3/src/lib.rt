@@ -7,6 +7,7 @@ mod bases;
 mod journals;
 mod keeping;
 mod lines;
+mod noted;
 mod part;
 mod part_report;
 mod part_text;

@@ -7,8 +7,9 @@ ghost use Rattle.cmh_console.specs.Status.{IsStatus};
 ghost use Rattle.cmh_long_audit3.specs.Parts.{IsPartAccepted};
 
 use crate::auditing::{Told, cuts_text, flawed, of_history};
-use crate::journals::{cuts_of, parts_of};
+use crate::journals::parts_of;
 use crate::keeping::{Flaw, first_flawed};
+use crate::noted::Noted;
 use crate::part_report::part_report;
 use crate::part_text::{apart_lines, refused_part};
 use cmh_chain3::ChainVerdict;
@@ -86,14 +87,14 @@ fn audited_part(
 {
     let file = read_topology_file3(alloc, topology)?;
     let world = Topology::new(alloc, file.world, &file.rows)?;
-    let mut flaws = Vec::new(alloc);
-    let journals = parts_of(alloc, files, range, &mut flaws)?;
-    let cuts = cuts_of(alloc, files)?;
+    let mut noted = Noted::new(alloc);
+    let journals = parts_of(alloc, files, range, &mut noted)?;
+    let cuts = noted.cuts(alloc)?;
     let part = match audit_part(alloc, &world, journals) {
         Ok(part) => part,
         Err(fault) => return Err(of_history(fault)),
     };
-    let told = told_of_part(alloc, &world, &part, &flaws)?;
+    let told = told_of_part(alloc, &world, &part, &noted.flaws)?;
     let mut text = cuts_text(alloc, &cuts)?;
     text.push_str(told.text.as_str())?;
     Ok(Told {
