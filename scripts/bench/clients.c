@@ -1,9 +1,10 @@
 /* Clients of a service that each await an answer before they send the next line.
 
-   clients PORT CLIENTS SECONDS THREADS    prints how many answers came in a second
+   clients PORT CLIENTS SECONDS THREADS [FIRST]    prints how many answers came in a second
 
    First process P asks for process 100 + P, for each client P, up to 64. Then client K starts computations for process K,
-   or 64 less, and so on. An answer other than `ok sent ..` ends the program. */
+   or 64 less, and so on. With FIRST the first of these processes is this one in place of 1. An answer other than
+   `ok sent ..` ends the program. */
 #include <arpa/inet.h>
 #include <netinet/tcp.h>
 #include <pthread.h>
@@ -17,7 +18,7 @@
 
 enum { MOST_CLIENTS = 256, MOST_THREADS = 16, MOST_PROCESSES = 64 };
 
-static int port, clients, threads;
+static int port, clients, threads, first = 1;
 static double seconds, began;
 static long answers[MOST_THREADS];
 
@@ -51,7 +52,7 @@ static void ask_all(void) {
     int client = dial();
     char text[256];
     for (int p = 1; p <= clients && p <= MOST_PROCESSES; p++) {
-        snprintf(text, sizeof text, "ask %d %d\n", p, 100 + p);
+        snprintf(text, sizeof text, "ask %d %d\n", first + p - 1, 100 + first + p - 1);
         say(client, text);
         ssize_t length = read(client, text, sizeof text - 1);
         if (length <= 0 || strncmp(text, "ok sent", 7)) stop("an ask was refused");
@@ -61,17 +62,17 @@ static void ask_all(void) {
 
 static void start_one(int client, int k) {
     char text[32];
-    snprintf(text, sizeof text, "start %d\n", (k - 1) % MOST_PROCESSES + 1);
+    snprintf(text, sizeof text, "start %d\n", (k - 1) % MOST_PROCESSES + first);
     say(client, text);
 }
 
 /* The clients of a thread: each `threads`th one. */
 static void *run(void *number) {
-    long first = (long)number;
+    long lane = (long)number;
     int poll = epoll_create1(0), sockets[MOST_CLIENTS + 1];
     char text[256];
     struct epoll_event ready[MOST_CLIENTS];
-    for (int k = (int)first + 1; k <= clients; k += threads) {
+    for (int k = (int)lane + 1; k <= clients; k += threads) {
         struct epoll_event event = {.events = EPOLLIN, .data.u32 = (unsigned)k};
         sockets[k] = dial();
         epoll_ctl(poll, EPOLL_CTL_ADD, sockets[k], &event);
@@ -85,7 +86,7 @@ static void *run(void *number) {
             if (length <= 0) stop("a connection ended");
             text[length] = 0;
             if (strncmp(text, "ok sent", 7)) stop(text);
-            answers[first]++;
+            answers[lane]++;
             start_one(sockets[k], k);
         }
     }
@@ -93,10 +94,11 @@ static void *run(void *number) {
 }
 
 int main(int count, char **words) {
-    if (count != 5) stop("usage: clients PORT CLIENTS SECONDS THREADS");
+    if (count != 5 && count != 6) stop("usage: clients PORT CLIENTS SECONDS THREADS [FIRST]");
     pthread_t made[MOST_THREADS];
     long all = 0;
     port = atoi(words[1]), clients = atoi(words[2]), seconds = atof(words[3]), threads = atoi(words[4]);
+    if (count == 6) first = atoi(words[5]);
     if (clients < 1 || clients > MOST_CLIENTS || threads < 1 || threads > MOST_THREADS) stop("too many");
     ask_all();
     began = now();
