@@ -208,6 +208,31 @@ def recorded(trial):
     trial.lists("later segments with records", later)
 
 
+def recorded_by_epoch(trial):
+    """An audit of one epoch records the segments of that alone, and only once all sites have ended it."""
+    folders = trial.folders("by-epoch", TALK)
+    plain = trial.run("audit", folders, "--epoch", "1")
+    trial.expect("an audit of an epoch that records", trial.run("audit", folders, "--epoch", "1", "--record"), plain)
+    trial.expect("the records of an epoch", (plain[0], records_in(folders)), (0, [(1, 1), (2, 1)]))
+    states = [
+        (1, 0, "closed"), (1, 1, "closed audited"), (1, 2, "open"), (1, 3, "newest"),
+        (2, 0, "closed"), (2, 1, "closed audited"), (2, 2, "newest"),
+        (3, 0, "closed"), (3, 2, "newest"),
+    ]
+    trial.lists("the first epoch is not audited", folders, states)
+    trial.expect("an epoch that is open", (trial.run("audit", folders, "--epoch", "2", "--record")[0], records_in(folders)), (0, [(1, 1), (2, 1)]))
+    trial.run("audit", folders, "--epoch", "0", "--record")
+    closed = [(1, 0), (1, 1), (2, 0), (2, 1), (3, 0)]
+    trial.expect("the records of the other epoch", records_in(folders), closed)
+    trial.lists("epochs that were audited one by one", folders)
+    later = trial.folders("from", TALK)
+    trial.expect("an audit from an epoch on", (trial.run("audit", later, "--from", "1", "--record")[0], records_in(later)), (0, [(1, 1), (2, 1)]))
+    world = played(TALK)
+    world.segments[2][1].entries.pop(0)
+    wrong = trial.folders("wrong-epoch", TALK, world)
+    trial.expect("an epoch that is refused", (trial.run("audit", wrong, "--epoch", "1", "--record")[0], records_in(wrong)), (1, []))
+
+
 def records_in(folders):
     """The sites and epochs of the records in folders. Each is of the mark that is there."""
     found = []
@@ -327,7 +352,7 @@ def sets(trial):
     trial.faults("a process at two sites", folders, "fault topology 3", topology=trial.write("twice.json", json.dumps(rows_of({1: [1], 2: [1]})).encode()))
 
 
-TRIALS = [open_folders, recorded, wrong_records, refused_audits, tails, damage, sets]
+TRIALS = [open_folders, recorded, recorded_by_epoch, wrong_records, refused_audits, tails, damage, sets]
 
 
 def main():

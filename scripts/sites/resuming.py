@@ -26,6 +26,7 @@ from audits3 import AUDITS
 from clients3 import CLIENTS
 from fake3 import MISTAKES
 from peers3 import PEERS, SLOW
+from restored3 import RESTORED
 from turns3 import TURNS
 from journals import chained, segment
 from world import Collided, Missed, Port, allow, of_size, patience, wait_until
@@ -472,7 +473,7 @@ def wait_long(holds, what):
     raise Missed(what)
 
 
-TRIALS = [*CLIENTS, *AUDITS, *TURNS, killed_sites, cut_connections, power_cuts, answers_last, model_peer, full_disk_and_room, starts, peer_down, old_backup, receiver_lacks, folders_in_use, other_worlds, damaged_journals,
+TRIALS = [*CLIENTS, *AUDITS, *TURNS, *RESTORED, killed_sites, cut_connections, power_cuts, answers_last, model_peer, full_disk_and_room, starts, peer_down, old_backup, receiver_lacks, folders_in_use, other_worlds, damaged_journals,
           *PEERS]
 LONG = [behind, *SLOW]
 SIDE_BY_SIDE = 4  # trials: most of them wait
@@ -532,7 +533,7 @@ def main(words):
     if unknown:
         sys.exit('no such trial: %s' % ' '.join(sorted(unknown)))
     # The small site begins no epochs.
-    known = [trial for trial in TRIALS if program is not FAKE or trial not in TURNS]
+    known = [trial for trial in TRIALS if program is not FAKE or trial not in TURNS + RESTORED]
     trials = [trial for trial in TRIALS + LONG if (trial.__name__ in words if words else trial in known)]
     passed = failed = 0
     with concurrent.futures.ThreadPoolExecutor(SIDE_BY_SIDE) as pool:

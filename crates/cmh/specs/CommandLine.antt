@@ -37,6 +37,10 @@ NamesCluster matches = subcommand_name_of matches ≡ Some (codes "cluster")
 abbrev pub NamesNewWorld : ArgMatches → Type 0
 NamesNewWorld matches = subcommand_name_of matches ≡ Some (codes "new-world")
 
+-- the command that is named is `segments`
+abbrev pub NamesSegments : ArgMatches → Type 0
+NamesSegments matches = subcommand_name_of matches ≡ Some (codes "segments")
+
 -- the command that is named is `play`
 abbrev pub NamesPlay : ArgMatches → Type 0
 NamesPlay matches = subcommand_name_of matches ≡ Some (codes "play")
@@ -54,6 +58,8 @@ pub record NamesNothing (matches : ArgMatches) : Type 0 where
   pub no_show : Names matches (codes "show") → ⊥
   pub no_draw : Names matches (codes "draw") → ⊥
   pub no_new_world : Names matches (codes "new-world") → ⊥
+  pub no_segments : Names matches (codes "segments") → ⊥
+  pub no_restore : Names matches (codes "restore") → ⊥
 
 -- the command that is named has nothing to read but files
 abbrev pub ReadsNoInput : ArgMatches → Type 0

@@ -1,3 +1,4 @@
 pub mod CommandLine
 pub mod Serving
 pub mod Playing
+pub mod Listing

@@ -11,7 +11,8 @@ ghost use Rattle.cmh_commands.specs.NewWorld.{WorldEnds};
 ghost use Rattle.cmh_commands.specs.Numbers.{TellsNumber};
 ghost use Rattle.cmh_commands.specs.Paging.{PagesFiles, PlaysToPage};
 ghost use Rattle.cmh_commands.specs.Playing.{PlaysAlone, PlaysScript};
-ghost use Rattle.cmh.specs.CommandLine.{AsksAudit, IsEnd, NamesAudit, NamesCluster, NamesColumn, NamesDraw, NamesEdition, NamesFolder, NamesNewWorld, NamesNoEdition, NamesNoEpoch, NamesNoFolder, NamesNoPage, NamesNoPageFile, NamesNoStrictness, NamesNothing, NamesOption, NamesPage, NamesPlay, NamesShow, NamesSite, NamesSiteNumber, NamesStrictness, ReadsNoInput};
+ghost use Rattle.cmh.specs.CommandLine.{AsksAudit, IsEnd, NamesAudit, NamesCluster, NamesColumn, NamesDraw, NamesEdition, NamesFolder, NamesNewWorld, NamesNoEdition, NamesNoEpoch, NamesNoFolder, NamesNoPage, NamesNoPageFile, NamesNoStrictness, NamesNothing, NamesOption, NamesPage, NamesPlay, NamesSegments, NamesShow, NamesSite, NamesSiteNumber, NamesStrictness, ReadsNoInput};
+ghost use Rattle.cmh.specs.Listing.{ListsSome};
 ghost use Rattle.cmh.specs.Playing.{PlaysEdition3};
 ghost use Rattle.cmh_folder3.specs.Plays.{PlaysInto};
 ghost use Rattle.cmh.specs.Serving.{ServesCluster, ServesCluster3, ServesFile, ServesSite, ServesSome, ServesStrictly, SiteEnds};
@@ -26,14 +27,15 @@ ghost use Rattle.cmh_serve3.specs.Setting.{IsOfEdition3};
 ghost use Rattle.cmh_site.specs.Descriptors.{StrictlyEnds};
 
 use clap::{ArgMatches, Error, error};
+use cmh_archive3::RecordFiles;
 use cmh_carriers::{Noted, Voice};
 use cmh_clients3::SiteNote;
 use cmh_cluster3::{ClusterStart3, run_cluster3};
 use cmh_commands::{
     AUDIT, BACKLOG, CLUSTER, ClusterFiles, DRAW, EDITION, EXPLAIN, Help, JOURNAL, JOURNALS,
-    Listener, NEW, NEW_WORLD, NOTES, OUT, PAGE, PATIENCE, PLAY, PORT, QUIET, SERVE, SHOW, SITE,
-    STRICT, TOPOLOGY, WAIT_FOR_PEERS, audit, cluster_files_of, command, draw_or_page, explanation,
-    play_into, play_page, run_new_world, show,
+    Listener, NEW, NEW_WORLD, NOTES, OUT, PAGE, PATIENCE, PLAY, PORT, QUIET, RESTORE, SEGMENTS,
+    SERVE, SHOW, SITE, STRICT, TO, TOPOLOGY, WAIT_FOR_PEERS, audit, cluster_files_of, command,
+    draw_or_page, explanation, play_into, play_page, restore, run_new_world, segments, show,
 };
 use cmh_console::{Ahead, Fault, Input, Output};
 use cmh_disk3::Start;
@@ -43,6 +45,7 @@ use cmh_host::{BacklogLimit, SiteStart, System};
 use cmh_inputs::{Disk, read_topology};
 use cmh_play::run_play;
 use cmh_play3::run_play3;
+use cmh_restore3::NewFolders;
 use cmh_serve3::{ServeStart, SiteVoice, is_of_edition3, run_service3, run_site3};
 use cmh_service::{ServiceStart, run_service};
 use cmh_site::{
@@ -282,10 +285,14 @@ where
 
     // Where `new-world` is named, the number of a world is told.
     ensures makes_world { NamesNewWorld matches.now → WorldEnds out.old out.new err.old err.new result }
+
+    // Where `segments` is named, just their lines are written.
+    ensures lists { NamesSegments matches.now → result ≡ 0 → ListsSome out.old.written out.new.written }
     ensures reads_nothing { ReadsNoInput matches.now → input.new ≡ input.old }
 {
     if let Some(words) = matches.subcommand_matches(AUDIT) {
-        return audit(rt.alloc(), &Disk::new(rt), words, out, err);
+        let mut records = RecordFiles::new(rt);
+        return audit(rt.alloc(), &Disk::new(rt), words, &mut records, out, err);
     }
     if let Some(words) = matches.subcommand_matches(DRAW) {
         return draw_or_page(rt.alloc(), &Disk::new(rt), words, out, err);
@@ -305,6 +312,52 @@ where
     if let Some(words) = matches.subcommand_matches(CLUSTER) {
         return serve_cluster(rt, terminals, words, out, err);
     }
+    if let Some(words) = matches.subcommand_matches(SEGMENTS) {
+        return segments(rt.alloc(), &Disk::new(rt), words, out, err);
+    }
+    if let Some(words) = matches.subcommand_matches(RESTORE) {
+        return restore_into(rt, words, out, err);
+    }
+    play(rt, matches, input, out, err)
+}
+
+/// Sets a world back, into the folder that the words name.
+fn restore_into<R, W: Write, E: Write>(
+    rt: &R,
+    words: &ArgMatches<'_>,
+    out: &mut Output<W>,
+    err: &mut Output<E>,
+) -> u8
+where
+    R: AllocGlobal + Files<File = File>,
+    ensures { IsStatus result }
+{
+    let mut folders = NewFolders::new(rt, words.get_str(TO).unwrap_or(""));
+    restore(rt.alloc(), &Disk::new(rt), words, &mut folders, out, err)
+}
+
+/// Plays a script, one of edition 3 where the words of `play` ask for that.
+fn play<R, I: BufRead + Ahead, W: Write, E: Write>(
+    rt: &R,
+    matches: &ArgMatches<'_>,
+    input: &mut Input<I>,
+    out: &mut Output<W>,
+    err: &mut Output<E>,
+) -> u8
+where
+    R: System + AllocGlobal + Eprint + Files<File = File> + Send + 'static,
+    ensures status { IsStatus result }
+    ensures plays { NamesNoEdition matches.now → NamesNoPageFile matches.now
+        → PlaysScript input.old input.new out.old out.new err.old err.new result }
+    ensures to_page { NamesNoEdition matches.now
+        → PlaysToPage input.old input.new out.old out.new err.old err.new result }
+    ensures alone { NamesNoEdition matches.now → NamesNoFolder matches.now → NamesNoPageFile matches.now
+        → PlaysAlone input.old input.new out.old out.new err.old err.new result }
+    ensures edition3 { NamesPlay matches.now → (edition : List ℕ) → NamesEdition matches.now edition
+        → NamesNoFolder matches.now → PlaysEdition3 input.old input.new out.old out.new err.old err.new result }
+    ensures edition3_into { NamesPlay matches.now → (edition folder : List ℕ) → NamesEdition matches.now edition
+        → NamesFolder matches.now folder → PlaysInto input.old input.new out.old out.new err.old err.new result }
+{
     if let Some(words) = matches.subcommand_matches(PLAY) {
         if words.get_str(EDITION).is_some() {
             if let Some(path) = words.get_str(JOURNALS) {

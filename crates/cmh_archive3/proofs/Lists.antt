@@ -4,7 +4,7 @@ use Rattle.std.specs.List.{AllZip, flat_map, take-map}
 use Rattle.std.proofs.lemmas.List.{drop_more, flat_map_more, get_or_default, length-map, length-take, map-append, take_all, take_more}
 use Rattle.std.proofs.lemmas.Slice.Zip.{all_zipped_more}
 use Rattle.cmh_archive3.specs.Lines.{earlier_lines, line_of}
-use Rattle.cmh_archive3.specs.declared.lines.Line.{Line}
+use Rattle.cmh_archive3.specs.declared.lines.SegmentLine.{SegmentLine}
 use Rattle.cmh_archive3.specs.declared.summary.Listed.{Listed}
 
 pub flat_more : {X A : Type 0} (f : X → List A) (before : List A) (xs : List X) (i : ℕ) (x : X) → i < length xs → x ≡ get_or xs i x
@@ -51,7 +51,7 @@ earlier_at newest earlier before segment k inside here =
     let rest : before ≡ drop (k + 1) earlier = cc (here, more) in
     ap (earlier_lines newest) here ∙ ap (λ (xs : List Listed). earlier_lines newest xs ++ line_of newest segment before ∷ []) rest
 
-pub lines_more : (start so_far after : List Line) (newest : List ℕ) (earlier back before : List Listed) (segment : Listed) (at : ℕ) (line : Line)
+pub lines_more : (start so_far after : List SegmentLine) (newest : List ℕ) (earlier back before : List Listed) (segment : Listed) (at : ℕ) (line : SegmentLine)
     → so_far ≡ start ++ earlier_lines newest (drop (length earlier - at) earlier) → after ≡ so_far ++ line ∷ [] → line ≡ line_of newest segment before
     → at < length earlier → back ≡ drop (length earlier - 1 - at) earlier → back ≡ segment ∷ before
     → after ≡ start ++ earlier_lines newest (drop (length earlier - (at + 1)) earlier)
@@ -62,10 +62,10 @@ lines_more start so_far after newest earlier back before segment at line done pu
     let step = earlier_at newest earlier before segment (length earlier - (at + 1)) (omega (arith, inside)) here in
     let step_to = step ∙ ap (λ (n : ℕ). earlier_lines newest (drop n earlier) ++ line_of newest segment before ∷ []) upper in
     pushed
-    ∙ ap (λ (ls : List Line). ls ++ line ∷ []) done
+    ∙ ap (λ (ls : List SegmentLine). ls ++ line ∷ []) done
     ∙ append_assoc start (earlier_lines newest (drop (length earlier - at) earlier)) (line ∷ [])
-    ∙ ap (λ (l : Line). start ++ (earlier_lines newest (drop (length earlier - at) earlier) ++ l ∷ [])) is
-    ∙ ap (λ (ls : List Line). start ++ ls) (sym step_to)
+    ∙ ap (λ (l : SegmentLine). start ++ (earlier_lines newest (drop (length earlier - at) earlier) ++ l ∷ [])) is
+    ∙ ap (λ (ls : List SegmentLine). start ++ ls) (sym step_to)
 
 -- six parts of a text
 pub joined_six : (a b c d e f : List ℕ) → a ++ (b ++ (c ++ (d ++ (e ++ f)))) ≡ a ++ b ++ c ++ d ++ e ++ f

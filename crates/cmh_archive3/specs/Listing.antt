@@ -11,7 +11,7 @@ use Rattle.cmh_segment3.specs.declared.segment.Segment.{Segment}
 use Rattle.cmh_topology3.specs.Topology.{Topology, sites_of}
 use Rattle.cmh_archive3.specs.Lines.{all_lines, lines_text}
 use Rattle.cmh_archive3.specs.Reading.{IsFolderAt}
-use Rattle.cmh_archive3.specs.declared.lines.Line.{Line}
+use Rattle.cmh_archive3.specs.declared.lines.SegmentLine.{SegmentLine}
 use Rattle.cmh_archive3.specs.declared.summary.Folder.{Folder}
 
 -- the topology file says this world; where the files are told, it is that at the path
@@ -29,7 +29,7 @@ newest_segments folders = map (λ (folder : Folder). segment_with folder.newest.
 
 -- The lines are those of the segments in these folders, site by site. The folders are those of all sites of the world that the
 -- topology file says, one of each.
-pub record AreLinesOf (told : Option Stored) (topology : List ℕ) (paths : List (List ℕ)) (lines : List Line) : Type 0 where
+pub record AreLinesOf (told : Option Stored) (topology : List ℕ) (paths : List (List ℕ)) (lines : List SegmentLine) : Type 0 where
   pub world : Topology
   pub folders : List Folder
   pub says : SaysTopologyAt told topology world
@@ -39,6 +39,6 @@ pub record AreLinesOf (told : Option Stored) (topology : List ℕ) (paths : List
 
 -- just their text was written
 pub record ListsSegments (told : Option Stored) (topology : List ℕ) (paths : List (List ℕ)) (old new : Option (List ℕ)) : Type 0 where
-  pub lines : List Line
+  pub lines : List SegmentLine
   pub are_lines : AreLinesOf told topology paths lines
   pub wrote : Appends old new (lines_text lines)

@@ -1,10 +1,19 @@
 -- The records that are kept of journals which an audit accepted.
-use Rattle.std.specs.Prelude.{◌≡◌, ℕ, MatchBool, List, [], ◌∷◌, map}
+use Rattle.std.specs.Prelude.{◌≡◌, ◌⊎◌, ℕ, MatchBool, List, [], ◌∷◌, map}
 use Rattle.std.specs.List.{AllZip}
+use Rattle.cmh_long_audit3.specs.Audits.{IsAccepted}
+use Rattle.cmh_long_audit3.specs.Parts.{IsPartAccepted}
+use Rattle.cmh_long_audit3.specs.declared.part.EpochRange.{EpochRange}
 use Rattle.cmh_archive3.specs.Archive.{is_closed}
 use Rattle.cmh_archive3.specs.Names.{record_text}
 use Rattle.cmh_archive3.specs.Summaries.{IsSummaryOf}
 use Rattle.cmh_archive3.specs.declared.summary.Summary.{Summary}
+
+-- an audit accepted the files of journals: all of their epochs, or some
+abbrev pub WereAccepted : List (List (List ℕ)) → Type 0
+WereAccepted files =
+    ((topology : List ℕ) × IsAccepted topology files)
+    ⊎ ((topology : List ℕ) × (range : EpochRange) × IsPartAccepted topology range files)
 
 -- the summaries of the segments in these files
 abbrev pub AreSummaries : List (List ℕ) → List Summary → Type 0

@@ -13,7 +13,7 @@ mod recording;
 mod records;
 mod summary;
 
-pub use crate::lines::{Line, State};
+pub use crate::lines::{SegmentLine, State};
 pub use crate::list_fault::ListFault;
 pub use crate::listing::run_segments;
 pub use crate::recording::{RecordFiles, RecordKeeper, record_audited};

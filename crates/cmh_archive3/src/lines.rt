@@ -36,13 +36,13 @@ impl fmt::Display for State {
 
 /// What is said of a segment. Printed, it is the segment's line.
 #[derive(Clone, Copy, Debug, PartialEq, Eq)]
-pub struct Line {
+pub struct SegmentLine {
     pub segment: Listed,
     pub state: State,
     pub may_be_archived: bool,
 }
 
-impl fmt::Display for Line {
+impl fmt::Display for SegmentLine {
     ghost output = { λ line. Some (spec.line_text line) };
 
     fn fmt<W: fmt::Write>(&self, f: &mut fmt::Formatter<W>) -> fmt::Result {
@@ -104,7 +104,7 @@ fn word_if(stands: bool, word: &'static str) -> &'static str
 /// Lines, one after the other.
 #[derive(Drop)]
 pub struct LinesText<'a> {
-    pub lines: &'a [Line],
+    pub lines: &'a [SegmentLine],
 }
 
 impl<'a> fmt::Display for LinesText<'a> {
@@ -123,7 +123,7 @@ pub fn lines_of(
     alloc: Global,
     sites: &[SiteId],
     folders: &[Folder],
-) -> Result<Vec<Line>, AllocError>
+) -> Result<Vec<SegmentLine>, AllocError>
     ensures { IfOk result (λ lines. lines.items ≡ spec.all_lines sites.now folders.now) }
 {
     let newest = newest_epochs(alloc, folders)?;
@@ -146,7 +146,7 @@ fn newest_epochs(alloc: Global, folders: &[Folder]) -> Result<Vec<Epoch>, AllocE
 }
 
 fn add_site(
-    lines: &mut Vec<Line>,
+    lines: &mut Vec<SegmentLine>,
     newest: &[Epoch],
     folders: &[Folder],
     site: SiteId,
@@ -161,11 +161,15 @@ fn add_site(
     Ok(())
 }
 
-fn add_folder(lines: &mut Vec<Line>, newest: &[Epoch], folder: &Folder) -> Result<(), AllocError>
+fn add_folder(
+    lines: &mut Vec<SegmentLine>,
+    newest: &[Epoch],
+    folder: &Folder,
+) -> Result<(), AllocError>
     ensures { OnOk result (lines.new.items ≡ lines.old.items ++ spec.folder_lines newest.now folder.now) }
 {
     add_earlier(lines, newest, &folder.earlier)?;
-    lines.push(Line {
+    lines.push(SegmentLine {
         segment: folder.newest,
         state: State::Newest,
         may_be_archived: false,
@@ -175,7 +179,7 @@ fn add_folder(lines: &mut Vec<Line>, newest: &[Epoch], folder: &Folder) -> Resul
 
 /// Adds the lines of segments of which the last one is given first.
 fn add_earlier(
-    lines: &mut Vec<Line>,
+    lines: &mut Vec<SegmentLine>,
     newest: &[Epoch],
     earlier: &[Listed],
 ) -> Result<(), AllocError>
@@ -191,12 +195,12 @@ fn add_earlier(
 }
 
 /// The line of a segment that is not the newest one of its site. These are before it in its folder, the last one first.
-fn line_of(newest: &[Epoch], segment: &Listed, before: &[Listed]) -> Line
+fn line_of(newest: &[Epoch], segment: &Listed, before: &[Listed]) -> SegmentLine
     ensures { result ≡ spec.line_of newest.now segment.now before.now }
 {
     let closed = is_closed(newest, segment.summary.header.epoch);
     let audited = segment.is_audited && is_audited_before(before);
-    Line {
+    SegmentLine {
         segment: *segment,
         state: state_of(closed),
         may_be_archived: closed && audited,

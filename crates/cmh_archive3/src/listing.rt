@@ -6,7 +6,7 @@ ghost use Rattle.cmh_console.specs.Status.{IsStatus};
 ghost use Rattle.cmh_archive3.specs.Listing as spec;
 ghost use Rattle.cmh_archive3.specs.Listing.{AreLinesOf, ListsSegments, SaysTopologyAt, newest_segments};
 
-use crate::lines::{Line, LinesText, lines_of};
+use crate::lines::{LinesText, SegmentLine, lines_of};
 use crate::list_fault::ListFault;
 use crate::reading::read_folders;
 use crate::summary::Folder;
@@ -70,7 +70,7 @@ fn read_lines<N: Inputs>(
     inputs: &N,
     topology: &str,
     paths: &[&str],
-) -> Result<Vec<Line>, ListFault>
+) -> Result<Vec<SegmentLine>, ListFault>
     ensures { IfOk result (λ lines. AreLinesOf (N.holds inputs.now) topology.now (map (λ path. path.now) paths.now)
         lines.items) }
 {

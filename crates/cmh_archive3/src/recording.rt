@@ -3,8 +3,7 @@
 ghost use Rattle.std.specs.Prelude.{◌≡◌, ℕ, List, length, IfOk, OnOk, map};
 ghost use Rattle.std.specs.List.{AllZip};
 ghost use Rattle.cmh_archive3.specs.Recording as spec;
-ghost use Rattle.cmh_archive3.specs.Recording.{AreSummaries, KeepsAll, KeepsEach, KeepsJournal, KeepsOne};
-ghost use Rattle.cmh_long_audit3.specs.Audits.{IsAccepted};
+ghost use Rattle.cmh_archive3.specs.Recording.{AreSummaries, KeepsAll, KeepsEach, KeepsJournal, KeepsOne, WereAccepted};
 
 use crate::lines::is_closed;
 use crate::names::{record_path, record_text};
@@ -36,16 +35,15 @@ pub trait RecordKeeper: Drop {
 }
 
 /// Keeps a record for each closed segment of journals that an audit accepted, whose folders are at these paths: that it was
-/// accepted with the mark behind its last entry. Of each journal the files of its segments are given in order. The records
-/// before an error are kept.
+/// accepted with the mark behind its last entry. Of each journal the files of the segments that the audit read are given in
+/// order. The records before an error are kept.
 pub fn record_audited<K: RecordKeeper>(
     alloc: Global,
     paths: &[&str],
     files: &[Vec<Vec<u8>>],
     keeper: &mut K,
 ) -> Result<(), NoFile>
-    requires accepted { (topology : List ℕ) × IsAccepted topology
-        (map (λ segments. map (λ file. file.items) segments.items) files.now) }
+    requires accepted { WereAccepted (map (λ segments. map (λ file. file.items) segments.items) files.now) }
     requires each { length paths.now ≡ length files.now }
     ensures { OnOk result (KeepsAll K.keeps (map (λ path. path.now) paths.now)
         (map (λ segments. map (λ file. file.items) segments.items) files.now) keeper.old keeper.new) }

@@ -14,7 +14,9 @@ use crate::earlier::{all_segments, have_later};
 use crate::files::{files_named, journals_named};
 use crate::options::{DECLARATIONS, JOURNALS, RUN, WHY};
 use crate::parts::{audit_part, range_of};
+use crate::recording::keep_records;
 use clap::ArgMatches;
+use cmh_archive3::RecordKeeper;
 use cmh_console::{Fault, Output};
 use cmh_files::{run_audit, run_audit_run, run_audit_why, run_show};
 use cmh_files3::{More, run_audit3_with, run_show3};
@@ -23,11 +25,13 @@ use cmh_long_audit3::run_long_audit3;
 use std::alloc::Global;
 use std::io::Write;
 
-/// Audits the epochs that the words ask for, or all that the files that they name hold, as `audit_whole` does.
-pub fn audit<N: Inputs, W: Write, E: Write>(
+/// Audits the epochs that the words ask for, or all that the files that they name hold, as `audit_whole` does. The keeper gets
+/// the records of what was accepted, where the words ask for them.
+pub fn audit<N: Inputs, K: RecordKeeper, W: Write, E: Write>(
     alloc: Global,
     inputs: &N,
     words: &ArgMatches<'_>,
+    keeper: &mut K,
     out: &mut Output<W>,
     err: &mut Output<E>,
 ) -> u8
@@ -47,17 +51,18 @@ pub fn audit<N: Inputs, W: Write, E: Write>(
         ⊎ SomePartEnds result }
 {
     match range_of(words) {
-        Some(range) => audit_part(alloc, inputs, words, &range, out, err),
-        None => audit_whole(alloc, inputs, words, out, err),
+        Some(range) => audit_part(alloc, inputs, words, &range, keeper, out, err),
+        None => audit_whole(alloc, inputs, words, keeper, out, err),
     }
 }
 
 /// Audits the files that the words name, and tells the reasons for stops, a run, or its declarations, where they ask for
 /// them. Where the topology is one of edition 3, the journals are segments of it. Declarations are told of edition 3 alone.
-fn audit_whole<N: Inputs, W: Write, E: Write>(
+fn audit_whole<N: Inputs, K: RecordKeeper, W: Write, E: Write>(
     alloc: Global,
     inputs: &N,
     words: &ArgMatches<'_>,
+    keeper: &mut K,
     out: &mut Output<W>,
     err: &mut Output<E>,
 ) -> u8
@@ -75,7 +80,7 @@ fn audit_whole<N: Inputs, W: Write, E: Write>(
     let more = more_of(words);
     match files_named(alloc, inputs, words) {
         Ok(files) if files.is_edition3 && have_later(&files.journals) => {
-            audit_all(alloc, inputs, words, more, files, out, err)
+            audit_all(alloc, inputs, words, files, keeper, out, err)
         }
         Ok(files) => audit_files(alloc, more, &files, out, err),
         Err(fault) => Fault::from(fault).name_on(err),
@@ -83,13 +88,13 @@ fn audit_whole<N: Inputs, W: Write, E: Write>(
 }
 
 /// Audits journals of edition 3 of which one is of a later epoch than the first: with all segments that stand before it, and
-/// before the others.
-fn audit_all<N: Inputs, W: Write, E: Write>(
+/// before the others. Records of what was accepted are kept where the words ask for them.
+fn audit_all<N: Inputs, K: RecordKeeper, W: Write, E: Write>(
     alloc: Global,
     inputs: &N,
     words: &ArgMatches<'_>,
-    more: More,
     files: AuditFiles,
+    keeper: &mut K,
     out: &mut Output<W>,
     err: &mut Output<E>,
 ) -> u8
@@ -104,10 +109,15 @@ fn audit_all<N: Inputs, W: Write, E: Write>(
         Some(paths) => all_segments(alloc, inputs, paths, journals),
         None => all_segments(alloc, inputs, &[], journals),
     };
-    match read {
-        Ok(journals) => run_long_audit3(alloc, &topology, &journals, more, out, err),
-        Err(fault) => Fault::from(fault).name_on(err),
+    let journals = match read {
+        Ok(journals) => journals,
+        Err(fault) => return Fault::from(fault).name_on(err),
+    };
+    let status = run_long_audit3(alloc, &topology, &journals, more_of(words), out, err);
+    if status != 0 {
+        return status;
     }
+    keep_records(alloc, words, &journals, keeper, err)
 }
 
 /// What the words ask an audit to tell after its report.

@@ -1,7 +1,9 @@
 //! A second line for people: what the line of a fault means here. It is worked out again from the words of the command
 //! line and from the files that they name, so it may find them changed. A file that is no regular one is not read again.
 
-use crate::options::{DECLARATIONS, JOURNAL, JOURNALS, OUT, PAGE, PORT, SCRIPT, SITE, TOPOLOGY};
+use crate::options::{
+    DECLARATIONS, JOURNAL, JOURNALS, OUT, PAGE, PORT, RECORD, SCRIPT, SITE, TO, TOPOLOGY,
+};
 use crate::topology_trouble::{
     Limits, is_edition3, trouble_of_members, trouble_of_rows, trouble_of_world,
 };
@@ -191,7 +193,7 @@ fn path_at<'a>(words: &ArgMatches<'a>, place: &[u8]) -> Option<&'a str> {
     journal_at(words, Words::new(place).number())
 }
 
-/// Of a page that can't be written, or a folder whose files can't be.
+/// Of a page or a record that can't be written, or a folder whose files can't be.
 fn explain_out<R: AllocGlobal + Files>(
     rt: &R,
     words: &ArgMatches<'_>,
@@ -201,7 +203,15 @@ fn explain_out<R: AllocGlobal + Files>(
         write!(text, "{path}: no page can be written there")?;
         return Ok(());
     }
-    let path = words.get_str(OUT).or(words.get_str(JOURNALS)).unwrap_or("");
+    if words.get_flag(RECORD) {
+        write!(text, "a record can't be written beside a segment")?;
+        return Ok(());
+    }
+    let path = words
+        .get_str(OUT)
+        .or(words.get_str(TO))
+        .or(words.get_str(JOURNALS));
+    let path = path.unwrap_or("");
     let cause = cause_of(rt, path, true);
     write!(text, "{path}: {cause}")?;
     Ok(())
@@ -212,7 +222,7 @@ fn cause_of<R: Files>(rt: &R, path: &str, is_folder: bool) -> &'static str {
     match fs::metadata(rt, path) {
         Err(error) => named(error.kind()),
         Ok(found) if is_folder && found.is_dir() => {
-            "a journal in this folder can't be written or read back, or a running site writes to it"
+            "a journal in this folder can't be written or read back, one is there already, or a running site writes to it"
         }
         Ok(_) if is_folder => "this is no folder",
         Ok(found) if found.is_dir() => "this is a folder",
@@ -334,10 +344,13 @@ fn tell_topology(
     let Ok(file) = read_topology_file(alloc, bytes) else {
         return Ok(());
     };
-    if let Err(fault) = Topology::new(alloc, file.edition, &file.rows) {
-        tell_rows(Limits::of(file.edition), &file.rows, fault, text)?;
+    match Topology::new(alloc, file.edition, &file.rows) {
+        Err(fault) => tell_rows(Limits::of(file.edition), &file.rows, fault, text),
+        Ok(_) => {
+            write!(text, "this is no topology of edition 3")?;
+            Ok(())
+        }
     }
-    Ok(())
 }
 
 /// Of a topology file of edition 3.

@@ -76,7 +76,7 @@ pub fn journals_named<N: Inputs>(
 }
 
 /// The path of the topology file.
-fn topology_in<'a>(words: &ArgMatches<'a>) -> &'a str
+pub fn topology_in<'a>(words: &ArgMatches<'a>) -> &'a str
     ensures { result.now ≡ topology_path (found_of words.now) }
 {
     match words.get_str(TOPOLOGY) {

@@ -225,7 +225,9 @@ declared process at which stop its cycle stood, and who left it since. In the li
 ` clock C`, the clock of the message, follows F, and ` at N`, the stop at which the cycle stood, follows I.
 A folder has a segment for each epoch that its site began, and all of them are audited. --from E audits the epochs from E
 on, and --epoch E that one alone, from the bases with which it begins and up to those of the next one: no earlier segment
-need be there. Their report has `declared I at N` alone of a declared process.
+need be there. Their report has `declared I at N` alone of a declared process. With --record an audit that accepts keeps a
+record EEEEEEEEEE.audited beside each segment that it read and whose epoch all sites have ended, for `cmh segments`. A
+record that can't be kept is `fault file out`, after the report.
 ";
 
 const AUDIT_STATUSES: &str = "\
@@ -300,10 +302,44 @@ which is named on standard error: `fault random` (the system gives no random byt
 Example: cmh new-world
 ";
 
+const SEGMENTS: &str = "\
+It prints a line for each segment, sites ascending, and of each site its epochs ascending:
+  site S epoch E entries N bytes B mark M STATE [audited] [archive]
+STATE is `newest` (the site writes to it), `open` (its site has begun a later epoch, and some other site has not), or
+`closed` (all sites have). `audited` stands where `cmh audit --record` has accepted the segment as it is, and `archive`
+where it is closed and audited, and so is the one before it, if that is in the folder. Such a segment may be moved away:
+its site does not read it any more, and an audit of later epochs does not need it. Nothing is moved or deleted by this.
+
+Statuses: 0 where all segments are listed, 1 where memory ran out, 2 for a command line that isn't understood, 3 at a
+fault, which is named on standard error as in `cmh audit --help`. The topology has to be one of edition 3.
+
+Example: cmh audit --topology world.json --epoch 7 --record site-1 site-2
+Example: cmh segments --topology world.json site-1 site-2
+";
+
+const RESTORE: &str = "\
+The folders are those of the journals of all sites, or copies of them. The sites begin epoch E anew as they began it
+there: with the same waits, and the same messages under way between them. So the first segments of the new journals are
+those of epoch E without their entries. They bear the number of the world that the topology file says, which has to be
+another one than the older number: draw it by `cmh new-world`. The file has the sites and processes of the older world.
+Before a journal is begun all of this is checked, and that no site has a journal in DIR. Start each site on its folder
+DIR/site-N then, without --new.
+
+It prints a line `site N` for each site, and `restored epoch E`. Where the bases of the epoch do not fit together it prints
+`base N`, of a site, or `link A B`, of a link, and nothing is begun.
+
+Statuses: 0 where all journals are begun, 1 where the bases do not fit or memory ran out, 2 for a command line that isn't
+understood, 3 at a fault, which is named on standard error: as in `cmh audit --help`, and `fault file out` where a journal
+can't be begun in DIR, or one is there.
+
+Example: cmh restore --topology new.json --epoch 7 --to restored backup/site-1 backup/site-2
+";
+
 const COMMANDS: &str = "\
 `cmh play --help` has the language of scripts, `cmh site --help`, `cmh serve --help` and `cmh cluster --help` that of
 running sites, `cmh audit --help` the faults of files, `cmh show --help` the lines of a journal,
-`cmh draw --help` what stands in its pictures.
+`cmh draw --help` what stands in its pictures, `cmh segments --help` the segments of a journal of edition 3, and
+`cmh restore --help` how a whole world is set back.
 
 Example: cmh play < examples/cycle-over-two-sites.script
 ";
@@ -357,6 +393,12 @@ impl Help {
 
     /// After the words of `cmh new-world`.
     pub const NEW_WORLD: &'static str = NEW_WORLD;
+
+    /// After the words of `cmh segments`.
+    pub const SEGMENTS: &'static str = SEGMENTS;
+
+    /// After the words of `cmh restore`.
+    pub const RESTORE: &'static str = RESTORE;
 
     pub fn new(alloc: Global) -> Result<Help, AllocError> {
         Ok(Help {

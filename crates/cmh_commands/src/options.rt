@@ -20,6 +20,10 @@ pub const SERVE: &str = "serve";
 
 pub const NEW_WORLD: &str = "new-world";
 
+pub const SEGMENTS: &str = "segments";
+
+pub const RESTORE: &str = "restore";
+
 pub const TOPOLOGY: &str = "topology";
 
 pub const JOURNALS: &str = "journals";
@@ -36,8 +40,10 @@ pub const RUN: &str = "run";
 
 pub const DECLARATIONS: &str = "declarations";
 
-/// The epoch that is audited.
+/// The epoch that is audited, or restored.
 pub const EPOCH: &str = "epoch";
+
+pub const RECORD: &str = "record";
 
 pub const NOTES: &str = "notes";
 
@@ -95,6 +101,8 @@ pub fn command<'a>(alloc: Global, help: &'a Help) -> Result<Command<'a>, Error> 
     let cmh = with(cmh, show_command(alloc, help))?;
     let cmh = with(cmh, draw_command(alloc, help))?;
     let cmh = with(cmh, new_world_command(alloc))?;
+    let cmh = with(cmh, segments_command(alloc))?;
+    let cmh = with(cmh, restore_command(alloc))?;
     Ok(cmh)
 }
 
@@ -107,27 +115,34 @@ fn with<'a>(line: Command<'a>, command: Result<Command<'a>, Error>) -> Result<Co
 fn play_command<'a>(alloc: Global, help: &'a Help) -> Result<Command<'a>, Error> {
     let page = page_file_arg(alloc)?;
     let edition = edition_arg(alloc)?;
+    let args = Vec::from_array(
+        alloc,
+        [edition, folder_arg(alloc), page, explain_arg(alloc)],
+    )?;
     let play = Command::new(alloc, PLAY)
         .about(
             "Plays a script from standard input on a world of sites in memory, and answers each line",
         )
         .override_usage("cmh play < FILE [--edition 3] [--journals DIR | --page FILE] [--explain]")
         .after_help(help.play.as_str())
-        .arg(edition)?
-        .arg(folder_arg(alloc))?
-        .arg(page)?
-        .arg(explain_arg(alloc))?;
+        .args(args)?;
     Ok(play)
 }
 
 fn show_command<'a>(alloc: Global, help: &'a Help) -> Result<Command<'a>, Error> {
+    let args = Vec::from_array(
+        alloc,
+        [
+            explain_arg(alloc),
+            journals_arg(alloc).help(
+                "The journal files, or folders of edition 3, which are shown in this order",
+            ),
+        ],
+    )?;
     let show = Command::new(alloc, SHOW)
         .about("Prints the entries of journals, one a line, in the words of scripts")
         .after_help(help.show.as_str())
-        .arg(explain_arg(alloc))?
-        .arg(journals_arg(alloc).help(
-            "The journal files, or folders of edition 3, which are shown in this order",
-        ))?;
+        .args(args)?;
     Ok(show)
 }
 
@@ -136,21 +151,28 @@ fn audit_command<'a>(alloc: Global, help: &'a Help) -> Result<Command<'a>, Error
     let declarations = declarations_arg(alloc)?;
     let from = first_epoch_arg(alloc)?;
     let epoch = epoch_arg(alloc)?;
+    let args = Vec::from_array(
+        alloc,
+        [
+            topology_arg(alloc),
+            why_arg(alloc),
+            run,
+            declarations,
+            from,
+            epoch,
+            record_arg(alloc),
+            explain_arg(alloc),
+            journals_arg(alloc).help(
+                "The journal files of all sites, or their folders of edition 3, in any order",
+            ),
+        ],
+    )?;
     let audit = Command::new(alloc, AUDIT)
         .about(
             "Tells whether the journals of all sites come from one run, and who waits and is deadlocked at its end",
         )
         .after_help(help.audit.as_str())
-        .arg(topology_arg(alloc))?
-        .arg(why_arg(alloc))?
-        .arg(run)?
-        .arg(declarations)?
-        .arg(from)?
-        .arg(epoch)?
-        .arg(explain_arg(alloc))?
-        .arg(journals_arg(alloc).help(
-            "The journal files of all sites, or their folders of edition 3, in any order",
-        ))?;
+        .args(args)?;
     Ok(audit)
 }
 
@@ -158,70 +180,94 @@ fn draw_command<'a>(alloc: Global, help: &'a Help) -> Result<Command<'a>, Error>
     let page = page_arg(alloc)?;
     let from = column_arg(alloc, FROM)?;
     let to = column_arg(alloc, TO)?;
+    let args = Vec::from_array(
+        alloc,
+        [
+            topology_arg(alloc),
+            kind_arg(alloc),
+            format_arg(alloc),
+            from.help("The first column of a run that is drawn, counted from 1"),
+            to.help("The last column of a run that is drawn"),
+            page,
+            explain_arg(alloc),
+            journals_arg(alloc).help("The journal files of all sites, in any order"),
+        ],
+    )?;
     let draw = Command::new(alloc, DRAW)
         .about("Draws the journals of all sites: who waits for whom at their end, or what happened")
         .after_help(help.draw.as_str())
-        .arg(topology_arg(alloc))?
-        .arg(kind_arg(alloc))?
-        .arg(format_arg(alloc))?
-        .arg(from.help("The first column of a run that is drawn, counted from 1"))?
-        .arg(to.help("The last column of a run that is drawn"))?
-        .arg(page)?
-        .arg(explain_arg(alloc))?
-        .arg(journals_arg(alloc).help("The journal files of all sites, in any order"))?;
+        .args(args)?;
     Ok(draw)
 }
 
 fn site_command<'a>(alloc: Global, help: &'a Help) -> Result<Command<'a>, Error> {
+    let args = Vec::from_array(
+        alloc,
+        [
+            topology_arg(alloc),
+            site_arg(alloc),
+            journal_arg(alloc),
+            new_arg(alloc),
+            wait_for_peers_arg(alloc),
+            site_patience_arg(alloc),
+            backlog_arg(alloc),
+            notes_arg(alloc),
+            explain_arg(alloc),
+        ],
+    )?;
     let command = Command::new(alloc, SITE)
         .about(
             "Runs one site: answers lines from standard input, talks to the other sites over 127.0.0.1, and keeps a journal",
         )
         .after_help(help.site.as_str())
-        .arg(topology_arg(alloc))?
-        .arg(site_arg(alloc))?
-        .arg(journal_arg(alloc))?
-        .arg(new_arg(alloc))?
-        .arg(wait_for_peers_arg(alloc))?
-        .arg(site_patience_arg(alloc))?
-        .arg(backlog_arg(alloc))?
-        .arg(notes_arg(alloc))?
-        .arg(explain_arg(alloc))?;
+        .args(args)?;
     Ok(command)
 }
 
 fn serve_command<'a>(alloc: Global, help: &'a Help) -> Result<Command<'a>, Error> {
+    let args = Vec::from_array(
+        alloc,
+        [
+            topology_arg(alloc),
+            site_arg(alloc),
+            journal_arg(alloc),
+            new_arg(alloc),
+            wait_for_peers_arg(alloc),
+            port_arg(alloc),
+            serve_patience_arg(alloc),
+            backlog_arg(alloc),
+            quiet_arg(alloc),
+            serve_notes_arg(alloc),
+            explain_arg(alloc),
+        ],
+    )?;
     let command = Command::new(alloc, SERVE)
         .about(
             "Runs one site for clients, each a connection to a port of 127.0.0.1 that sends lines and gets their answers",
         )
         .after_help(help.serve.as_str())
-        .arg(topology_arg(alloc))?
-        .arg(site_arg(alloc))?
-        .arg(journal_arg(alloc))?
-        .arg(new_arg(alloc))?
-        .arg(wait_for_peers_arg(alloc))?
-        .arg(port_arg(alloc))?
-        .arg(serve_patience_arg(alloc))?
-        .arg(backlog_arg(alloc))?
-        .arg(quiet_arg(alloc))?
-        .arg(serve_notes_arg(alloc))?
-        .arg(explain_arg(alloc))?;
+        .args(args)?;
     Ok(command)
 }
 
 fn cluster_command<'a>(alloc: Global, help: &'a Help) -> Result<Command<'a>, Error> {
+    let args = Vec::from_array(
+        alloc,
+        [
+            topology_arg(alloc),
+            script_arg(alloc),
+            out_arg(alloc),
+            strict_arg(alloc),
+            notes_arg(alloc),
+            explain_arg(alloc),
+        ],
+    )?;
     let command = Command::new(alloc, CLUSTER)
         .about(
             "Runs all sites as threads over 127.0.0.1, waits after each line until all frames have come, and audits the journals",
         )
         .after_help(help.cluster.as_str())
-        .arg(topology_arg(alloc))?
-        .arg(script_arg(alloc))?
-        .arg(out_arg(alloc))?
-        .arg(strict_arg(alloc))?
-        .arg(notes_arg(alloc))?
-        .arg(explain_arg(alloc))?;
+        .args(args)?;
     Ok(command)
 }
 
@@ -232,6 +278,47 @@ fn new_world_command<'a>(alloc: Global) -> Result<Command<'a>, Error> {
         )
         .after_help(Help::NEW_WORLD)
         .arg(explain_arg(alloc))?;
+    Ok(command)
+}
+
+fn segments_command<'a>(alloc: Global) -> Result<Command<'a>, Error> {
+    let args = Vec::from_array(
+        alloc,
+        [
+            topology_arg(alloc),
+            explain_arg(alloc),
+            journals_arg(alloc).help("The folders of the journals of all sites, in any order"),
+        ],
+    )?;
+    let command = Command::new(alloc, SEGMENTS)
+        .about("Lists the segments of all journals of edition 3, and which of them may be archived")
+        .after_help(Help::SEGMENTS)
+        .args(args)?;
+    Ok(command)
+}
+
+fn restore_command<'a>(alloc: Global) -> Result<Command<'a>, Error> {
+    let folder = path_arg(alloc, TO, "DIR").help(
+        "The folder, which has to be there, for the folders site-N of the new journals",
+    );
+    let args = Vec::from_array(
+        alloc,
+        [
+            topology_arg(alloc),
+            restored_epoch_arg(alloc),
+            folder,
+            explain_arg(alloc),
+            journals_arg(alloc).help(
+                "The folders of the older journals of all sites, in any order",
+            ),
+        ],
+    )?;
+    let command = Command::new(alloc, RESTORE)
+        .about(
+            "Sets all sites of edition 3 back together to where they began an epoch, as a world with another number",
+        )
+        .after_help(Help::RESTORE)
+        .args(args)?;
     Ok(command)
 }
 
@@ -310,6 +397,27 @@ fn epoch_option<'a>(alloc: Global, name: &'a str) -> Result<Arg<'a>, Error> {
         .conflicts_with(RUN)?
         .conflicts_with(DECLARATIONS)?;
     Ok(option)
+}
+
+/// Whether records of what is audited are kept.
+fn record_arg<'a>(alloc: Global) -> Arg<'a> {
+    Arg::new(alloc, RECORD)
+        .long(RECORD)
+        .help(
+            "Keeps, where journals of edition 3 are accepted, a record beside each segment whose epoch all sites have ended",
+        )
+        .action(ArgAction::SetTrue)
+}
+
+/// The epoch that the sites of a restored world begin. None begins the first one with a base.
+fn restored_epoch_arg<'a>(alloc: Global) -> Arg<'a> {
+    Arg::new(alloc, EPOCH)
+        .long(EPOCH)
+        .value_name("EPOCH")
+        .help("The epoch to whose beginning the sites are set back, 1 or later")
+        .required(true)
+        .value_parser(value_parser!(u32).range(1..=4_294_967_295))
+        .action(ArgAction::Set)
 }
 
 /// The folder of a script that is played.

@@ -7,7 +7,9 @@ ghost use Rattle.cmh_commands.specs.Later.{NamesNoEpoch, PartEnds};
 use crate::earlier::{Front, front_of, read_segment};
 use crate::files::files_named;
 use crate::options::{EPOCH, FROM, JOURNALS};
+use crate::recording::keep_records;
 use clap::ArgMatches;
+use cmh_archive3::RecordKeeper;
 use cmh_console::{Fault, Output};
 use cmh_inputs::{AuditFiles, FileFault, InputFile, Inputs, NotRead};
 use cmh_long_audit3::{EpochRange, run_part_audit3};
@@ -42,30 +44,33 @@ fn epoch_named(words: &ArgMatches<'_>, option: &str) -> Option<Epoch>
     }
 }
 
-/// Audits these epochs of the journals that the words name.
-pub fn audit_part<N: Inputs, W: Write, E: Write>(
+/// Audits these epochs of the journals that the words name. The keeper gets the records of what was accepted, where the words
+/// ask for them.
+pub fn audit_part<N: Inputs, K: RecordKeeper, W: Write, E: Write>(
     alloc: Global,
     inputs: &N,
     words: &ArgMatches<'_>,
     range: &EpochRange,
+    keeper: &mut K,
     out: &mut Output<W>,
     err: &mut Output<E>,
 ) -> u8
     ensures { PartEnds range.now result }
 {
     match files_named(alloc, inputs, words) {
-        Ok(files) => audit_part_of(alloc, inputs, words, range, files, out, err),
+        Ok(files) => audit_part_of(alloc, inputs, words, range, files, keeper, out, err),
         Err(fault) => Fault::from(fault).name_on(err),
     }
 }
 
 /// Audits these epochs of journals whose newest segments are in these files.
-fn audit_part_of<N: Inputs, W: Write, E: Write>(
+fn audit_part_of<N: Inputs, K: RecordKeeper, W: Write, E: Write>(
     alloc: Global,
     inputs: &N,
     words: &ArgMatches<'_>,
     range: &EpochRange,
     files: AuditFiles,
+    keeper: &mut K,
     out: &mut Output<W>,
     err: &mut Output<E>,
 ) -> u8
@@ -80,10 +85,15 @@ fn audit_part_of<N: Inputs, W: Write, E: Write>(
         Some(paths) => needed_segments(alloc, inputs, paths, journals, range),
         None => needed_segments(alloc, inputs, &[], journals, range),
     };
-    match read {
-        Ok(files) => run_part_audit3(alloc, &topology, &files, range, out, err),
-        Err(fault) => Fault::from(fault).name_on(err),
+    let files = match read {
+        Ok(files) => files,
+        Err(fault) => return Fault::from(fault).name_on(err),
+    };
+    let status = run_part_audit3(alloc, &topology, &files, range, out, err);
+    if status != 0 {
+        return status;
     }
+    keep_records(alloc, words, &files, keeper, err)
 }
 
 /// The files of the segments of the journals at these paths that an audit of these epochs needs, of each in order. The

@@ -2,12 +2,12 @@ use Rattle.std.proofs.Common.{List, ℕ, ◌++◌, codes, subst₂}
 use Rattle.std.proofs.Output.{has_written_of_eq}
 use Rattle.std.specs.Fmt.{HasWritten}
 use Rattle.cmh_archive3.specs.Lines.{state_text, summary_text}
-use Rattle.cmh_archive3.specs.declared.lines.Line.{Line}
+use Rattle.cmh_archive3.specs.declared.lines.SegmentLine.{SegmentLine}
 use Rattle.cmh_archive3.proofs.Lists.{joined_six}
-use Rattle.cmh_archive3.proofs.lines.LineDisplay.fmt.Goals as goal
+use Rattle.cmh_archive3.proofs.lines.SegmentLineDisplay.fmt.Goals as goal
 
 -- the text of a line, with these words
-abbrev told : Line → List ℕ → List ℕ → List ℕ
+abbrev told : SegmentLine → List ℕ → List ℕ → List ℕ
 told line audited archive = summary_text line.segment.summary ++ codes " " ++ state_text line.state ++ audited ++ archive ++ codes "\n"
 
 pub returns-clause-writes : goal.returns-clause-writes
