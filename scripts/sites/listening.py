@@ -6,6 +6,7 @@ import signal
 import socket
 import struct
 import subprocess
+import sys
 import tempfile
 from contextlib import suppress
 
@@ -13,6 +14,10 @@ from crowds import made
 from services import PAIR, serve
 from world import Collided, Missed, World, patience, wait_until
 from world3 import World3
+
+sys.path.insert(0, os.path.join(os.path.dirname(os.path.abspath(__file__)), '..', 'model3'))
+from epochs import played, write_all  # noqa: E402
+from journals import folder_of  # noqa: E402
 
 FAMILIES = {'tcp': socket.AF_INET, 'tcp6': socket.AF_INET6, 'udp': socket.AF_INET, 'udp6': socket.AF_INET6,
             'raw': socket.AF_INET, 'raw6': socket.AF_INET6}
@@ -149,6 +154,16 @@ def without_sockets(noted, folder):
         file.write('ask 1 2\nask 2 1\n')
     os.mkdir(out)
     runs.append(('cluster', ['cluster', '--topology', os.path.join(folder, 'topology-3'), '--script', script, '--out', out], ''))
+
+    # Sites that have begun an epoch are listed, and set back.
+    turned, back, other = (os.path.join(folder, name) for name in ('turned', 'back', 'topology-other'))
+    write_all(played(b'site 1 1\nsite 2 2\nask 1 2\nturn 1 1\nturn 2 1\n'), turned)
+    os.mkdir(back)
+    with open(other, 'w') as file:
+        json.dump({'edition': 3, 'world': '1' * 32, 'sites': ROWS}, file)
+    folders = [folder_of(turned, site) for site in (1, 2)]
+    runs += [('segments', ['segments', '--topology', os.path.join(folder, 'topology-3'), *folders], ''),
+             ('restore', ['restore', '--topology', other, '--epoch', '1', '--to', back, *folders], '')]
     return [(name, words, noted.run(*words, said=said)) for name, words, said in runs]
 
 
@@ -159,7 +174,7 @@ def each_command(program):
         ended = without_sockets(noted, folder)
         for name, words, done in ended:
             yield '%s ends well: %s' % (' '.join(words), done.stderr), done.returncode == 0
-        yield 'play, audit, show, draw, new-world and a cluster of edition 3 make no socket: %s' % noted.notes(), noted.notes() == []
+        yield 'play, audit, show, draw, new-world, segments, restore and a cluster of edition 3 make no socket: %s' % noted.notes(), noted.notes() == []
         tried = {name for name, _, _ in ended} | {'site', 'serve', 'cluster'}
         yield 'all commands are tried', commands_of(noted) == tried
         ports = []
