@@ -14,7 +14,7 @@ use thiserror::Error;
 pub struct IoFault;
 
 /// Another handle of a connection, by which whoever waits in its `read` or `write` is let go.
-pub trait Line {
+pub trait ConnectionHandle {
     /// Ends the connection in both directions. A `read` that is under way answers the end, and a `write` fails.
     fn shut(&self);
 }
@@ -93,7 +93,7 @@ pub trait Outgoing {
 pub trait Listen {
     type In: Incoming + Send + Drop + 'static;
 
-    type Line: Line + Send + Drop + 'static;
+    type Handle: ConnectionHandle + Send + Drop + 'static;
 
     /// How many calls have failed.
     ghost failures: { Self → ℕ };
@@ -107,7 +107,7 @@ pub trait Listen {
         ensures count { failures self.new ≡ (if is_err result then failures self.old + 1 else failures self.old) };
 
     /// Another handle of a connection. `None` where memory for one was refused.
-    fn line(&self, incoming: &Self::In) -> Option<Self::Line>;
+    fn handle(&self, incoming: &Self::In) -> Option<Self::Handle>;
 
     /// Another handle of itself. `None` where memory for one was refused.
     fn gate(&self) -> Option<Gate>;
@@ -124,7 +124,7 @@ pub trait Listen {
 pub trait Dial {
     type Out: Outgoing + Send + Drop + 'static;
 
-    type Line: Line + Send + Drop + 'static;
+    type Handle: ConnectionHandle + Send + Drop + 'static;
 
     /// How many calls have failed.
     ghost failures: { Self → ℕ };
@@ -137,7 +137,7 @@ pub trait Dial {
         ensures count { failures self.new ≡ (if is_err result then failures self.old + 1 else failures self.old) };
 
     /// Another handle of a connection. `None` where memory for one was refused.
-    fn line(&self, outgoing: &Self::Out) -> Option<Self::Line>;
+    fn handle(&self, outgoing: &Self::Out) -> Option<Self::Handle>;
 
     /// How many calls have failed.
     fn faults(&self) -> u64

@@ -12,7 +12,7 @@ mod stream;
 mod table;
 mod tcp;
 
-pub use crate::carrier::{Dial, Incoming, IoFault, Line, Listen, Outgoing};
+pub use crate::carrier::{ConnectionHandle, Dial, Incoming, IoFault, Listen, Outgoing};
 pub use crate::gate::{Door, Gate};
 pub use crate::memory::{MemIncoming, MemOutgoing};
 pub use crate::meter::Meter;
@@ -20,4 +20,4 @@ pub use crate::note::{Note, Noted, Origin};
 pub use crate::notes::{NoVoice, Noting, Speaker, Voice};
 pub use crate::stream::{Accept, Look, StreamIncoming, StreamListen, StreamOutgoing};
 pub use crate::table::{LinkFault, LinkState, LinkTable, SharedLinks};
-pub use crate::tcp::{TcpDial, TcpIncoming, TcpLine, TcpListen, TcpOutgoing, TcpPort};
+pub use crate::tcp::{TcpConnection, TcpDial, TcpIncoming, TcpListen, TcpOutgoing, TcpPort};

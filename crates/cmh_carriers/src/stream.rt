@@ -4,7 +4,7 @@ ghost use Rattle.std.specs.Prelude.{◌≡◌, ◌≤◌, None, false, IfOk, len
 ghost use Rattle.std.specs.Io.KnownBytes.{ReadConsumes, WriteAppends};
 ghost use Rattle.cmh_carriers.specs.Streams.{PassesOnRead, PassesOnWrite};
 
-use crate::carrier::{Incoming, IoFault, Line, Listen, Outgoing};
+use crate::carrier::{ConnectionHandle, Incoming, IoFault, Listen, Outgoing};
 use crate::gate::Gate;
 use std::io;
 use std::io::{ErrorKind, Read, Write};
@@ -47,7 +47,7 @@ impl<S: Read> StreamIncoming<S> {
     }
 }
 
-impl<S: Read + Line + Drop> Incoming for StreamIncoming<S> {
+impl<S: Read + ConnectionHandle + Drop> Incoming for StreamIncoming<S> {
     ghost failures = { λ s. s.faults };
 
     ghost given = { λ _. None };
@@ -152,7 +152,7 @@ impl<S: Write + Look + Drop> Outgoing for StreamOutgoing<S> {
 
 /// A socket at which streams arrive.
 pub trait Accept {
-    type Stream: Read + Line + Send + Drop + 'static;
+    type Stream: Read + ConnectionHandle + Send + Drop + 'static;
 
     /// Waits for the next stream.
     fn accept(&mut self) -> io::Result<Self::Stream>;
@@ -194,7 +194,7 @@ impl<L: Accept> StreamListen<L> {
 impl<L: Accept> Listen for StreamListen<L> {
     type In = StreamIncoming<L::Stream>;
 
-    type Line = L::Stream;
+    type Handle = L::Stream;
 
     ghost failures = { λ s. s.faults };
 
@@ -208,7 +208,7 @@ impl<L: Accept> Listen for StreamListen<L> {
         }
     }
 
-    fn line(&self, incoming: &StreamIncoming<L::Stream>) -> Option<L::Stream> {
+    fn handle(&self, incoming: &StreamIncoming<L::Stream>) -> Option<L::Stream> {
         self.listener.another(incoming.stream())
     }
 

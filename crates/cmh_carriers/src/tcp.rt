@@ -2,7 +2,7 @@
 
 ghost use Rattle.std.specs.Prelude.{◌≡◌, IfOk};
 
-use crate::carrier::{Dial, IoFault, Line};
+use crate::carrier::{ConnectionHandle, Dial, IoFault};
 use crate::gate::{Door, Gate};
 use crate::stream::{Accept, Look, StreamIncoming, StreamListen, StreamOutgoing};
 use cmh_frames::SiteId;
@@ -36,24 +36,24 @@ const PAUSE_MILLISECONDS: u64 = 100;
 
 /// A handle of a socket, which reads it, writes it and shuts it.
 #[derive(Drop)]
-pub struct TcpLine {
+pub struct TcpConnection {
     /// `None` where memory to share it was refused: then it is closed, and each read and write fails.
     socket: Option<Arc<TcpStream>>,
 }
 
-impl TcpLine {
+impl TcpConnection {
     /// The only handle of a socket.
-    fn new(alloc: Global, stream: TcpStream) -> TcpLine {
-        TcpLine {
+    fn new(alloc: Global, stream: TcpStream) -> TcpConnection {
+        TcpConnection {
             socket: Arc::new(alloc, stream).ok(),
         }
     }
 
     /// Another handle of the same socket. `None` where there is none, or memory for one was refused.
-    fn another(&self) -> Option<TcpLine> {
+    fn another(&self) -> Option<TcpConnection> {
         match &self.socket {
             Some(socket) => match Arc::try_clone(socket) {
-                Ok(socket) => Some(TcpLine {
+                Ok(socket) => Some(TcpConnection {
                     socket: Some(socket),
                 }),
                 Err(_) => None,
@@ -63,7 +63,7 @@ impl TcpLine {
     }
 }
 
-impl Read for TcpLine {
+impl Read for TcpConnection {
     fn read(&mut self, buffer: &mut [u8]) -> io::Result<usize> {
         match &self.socket {
             Some(socket) => {
@@ -75,7 +75,7 @@ impl Read for TcpLine {
     }
 }
 
-impl Write for TcpLine {
+impl Write for TcpConnection {
     fn write(&mut self, piece: &[u8]) -> io::Result<usize> {
         match &self.socket {
             Some(socket) => {
@@ -92,7 +92,7 @@ impl Write for TcpLine {
     }
 }
 
-impl Look for TcpLine {
+impl Look for TcpConnection {
     fn has_ended(&self) -> bool {
         match &self.socket {
             Some(socket) => is_at_end(socket),
@@ -117,7 +117,7 @@ fn is_silence(kind: ErrorKind) -> bool {
     )
 }
 
-impl Line for TcpLine {
+impl ConnectionHandle for TcpConnection {
     fn shut(&self) {
         if let Some(socket) = &self.socket {
             let _ = socket.shutdown(Shutdown::Both);
@@ -126,10 +126,10 @@ impl Line for TcpLine {
 }
 
 /// The receiving end of an accepted connection.
-pub type TcpIncoming = StreamIncoming<TcpLine>;
+pub type TcpIncoming = StreamIncoming<TcpConnection>;
 
 /// The sending end of a connection that was opened here.
-pub type TcpOutgoing = StreamOutgoing<TcpLine>;
+pub type TcpOutgoing = StreamOutgoing<TcpConnection>;
 
 /// A socket of a port.
 #[derive(Drop)]
@@ -168,17 +168,17 @@ fn pause_after(error: &io::Error) -> Option<Duration> {
 }
 
 impl<R: Clock + Drop> Accept for TcpPort<R> {
-    type Stream = TcpLine;
+    type Stream = TcpConnection;
 
     /// It is tried again after a connection that failed before it was accepted, and, with a pause, where a descriptor or
     /// memory is missing.
-    fn accept(&mut self) -> io::Result<TcpLine> {
+    fn accept(&mut self) -> io::Result<TcpConnection> {
         for _ in 0..u64::MAX {
             if self.is_shut() {
                 break;
             }
             match self.listener.accept() {
-                Ok((stream, _)) => return Ok(TcpLine::new(self.alloc, stream)),
+                Ok((stream, _)) => return Ok(TcpConnection::new(self.alloc, stream)),
                 Err(error) => match pause_after(&error) {
                     Some(pause) => thread::sleep(&self.rt, pause),
                     None => return Err(error),
@@ -188,7 +188,7 @@ impl<R: Clock + Drop> Accept for TcpPort<R> {
         Err(io::Error::from(ErrorKind::NotConnected))
     }
 
-    fn another(&self, stream: &TcpLine) -> Option<TcpLine> {
+    fn another(&self, stream: &TcpConnection) -> Option<TcpConnection> {
         stream.another()
     }
 
@@ -367,14 +367,14 @@ fn ends_at_once(stream: &TcpStream) -> bool {
 impl<R: Net<Stream = TcpStream> + Clock + Drop> Dial for TcpDial<R> {
     type Out = TcpOutgoing;
 
-    type Line = TcpLine;
+    type Handle = TcpConnection;
 
     ghost failures = { λ s. s.faults };
 
     fn connect(&mut self, site: SiteId) -> Result<TcpOutgoing, IoFault> {
         let alloc = *self.ports.allocator();
         match self.open(site) {
-            Ok(stream) => Ok(StreamOutgoing::new(TcpLine::new(alloc, stream))),
+            Ok(stream) => Ok(StreamOutgoing::new(TcpConnection::new(alloc, stream))),
             Err(fault) => {
                 self.faults += 1;
                 Err(fault)
@@ -382,7 +382,7 @@ impl<R: Net<Stream = TcpStream> + Clock + Drop> Dial for TcpDial<R> {
         }
     }
 
-    fn line(&self, outgoing: &TcpOutgoing) -> Option<TcpLine> {
+    fn handle(&self, outgoing: &TcpOutgoing) -> Option<TcpConnection> {
         outgoing.stream().another()
     }
 

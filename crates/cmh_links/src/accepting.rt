@@ -8,7 +8,7 @@ use crate::seats::{Seat, Seats};
 use crate::shared::{Shared, StationHandover};
 use crate::turned_away::turns_away;
 use crate::{ReaderEnd, run_reader};
-use cmh_carriers::{Gate, Incoming, Line, Listen, Note};
+use cmh_carriers::{ConnectionHandle, Gate, Incoming, Listen, Note};
 use cmh_journal::Sink;
 use cmh_reader::{FrameReader, ReadFault};
 use cmh_station::{Keeper, Listing};
@@ -31,7 +31,7 @@ type Reading<L> = (JoinHandle<()>, Arc<Seat<L>>);
 pub(crate) struct Accepter<S: Sink, B: Listing, K: Keeper, L: Listen> {
     shared: Arc<Shared<S, B, K>>,
     /// The connections that it accepted.
-    seats: Arc<Seats<L::Line>>,
+    seats: Arc<Seats<L::Handle>>,
     listen: L,
     /// What its thread sleeps on once it accepts no more.
     parker: Parker,
@@ -60,7 +60,7 @@ impl<S: Sink, B: Listing, K: Keeper, L: Listen> Accepter<S, B, K, L> {
     }
 
     /// The connections that it accepted.
-    pub fn seats(&self) -> &Arc<Seats<L::Line>> {
+    pub fn seats(&self) -> &Arc<Seats<L::Handle>> {
         &self.seats
     }
 }
@@ -151,7 +151,7 @@ where
     L: Listen + Drop,
 {
     let NewAccepter { mut accepter } = accepter;
-    let mut readers: Vec<Reading<L::Line>> = Vec::new(alloc);
+    let mut readers: Vec<Reading<L::Handle>> = Vec::new(alloc);
     accepter.accept_all(rt, alloc, &mut readers);
     accepter.shared.note(&rt, Note::AcceptingEnded);
     let Accepter {
@@ -187,7 +187,7 @@ where
     S: Sink,
     B: Listing,
     K: Keeper,
-    L: Line + Drop,
+    L: ConnectionHandle + Drop,
 {
     for (reader, seat) in readers {
         if shared.cutting.load(Ordering::SeqCst) {
@@ -205,7 +205,7 @@ where
     L: Listen,
 {
     /// Accepts connections and starts a reading thread for each, until accepting fails or the site is ending.
-    fn accept_all<R>(&mut self, rt: R, alloc: Global, readers: &mut Vec<Reading<L::Line>>)
+    fn accept_all<R>(&mut self, rt: R, alloc: Global, readers: &mut Vec<Reading<L::Handle>>)
     where
         R: Wait + Threads + Clock + Copy + Send + Drop + 'static,
         requires { L.failures self.old.listen ≡ 0 }
@@ -225,7 +225,7 @@ where
 
     /// Where as many connections stand as may, ends the one that has told no hello for the longest time, if that is long
     /// enough, so that those who say nothing keep nobody away.
-    fn make_room<R: Wait + Threads + Clock>(&self, rt: &R, readers: &mut Vec<Reading<L::Line>>)
+    fn make_room<R: Wait + Threads + Clock>(&self, rt: &R, readers: &mut Vec<Reading<L::Handle>>)
         ensures fewer { vec_len readers.new ≤ vec_len readers.old }
     {
         if !turns_away(readers.len()) {
@@ -249,7 +249,7 @@ where
 
     /// Starts a reading thread for a connection. One that is turned away, or for which no memory or no thread can be had,
     /// is closed at once.
-    fn admit<R>(&self, rt: R, alloc: Global, incoming: L::In, readers: &mut Vec<Reading<L::Line>>)
+    fn admit<R>(&self, rt: R, alloc: Global, incoming: L::In, readers: &mut Vec<Reading<L::Handle>>)
     where
         R: Wait + Threads + Clock + Copy + Send + Drop + 'static,
         requires { L.In.failures incoming ≡ 0 }
@@ -270,13 +270,13 @@ where
     }
 
     /// Starts a reading thread. `None` where no memory or no thread can be had; then the connection is closed.
-    fn start_reader<R>(&self, rt: R, alloc: Global, incoming: L::In) -> Option<Reading<L::Line>>
+    fn start_reader<R>(&self, rt: R, alloc: Global, incoming: L::In) -> Option<Reading<L::Handle>>
     where
         R: Wait + Threads + Clock + Copy + Send + Drop + 'static,
         requires { L.In.failures incoming ≡ 0 }
     {
         let theirs = Arc::try_clone(&self.shared).ok()?;
-        let seat = self.seats.seat(&rt, self.listen.line(&incoming)?, None)?;
+        let seat = self.seats.seat(&rt, self.listen.handle(&incoming)?, None)?;
         let Ok(taken) = Arc::try_clone(&seat) else {
             seat.leave(&rt);
             return None;
@@ -292,7 +292,7 @@ where
 }
 
 /// Gives up the threads whose connections have ended, so that these count no more.
-fn give_up<R: Wait + Threads, L: Line + Drop>(rt: &R, readers: &mut Vec<Reading<L>>)
+fn give_up<R: Wait + Threads, L: ConnectionHandle + Drop>(rt: &R, readers: &mut Vec<Reading<L>>)
     ensures fewer { vec_len readers.new ≤ vec_len readers.old }
 {
     let mut left = readers.len();
@@ -306,7 +306,7 @@ fn give_up<R: Wait + Threads, L: Line + Drop>(rt: &R, readers: &mut Vec<Reading<
 }
 
 /// The place of the connection that has told no hello for the longest time, if there is one without.
-fn longest_silent<L: Line + Drop>(readers: &[Reading<L>]) -> Option<usize>
+fn longest_silent<L: ConnectionHandle + Drop>(readers: &[Reading<L>]) -> Option<usize>
     ensures { IfSome result (λ place. place < length readers.now) }
 {
     let mut longest: Option<(usize, Duration)> = None;
@@ -349,7 +349,7 @@ where
     B: Listing,
     K: Keeper,
     I: Incoming + Drop,
-    L: Line + Drop,
+    L: ConnectionHandle + Drop,
     requires { I.failures incoming ≡ 0 }
 {
     if let Ok(mut reader) = reader_of(alloc, &shared) {

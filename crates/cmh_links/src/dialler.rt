@@ -14,7 +14,7 @@ use std::time::Clock;
 #[derive(Drop)]
 pub(crate) struct Dialler<D: Dial> {
     dial: D,
-    seats: Arc<Seats<D::Line>>,
+    seats: Arc<Seats<D::Handle>>,
 }
 
 impl<D: Dial> Model for Dialler<D> {
@@ -37,7 +37,7 @@ impl<D: Dial> Dialler<D> {
     }
 
     /// The connections that it opened.
-    pub fn seats(&self) -> &Arc<Seats<D::Line>> {
+    pub fn seats(&self) -> &Arc<Seats<D::Handle>> {
         &self.seats
     }
 
@@ -57,7 +57,7 @@ impl<D: Dial> Dialler<D> {
         rt: &R,
         site: SiteId,
         outgoing: &D::Out,
-    ) -> Option<Arc<Seat<D::Line>>> {
-        self.seats.seat(rt, self.dial.line(outgoing)?, Some(site))
+    ) -> Option<Arc<Seat<D::Handle>>> {
+        self.seats.seat(rt, self.dial.handle(outgoing)?, Some(site))
     }
 }

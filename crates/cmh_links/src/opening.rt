@@ -11,7 +11,7 @@ use crate::draining::drain;
 use crate::run_writer;
 use crate::seats::Seat;
 use crate::shared::{Shared, TapSource};
-use cmh_carriers::{Dial, IoFault, Line, LinkFault, Note, Outgoing};
+use cmh_carriers::{ConnectionHandle, Dial, IoFault, LinkFault, Note, Outgoing};
 use cmh_frames::SiteId;
 use cmh_journal::Sink;
 use cmh_station::{Keeper, LinkTap, Listing, ParkingTap};
@@ -50,7 +50,7 @@ pub(crate) enum Place {
 
 /// A connection that was opened, and its seat.
 #[derive(Drop)]
-struct Connection<O, L: Line + Drop> {
+struct Connection<O, L: ConnectionHandle + Drop> {
     out: O,
     seat: Arc<Seat<L>>,
 }
@@ -175,7 +175,7 @@ where
     B: Listing + Send + 'static,
     K: Keeper + Send + 'static,
     O: Outgoing + Send + Drop + 'static,
-    L: Line + Send + Drop + 'static,
+    L: ConnectionHandle + Send + Drop + 'static,
     requires fresh { O.failures connection.out ≡ 0 }
     ensures to { leads_to result ≡ tap.to }
     ensures new { is_idle result ≡ false }
@@ -215,7 +215,7 @@ where
     B: Listing,
     K: Keeper,
     O: Outgoing + Drop,
-    L: Line + Drop,
+    L: ConnectionHandle + Drop,
     requires fresh { O.failures connection.out ≡ 0 }
     ensures { result.to ≡ berth.to }
 {

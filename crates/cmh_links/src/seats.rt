@@ -1,7 +1,7 @@
 //! The connections of a site whose threads run, for those that let these threads go.
 
 use crate::backlog::BacklogLimit;
-use cmh_carriers::Line;
+use cmh_carriers::ConnectionHandle;
 use cmh_frames::SiteId;
 use cmh_journal::Sink;
 use cmh_station::{Keeper, Listing, SharedStation};
@@ -12,9 +12,9 @@ use std::time::{Clock, Duration};
 
 /// A connection that a thread reads or writes.
 #[derive(Drop)]
-pub(crate) struct Seat<L: Line + Drop> {
+pub(crate) struct Seat<L: ConnectionHandle + Drop> {
     /// Another handle of it, which goes with the thread, so that its descriptor is given back at once.
-    line: Mutex<Option<L>>,
+    handle: Mutex<Option<L>>,
     /// The site to which it was opened; `None` of one that was accepted.
     to: Option<SiteId>,
     /// When it came, by the clock that never goes back.
@@ -27,10 +27,10 @@ pub(crate) struct Seat<L: Line + Drop> {
     is_over: AtomicBool,
 }
 
-impl<L: Line + Drop> Seat<L> {
-    fn new(line: L, to: Option<SiteId>, began: Duration) -> Seat<L> {
+impl<L: ConnectionHandle + Drop> Seat<L> {
+    fn new(handle: L, to: Option<SiteId>, began: Duration) -> Seat<L> {
         Seat {
-            line: Mutex::new(Some(line)),
+            handle: Mutex::new(Some(handle)),
             to,
             began,
             is_awaited: AtomicBool::new(true),
@@ -46,8 +46,8 @@ impl<L: Line + Drop> Seat<L> {
 
     /// Its thread is done with it, and has no handle of it any more.
     pub fn leave<R: Wait>(&self, rt: &R) {
-        let mut line = self.line.lock(rt);
-        *line = None;
+        let mut handle = self.handle.lock(rt);
+        *handle = None;
         self.is_over.store(true, Ordering::SeqCst);
     }
 
@@ -58,9 +58,9 @@ impl<L: Line + Drop> Seat<L> {
 
     /// Ends it, so that its thread waits for the other end no more.
     pub fn shut<R: Wait>(&self, rt: &R) {
-        let guard = self.line.lock(rt);
-        if let Some(line) = &*guard {
-            line.shut();
+        let guard = self.handle.lock(rt);
+        if let Some(handle) = &*guard {
+            handle.shut();
         }
     }
 
@@ -112,11 +112,11 @@ impl<L: Line + Drop> Seat<L> {
 
 /// The connections of a site, all that it accepted or all that it opened.
 #[derive(Drop)]
-pub(crate) struct Seats<L: Line + Drop> {
+pub(crate) struct Seats<L: ConnectionHandle + Drop> {
     seats: Mutex<Vec<Arc<Seat<L>>>>,
 }
 
-impl<L: Line + Drop> Seats<L> {
+impl<L: ConnectionHandle + Drop> Seats<L> {
     /// Nobody is seated.
     pub fn new(alloc: Global) -> Seats<L> {
         Seats {
@@ -129,14 +129,14 @@ impl<L: Line + Drop> Seats<L> {
     pub fn seat<R: Wait + Clock>(
         &self,
         rt: &R,
-        line: L,
+        handle: L,
         to: Option<SiteId>,
     ) -> Option<Arc<Seat<L>>> {
         let began = rt.monotonic().ok()?;
         let mut guard = self.seats.lock(rt);
         let seats = &mut *guard;
         seats.retain(|seat| !seat.is_over());
-        let seat = Arc::new(*seats.allocator(), Seat::new(line, to, began)).ok()?;
+        let seat = Arc::new(*seats.allocator(), Seat::new(handle, to, began)).ok()?;
         seats.push(Arc::try_clone(&seat).ok()?).ok()?;
         Some(seat)
     }

@@ -8,7 +8,7 @@ ghost use Rattle.cmh_links.specs.Writing.{Gave};
 use crate::backlog::BacklogLimit;
 use crate::seats::Seat;
 use crate::{FrameSource, Handover, Next};
-use cmh_carriers::{Line, LinkTable, Note, SharedLinks, Speaker};
+use cmh_carriers::{ConnectionHandle, LinkTable, Note, SharedLinks, Speaker};
 use cmh_frames::{Edition, Frame, SiteId, Topology};
 use cmh_journal::Sink;
 use cmh_station::{BATCH_LIMIT, Keeper, Listing, ParkingTap, SharedStation, StationRefusal};
@@ -126,7 +126,7 @@ pub(crate) struct StationHandover<
     S: Sink,
     B: Listing,
     K: Keeper,
-    L: Line + Drop,
+    L: ConnectionHandle + Drop,
 > {
     rt: R,
     shared: &'a Shared<S, B, K>,
@@ -134,14 +134,14 @@ pub(crate) struct StationHandover<
     refused: Option<StationRefusal>,
 }
 
-impl<'a, R: Wait + Drop, S: Sink, B: Listing, K: Keeper, L: Line + Drop> StationHandover<
+impl<
     'a,
-    R,
-    S,
-    B,
-    K,
-    L,
-> {
+    R: Wait + Drop,
+    S: Sink,
+    B: Listing,
+    K: Keeper,
+    L: ConnectionHandle + Drop,
+> StationHandover<'a, R, S, B, K, L> {
     /// It has refused nothing.
     pub fn new(rt: R, shared: &'a Shared<S, B, K>, seat: &'a Seat<L>) -> Self
         ensures { result.refused ≡ None }
@@ -172,7 +172,7 @@ impl<'a, R: Wait + Drop, S: Sink, B: Listing, K: Keeper, L: Line + Drop> Station
     }
 }
 
-impl<'a, R: Wait + Drop, S: Sink, B: Listing, K: Keeper, L: Line + Drop> Handover
+impl<'a, R: Wait + Drop, S: Sink, B: Listing, K: Keeper, L: ConnectionHandle + Drop> Handover
     for StationHandover<'a, R, S, B, K, L> {
     ghost accepted = { λ _. None };
 

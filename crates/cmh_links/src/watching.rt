@@ -2,7 +2,7 @@
 
 use crate::seats::Seats;
 use crate::shared::Shared;
-use cmh_carriers::{Line, Note};
+use cmh_carriers::{ConnectionHandle, Note};
 use cmh_journal::Sink;
 use cmh_station::{Keeper, Listing};
 use std::sync::atomic::Ordering;
@@ -36,8 +36,8 @@ where
     S: Sink + Send + 'static,
     B: Listing + Send + 'static,
     K: Keeper + Send + 'static,
-    L: Line + Send + Drop + 'static,
-    O: Line + Send + Drop + 'static,
+    L: ConnectionHandle + Send + Drop + 'static,
+    O: ConnectionHandle + Send + Drop + 'static,
 {
     let watched = Watched::new(shared, seats, outs)?;
     thread::spawn(&rt, move || watch(rt, watched)).ok()
@@ -45,7 +45,13 @@ where
 
 /// What the watching thread looks at.
 #[derive(Drop)]
-struct Watched<S: Sink, B: Listing, K: Keeper, L: Line + Drop, O: Line + Drop> {
+struct Watched<
+    S: Sink,
+    B: Listing,
+    K: Keeper,
+    L: ConnectionHandle + Drop,
+    O: ConnectionHandle + Drop,
+> {
     shared: Arc<Shared<S, B, K>>,
     /// The connections that the site accepted.
     seats: Arc<Seats<L>>,
@@ -53,7 +59,13 @@ struct Watched<S: Sink, B: Listing, K: Keeper, L: Line + Drop, O: Line + Drop> {
     outs: Arc<Seats<O>>,
 }
 
-impl<S: Sink, B: Listing, K: Keeper, L: Line + Drop, O: Line + Drop> Watched<S, B, K, L, O> {
+impl<
+    S: Sink,
+    B: Listing,
+    K: Keeper,
+    L: ConnectionHandle + Drop,
+    O: ConnectionHandle + Drop,
+> Watched<S, B, K, L, O> {
     fn new(
         shared: &Arc<Shared<S, B, K>>,
         seats: &Arc<Seats<L>>,
@@ -86,8 +98,8 @@ where
     S: Sink,
     B: Listing,
     K: Keeper,
-    L: Line + Drop,
-    O: Line + Drop,
+    L: ConnectionHandle + Drop,
+    O: ConnectionHandle + Drop,
 {
     let shared = &watched.shared;
     let mut turn = 0;
@@ -123,7 +135,7 @@ where
     S: Sink,
     B: Listing,
     K: Keeper,
-    L: Line + Drop,
+    L: ConnectionHandle + Drop,
 {
     let most = Duration::from_secs(MOST_HELLO_SECONDS);
     for _ in 0..seats.shut_silent(rt, now, most) {
@@ -132,7 +144,12 @@ where
 }
 
 /// Ends the connections to other sites, where these had time since then to read what is written.
-fn shut_late<R: Wait, O: Line + Drop>(rt: &R, outs: &Seats<O>, since: Duration, now: Duration) {
+fn shut_late<R: Wait, O: ConnectionHandle + Drop>(
+    rt: &R,
+    outs: &Seats<O>,
+    since: Duration,
+    now: Duration,
+) {
     if now.saturating_sub(since) >= Duration::from_secs(MOST_QUIT_SECONDS) {
         outs.shut_all(rt);
     }
@@ -145,7 +162,7 @@ where
     S: Sink,
     B: Listing,
     K: Keeper,
-    O: Line + Drop,
+    O: ConnectionHandle + Drop,
 {
     for _ in 0..shared.others.len() {
         let Some((site, waiting)) = outs.shut_unread(rt, &shared.station, shared.backlog) else {

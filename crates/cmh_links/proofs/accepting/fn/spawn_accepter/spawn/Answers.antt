@@ -14,5 +14,5 @@ run_accepter-requires-send-K g c κs within = param_send _ _ (arg_send _ _ _ c.r
 pub run_accepter-requires-send-L-In : goal.run_accepter-requires-send-L-In
 run_accepter-requires-send-L-In g c κs within = param_send _ _ (arg_send _ _ _ c.requires.1.1.1.1.1.1.1.1.1.1.1.1.1.1.1.1.5)
 
-pub run_accepter-requires-send-L-Line : goal.run_accepter-requires-send-L-Line
-run_accepter-requires-send-L-Line g c κs within = param_send _ _ (arg_send _ _ _ c.requires.1.1.1.1.1.1.1.1.1.1.1.1.1.1.1.1.6)
+pub run_accepter-requires-send-L-Handle : goal.run_accepter-requires-send-L-Handle
+run_accepter-requires-send-L-Handle g c κs within = param_send _ _ (arg_send _ _ _ c.requires.1.1.1.1.1.1.1.1.1.1.1.1.1.1.1.1.6)
