@@ -15,8 +15,10 @@ HERE = os.path.dirname(os.path.abspath(__file__))
 FEW, MANY = 64, 200  # clients
 TRIES = 3  # of which the best counts, since other programs run beside
 SECONDS = 1  # of a measurement
+ANSWERS = 22800  # a second: so many were given when 200 clients burned three processors; who gives more may burn more
 ENDLESS = 6  # clients of which each sends a line without an end
 ASKERS = 8  # clients that ask for figures again and again
+QUESTIONS = 50  # of a try
 BUFFERED = 1 << 24  # bytes: more than the system keeps for a connection, both ends together
 ALONE = ('--quiet', '--patience', '0')
 
@@ -49,13 +51,14 @@ def load(program, driver, clients, before=()):
 
 
 def best_of_loads(program, driver, before=()):
-    """For few clients and for many: the most answers a second, and the fewest processors. Other programs run beside, so there
-    are more tries where the many get too few."""
+    """For few clients and for many: the most answers a second, and the fewest processors for so many of them. Other programs
+    run beside, so there are more tries where the many get too few."""
     found = {clients: [] for clients in (FEW, MANY)}
     for count in range(2 * TRIES):
         for clients, loads in found.items():
             loads.append(load(program, driver, clients, before))
-        few, many = [(max(answers for answers, _ in loads), min(used for _, used in loads)) for loads in found.values()]
+        few, many = [(max(answers for answers, _ in loads), min(used / max(1, answers / ANSWERS) for answers, used in loads))
+                     for loads in found.values()]
         if count + 1 >= TRIES and many[0] >= 0.8 * few[0]:
             break
     return few, many
@@ -71,7 +74,51 @@ def many_clients(program):
         yield '%d clients get %.0f answers a second, %d get %.0f' % (FEW, few[0], MANY, many[0]), many[0] >= 0.8 * few[0]
         few, many = best_of_loads(program, driver, ('env', 'LD_PRELOAD=' + slow, 'SLOW=1000'))
         yield 'on a slow disk %.0f and %.0f' % (few[0], many[0]), many[0] >= 0.8 * few[0]
-        yield 'with %.2f and %.2f processors' % (few[1], many[1]), many[1] < 0.5
+        yield 'with %.2f and %.2f processors for %d answers a second' % (few[1], many[1], ANSWERS), many[1] < 0.5
+
+
+# ---- questions while the disk is slow
+
+def slowest_question(program, slow):
+    """The slowest answer to a question in seconds, beside a client whose events take 100 ms each; and whether each was right."""
+    with World(program, PAIR) as world:
+        served = serve(world, 1, more=ALONE, before=('env', 'LD_PRELOAD=' + slow, 'SLOW=100000'))
+        busy, asks = served.client(), served.dial()
+        busy.call('ask', 1, 2)
+        ended = threading.Event()
+        turns = threading.Thread(target=start_again_and_again, args=(busy, ended))
+        turns.start()
+        try:
+            took, right = [], True
+            for _ in range(QUESTIONS):
+                time.sleep(0.017)
+                begin = time.monotonic()
+                asks.sendall(b'waits 1\nowed 1\nlinks\nstatus\n')
+                lines = read_lines(asks, 5)
+                took.append(time.monotonic() - begin)
+                right = right and lines[:2] == ['waits 1 2', 'owed 1'] and lines[4].startswith('entries ')
+            return max(took), right
+        finally:
+            ended.set()
+            turns.join()
+
+
+def start_again_and_again(client, ended):
+    while not ended.is_set():
+        client.call('start', 1)
+
+
+def questions_beside_a_sync(program):
+    """A question waits for no disk, of whatever client the event is that does."""
+    allow(9 * TRIES)
+    with tempfile.TemporaryDirectory() as folder:
+        slow = made(folder, 'slow.c', '-shared', '-fPIC')
+        found, slowest = [], 1.0
+        while len(found) < TRIES or (slowest >= 0.01 and len(found) < 3 * TRIES):  # other programs run beside
+            found.append(slowest_question(program, slow))
+            slowest = min(slowest, found[-1][0])
+        yield 'it is answered within %.1f ms' % (slowest * 1000), slowest < 0.01
+        yield 'and right', all(right for _, right in found)
 
 
 # ---- clients that hold up others
@@ -256,7 +303,7 @@ def answers_of(client, lines):
     return [client.receive() for _ in lines]
 
 
-CROWDS = [many_clients, endless_lines, after_quit, web_pages, one_moment, three_declarations]
+CROWDS = [many_clients, questions_beside_a_sync, endless_lines, after_quit, web_pages, one_moment, three_declarations]
 
 if __name__ == '__main__':
     send_endlessly(int(sys.argv[1]), float(sys.argv[2]))

@@ -41,6 +41,8 @@ pub struct SiteSetup<'a> {
     pub journal: &'a str,
     pub patience: Duration,
     pub backlog: BacklogLimit,
+    /// Whether questions are asked of it while it keeps entries.
+    pub is_asked: bool,
 }
 
 /// Takes the site's port, makes its journal, and starts its threads. What is answered beside them makes its notes.
@@ -91,6 +93,7 @@ where
         dial: TcpDial::new(rt, pairs).with_patience(setup.patience),
         backlog: setup.backlog,
         speakers,
+        is_asked: setup.is_asked,
     })
 }
 

@@ -99,6 +99,8 @@ pub struct Carriers<R: System + 'static> {
     /// A link for which more frames wait is closed.
     pub backlog: BacklogLimit,
     pub speakers: Speakers,
+    /// Whether questions are asked of the station while it keeps entries.
+    pub is_asked: bool,
 }
 
 /// What a running site is asked by.
@@ -185,12 +187,16 @@ where
             handle: speaker,
             threads: theirs,
         },
+        is_asked,
     } = carriers;
     let Locked {
         station,
         shared,
         taps,
     } = lock_station(alloc, station, taps)?;
+    if is_asked && station.follow(&rt, alloc, topology, site).is_err() {
+        return Err(AllocError);
+    }
     let parts = SiteParts {
         station: shared,
         taps,

@@ -1,3 +1,3 @@
 pub mod Endings
-pub mod Questions
+pub mod NoQuestions
 pub mod Replies

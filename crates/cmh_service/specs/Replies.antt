@@ -1,10 +1,8 @@
 -- What clients are answered.
 use Rattle.std.specs.Prelude.{◌≡◌, ◌↔◌, ◌⊎◌, ℕ, ◌-◌, true, List, Contains, length, Option, None, Some, Result, Ok, Err, ⊤}
-use Rattle.std.specs.List.Sorted.{IsStrictlyIncreasing}
 use Rattle.cmh_frames.specs.Declarations.{declarations}
 use Rattle.cmh_frames.specs.Entries.{Outcome}
-use Rattle.cmh_frames.specs.Relation.{has}
-use Rattle.cmh_frames.specs.Topology.{At, Topology}
+use Rattle.cmh_frames.specs.Topology.{Topology}
 use Rattle.cmh_frames.specs.declared.event.Event.{Event}
 use Rattle.cmh_controller.specs.declared.refusal.Refusal.TheVariants.{Memory}
 use Rattle.cmh_journal.specs.Journal.{entry_limit}
@@ -13,8 +11,8 @@ use Rattle.cmh_host.specs.Steps.{IsDeclared, WasStepped}
 use Rattle.cmh_host.specs.Together.{AreTaken}
 use Rattle.cmh_host.specs.declared.site_reply.SiteReply.{SiteReply}
 use Rattle.cmh_host.specs.declared.site_reply.SiteReply.TheVariants as site
-use Rattle.cmh_station.specs.Journaled.{Journaled, state_of}
-use Rattle.cmh_station.specs.Questions.{RefusesQuestion}
+use Rattle.cmh_station.specs.Journaled.{Journaled}
+use Rattle.cmh_station.specs.Questions.{Owes, WaitsFor, WasNoQuestion}
 use Rattle.cmh_station.specs.declared.refusal.StationRefusal.{StationRefusal}
 use Rattle.cmh_station.specs.declared.refusal.StationRefusal.TheVariants.{Disk, Rule}
 use Rattle.cmh_service.specs.Texts.{as_site, event_text, reply_text}
@@ -56,24 +54,10 @@ WereTaken events Alone = ⊤
 
 -- ---- questions
 
--- in a state of a station a process of its site waits for just these
-pub record WaitsFor (process : ℕ) (others : List ℕ) : Type 0 where
-  pub station : Journaled
-  pub here : At station.topology process station.site
-  pub ascending : IsStrictlyIncreasing others
-  pub all : (k : ℕ) → Contains others k ↔ (has (state_of station).waits process k ≡ true)
-
--- in a state of a station a process of its site has not answered just these
-pub record Owes (process : ℕ) (others : List ℕ) : Type 0 where
-  pub station : Journaled
-  pub here : At station.topology process station.site
-  pub ascending : IsStrictlyIncreasing others
-  pub all : (j : ℕ) → Contains others j ↔ (has (state_of station).owed process j ≡ true)
-
 -- a station refuses a question about the process
-abbrev pub WasNoQuestion : ℕ → SiteReply → Type 0
-WasNoQuestion process (site.Refused refusal) = (station : Journaled) × RefusesQuestion station.topology station.site process refusal
-WasNoQuestion process reply = ⊥
+abbrev pub RefusesToSay : ℕ → SiteReply → Type 0
+RefusesToSay process (site.Refused refusal) = WasNoQuestion process refusal
+RefusesToSay process reply = ⊥
 
 -- the figures of a station's state
 pub record IsStatusOf (status : Status) : Type 0 where
@@ -89,12 +73,12 @@ WasShort reply = reply ≡ site.Refused (Rule Memory)
 
 abbrev pub AnswersWaits : ℕ → Reply → Type 0
 AnswersWaits process (Waits named others) = (named ≡ process) × WaitsFor process others.items
-AnswersWaits process (Site reply) = WasNoQuestion process reply
+AnswersWaits process (Site reply) = RefusesToSay process reply
 AnswersWaits process reply = ⊥
 
 abbrev pub AnswersOwed : ℕ → Reply → Type 0
 AnswersOwed process (Owed named others) = (named ≡ process) × Owes process others.items
-AnswersOwed process (Site reply) = WasNoQuestion process reply
+AnswersOwed process (Site reply) = RefusesToSay process reply
 AnswersOwed process reply = ⊥
 
 abbrev pub AnswersStatus : Reply → Type 0

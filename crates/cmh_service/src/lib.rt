@@ -7,12 +7,14 @@ mod host;
 mod language;
 pub mod laws;
 mod mailbox;
+mod questions;
 mod reply;
 mod rounds;
 mod said;
 mod server;
 mod service_fault;
 mod serving;
+mod stand_in;
 
 pub use crate::language::Lines;
 pub use crate::reply::{EventReply, Reply, Status};

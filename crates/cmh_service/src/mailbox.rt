@@ -106,6 +106,11 @@ impl Mailbox {
         let _ = self.waker.wake();
     }
 
+    /// Wakes whoever waits for what comes to the thread.
+    pub fn wake(&self) {
+        let _ = self.waker.wake();
+    }
+
     pub fn take_news(&self) -> bool {
         self.has_news.swap(false, Ordering::SeqCst)
     }
@@ -130,6 +135,11 @@ impl<R: Wait + Drop> Dispatcher<R> {
             own,
             given: 0,
         }
+    }
+
+    /// The number of the thread itself.
+    pub fn number(&self) -> usize {
+        self.own
     }
 
     /// Whether the thread is to be woken at the end of the round that is under way.

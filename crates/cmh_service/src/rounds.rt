@@ -7,15 +7,17 @@ ghost use Rattle.cmh_station.specs.Journaled.{batch_limit};
 use crate::clients::MOST_CLIENTS;
 use crate::host::Host;
 use crate::mailbox::{Dispatcher, Mailbox};
+use crate::questions::Questions;
 use crate::reply::{EventReply, Reply};
 use crate::said::Said;
 use cmh_client::Desk;
 use cmh_frames::Event;
 use cmh_station::{BATCH_LIMIT, Declared};
+use crossbeam_utils::sync::Unparker;
 use mio::Waker;
 use std::alloc::{AllocError, Global};
 use std::mem::swap;
-use std::sync::atomic::{AtomicBool, Ordering};
+use std::sync::atomic::{AtomicBool, AtomicU64, AtomicUsize, Ordering};
 use std::sync::{Arc, Mutex, Wait};
 
 /// The events of a round, and room for the replies to them.
@@ -46,10 +48,16 @@ impl Round {
 #[derive(Drop)]
 pub(crate) struct Rounds<R: Wait + Drop> {
     host: Mutex<Host<R>>,
+    questions: Mutex<Questions<R>>,
     /// The events that wait for the next round.
     desk: Mutex<Desk<Event>>,
     /// Whether a round is under way.
     is_stepping: AtomicBool,
+    /// How many rounds have begun, and how many have ended, together: it is odd while one is under way.
+    turns: AtomicU64,
+    /// The number of the thread that gave the newest round to the station.
+    stepping: AtomicUsize,
+    stand_in: StandInState,
     pub mailboxes: Arc<Vec<Mailbox>>,
     /// Whether a thread can't serve its clients any more.
     has_ended: AtomicBool,
@@ -57,17 +65,51 @@ pub(crate) struct Rounds<R: Wait + Drop> {
     acceptor: Waker,
 }
 
+/// The thread that stands in for another one during its round.
+#[derive(Drop)]
+struct StandInState {
+    unparker: Unparker,
+    /// Whether it looks at the rounds by itself, and need not be woken.
+    is_watching: AtomicBool,
+    /// Whether it serves the clients of another thread.
+    is_serving: AtomicBool,
+}
+
+/// A site, as events and as questions ask it.
+#[derive(Drop)]
+pub(crate) struct Asked<R: Wait + Drop> {
+    pub host: Host<R>,
+    pub questions: Questions<R>,
+}
+
+/// What wakes the thread that lets clients in, and the one that stands in for those that serve them.
+#[derive(Drop)]
+pub(crate) struct Wakers {
+    pub acceptor: Waker,
+    pub stand_in: Unparker,
+}
+
 impl<R: Wait + Drop> Rounds<R> {
     pub fn new(
-        host: Host<R>,
+        asked: Asked<R>,
         desk: Desk<Event>,
         mailboxes: Arc<Vec<Mailbox>>,
-        acceptor: Waker,
+        wakers: Wakers,
     ) -> Rounds<R> {
+        let Asked { host, questions } = asked;
+        let Wakers { acceptor, stand_in } = wakers;
         Rounds {
             host: Mutex::new(host),
+            questions: Mutex::new(questions),
             desk: Mutex::new(desk),
             is_stepping: AtomicBool::new(false),
+            turns: AtomicU64::new(0),
+            stepping: AtomicUsize::new(0),
+            stand_in: StandInState {
+                unparker: stand_in,
+                is_watching: AtomicBool::new(false),
+                is_serving: AtomicBool::new(false),
+            },
             mailboxes,
             has_ended: AtomicBool::new(false),
             acceptor,
@@ -124,11 +166,49 @@ impl<R: Wait + Drop> Rounds<R> {
         }
         dispatcher.wake_for_room();
         if !round.desk.events().is_empty() {
+            self.begin(dispatcher.number());
             round.step(&self.host.lock(rt), dispatcher);
+            self.turns.fetch_add(1, Ordering::SeqCst);
         }
         self.is_stepping.store(false, Ordering::SeqCst);
         dispatcher.wake_all();
         true
+    }
+
+    /// A round of the thread with this number begins. Where there are more clients than one the thread that stands in for it
+    /// is to know.
+    fn begin(&self, number: usize) {
+        self.stepping.store(number, Ordering::SeqCst);
+        self.turns.fetch_add(1, Ordering::SeqCst);
+        if !self.stand_in.is_watching.load(Ordering::SeqCst) && self.clients() > 1 {
+            self.stand_in.unparker.unpark();
+        }
+    }
+
+    /// How many rounds have begun, and how many have ended, together.
+    pub fn turns(&self) -> u64 {
+        self.turns.load(Ordering::SeqCst)
+    }
+
+    /// The number of the thread that gave the newest round to the station.
+    pub fn stepping(&self) -> usize {
+        self.stepping.load(Ordering::SeqCst)
+    }
+
+    /// Whether the thread that stands in for others looks at the rounds by itself, and need not be woken.
+    pub fn set_watching(&self, is_watching: bool) {
+        self.stand_in
+            .is_watching
+            .store(is_watching, Ordering::SeqCst);
+    }
+
+    /// Whether that thread serves the clients of another one.
+    pub fn set_serving(&self, is_serving: bool) {
+        self.stand_in.is_serving.store(is_serving, Ordering::SeqCst);
+    }
+
+    pub fn is_stood_in(&self) -> bool {
+        self.stand_in.is_serving.load(Ordering::SeqCst)
     }
 
     /// The answer to a line that is no event.
@@ -137,12 +217,17 @@ impl<R: Wait + Drop> Rounds<R> {
         ensures { WasAnswered said.now result }
     {
         let clients = self.clients();
-        self.host.lock(rt).answer(said, clients)
+        self.questions.lock(rt).answer(said, clients)
+    }
+
+    /// Has what questions are asked take in what was kept meanwhile.
+    pub fn catch_up(&self, rt: &R) {
+        self.questions.lock(rt).catch_up();
     }
 
     /// The list of all that the site declared. `None` where memory was refused.
     pub fn declarations(&self, rt: &R) -> Option<Declared> {
-        self.host.lock(rt).declarations()
+        self.questions.lock(rt).declarations()
     }
 
     /// How many clients there are.

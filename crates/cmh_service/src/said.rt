@@ -57,7 +57,7 @@ pub fn parse_for_service(alloc: Global, line: &[u8]) -> Result<Said, AllocError>
 }
 
 /// The question that only a service answers.
-#[tactic(auto, using(crate::proofs::Questions::asks_nothing))]
+#[tactic(auto, using(crate::proofs::NoQuestions::asks_nothing))]
 fn question_of(line: &[u8]) -> Option<Said>
     ensures { MatchOption result (AsksNoService (words_of line.now)) (AsksService (words_of line.now)) }
 {

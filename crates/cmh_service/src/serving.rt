@@ -8,15 +8,19 @@ ghost use Rattle.cmh_service.specs.ServiceFaults.{IsServiceFault, as_fault};
 use crate::clients::MOST_CLIENTS;
 use crate::host::Host;
 use crate::mailbox::Mailbox;
-use crate::rounds::Rounds;
-use crate::server::{MAIL, PAUSE_MILLISECONDS, Server};
+use crate::questions::Questions;
+use crate::rounds::{Asked, Rounds, Wakers};
+use crate::server::{MAIL, PAUSE_MILLISECONDS, Server, ServerState, ServerStates};
 use crate::service_fault::{ServiceFault, Shortage};
+use crate::stand_in::StandIn;
 use cmh_carriers::{Noting, Voice};
 use cmh_client::Desk;
 use cmh_console::{Fault, Output, WriteFault};
-use cmh_host::{Running, RunningSite, SiteSetup, SiteStart, System, read_setting, start_site};
+use cmh_host::{
+    Running, RunningSite, SiteHandle, SiteSetup, SiteStart, System, read_setting, start_site,
+};
 use cmh_station::BATCH_LIMIT;
-use crossbeam_utils::sync::Parker;
+use crossbeam_utils::sync::{Parker, Unparker};
 use mio::net::TcpListener as Listener;
 use mio::{Events, Interest, Poll, Token, Waker};
 use std::alloc::{AllocError, Global};
@@ -24,7 +28,7 @@ use std::fs::File;
 use std::io::{ErrorKind, Write};
 use std::net::{Ipv4Addr, Net, SocketAddr, TcpListener, TcpStream};
 use std::rt::Files;
-use std::sync::{Arc, Wait};
+use std::sync::{Arc, Mutex, Wait};
 use std::thread;
 use std::thread::Threads;
 use std::time::{Clock, Duration};
@@ -123,6 +127,7 @@ where
         journal: own.journal,
         patience: own.patience,
         backlog: own.backlog,
+        is_asked: true,
     };
     let running = start_site(rt, alloc, &setup, noting)?;
     let RunningSite { handle, threads } = running;
@@ -130,18 +135,36 @@ where
         end(threads);
         return Err(ServiceFault::Memory);
     };
+    let Ok(station) = Arc::try_clone(&handle.station) else {
+        end(threads);
+        return Err(ServiceFault::Memory);
+    };
+    let SiteHandle {
+        site,
+        station: asked,
+        reader,
+        speaker,
+    } = handle;
     let host = Host {
+        rt,
+        station,
+        speaker,
+    };
+    let questions = Questions {
         rt,
         alloc,
         topology: setting.world,
-        handle,
+        site,
+        station: asked,
+        reader,
         links,
     };
     if say_listening(out).is_err() {
         end(threads);
         return Err(ServiceFault::Output);
     }
-    Err(ServiceFault::from(serve_beside(rt, alloc, host, acceptor, threads)))
+    let asked = Asked { host, questions };
+    Err(ServiceFault::from(serve_beside(rt, alloc, asked, acceptor, threads)))
 }
 
 fn say_listening<W: Write>(out: &mut Output<W>) -> Result<(), WriteFault>
@@ -165,7 +188,7 @@ where
 fn serve_beside<R>(
     rt: R,
     alloc: Global,
-    host: Host<R>,
+    asked: Asked<R>,
     acceptor: Acceptor,
     mut threads: Running<R>,
 ) -> Shortage
@@ -179,7 +202,7 @@ where
         + Drop
         + 'static,
 {
-    let rounds = match start_servers(rt, alloc, host, &acceptor) {
+    let rounds = match start_servers(rt, alloc, asked, &acceptor) {
         Ok(rounds) => rounds,
         Err(shortage) => {
             end(threads);
@@ -196,23 +219,25 @@ where
     shortage
 }
 
-/// Starts the threads that serve clients, and one that wakes them at each declaration. Each thing that can fail stands in a
-/// function of its own, which has less to drop then.
+/// Starts the threads that serve clients, one that stands in for them, and one that wakes them at each declaration. Each
+/// thing that can fail stands in a function of its own, which has less to drop then.
 fn start_servers<R>(
     rt: R,
     alloc: Global,
-    host: Host<R>,
+    asked: Asked<R>,
     acceptor: &Acceptor,
 ) -> Result<Arc<Rounds<R>>, Shortage>
 where
-    R: Wait + Threads + Net + Copy + Send + Drop + 'static,
+    R: Wait + Threads + Net + Clock + Copy + Send + Drop + 'static,
 {
-    let Polled { mailboxes, polls } = make_polls(&rt, alloc)?;
-    let parker = watch(alloc, &host)?;
-    let rounds = make_rounds(alloc, host, mailboxes, acceptor)?;
+    let Polled { mailboxes, states } = make_polls(&rt, alloc)?;
+    let parker = watch(alloc, &asked.host)?;
+    let begun = Parker::new(alloc)?;
+    let rounds = make_rounds(alloc, asked, mailboxes, acceptor, begun.unparker().clone()?)?;
     start_passing(rt, parker, &rounds)?;
-    for (number, poll) in polls.into_iter().enumerate() {
-        start_server(rt, alloc, number, poll, &rounds)?;
+    start_stand_in(rt, begun, &states, &rounds)?;
+    for number in 0..SERVERS {
+        start_server(rt, alloc, number, &states, &rounds)?;
     }
     Ok(rounds)
 }
@@ -221,20 +246,23 @@ where
 #[derive(Drop)]
 struct Polled {
     mailboxes: Vec<Mailbox>,
-    polls: Vec<Poll>,
+    states: ServerStates,
 }
 
 fn make_polls<R: Net>(rt: &R, alloc: Global) -> Result<Polled, Shortage> {
     let mut mailboxes = Vec::with_capacity(alloc, SERVERS)?;
-    let mut polls = Vec::with_capacity(alloc, SERVERS)?;
-    for _ in 0..SERVERS {
+    let mut states = Vec::with_capacity(alloc, SERVERS)?;
+    for number in 0..SERVERS {
         let Ok(poll) = Poll::new(rt) else {
             return Err(Shortage::Listen);
         };
         mailboxes.push(mailbox_of(alloc, &poll)?)?;
-        polls.push(poll)?;
+        states.push(Mutex::new(ServerState::new(alloc, number, poll)?))?;
     }
-    Ok(Polled { mailboxes, polls })
+    Ok(Polled {
+        mailboxes,
+        states: Arc::new(alloc, states)?,
+    })
 }
 
 /// The mailbox of the thread that waits on this.
@@ -248,21 +276,27 @@ fn mailbox_of(alloc: Global, poll: &Poll) -> Result<Mailbox, Shortage> {
 /// What is woken at each declaration of the site.
 fn watch<R: Wait + Drop>(alloc: Global, host: &Host<R>) -> Result<Parker, Shortage> {
     let parker = Parker::new(alloc)?;
-    host.handle.station.watch(parker.unparker().clone()?);
+    host.station.watch(parker.unparker().clone()?);
     Ok(parker)
 }
 
 fn make_rounds<R: Wait + Drop>(
     alloc: Global,
-    host: Host<R>,
+    asked: Asked<R>,
     mailboxes: Vec<Mailbox>,
     acceptor: &Acceptor,
+    stand_in: Unparker,
 ) -> Result<Arc<Rounds<R>>, Shortage> {
     let Ok(waker) = Waker::new(acceptor.poll.registry(), ENDED) else {
         return Err(Shortage::Listen);
     };
     let mailboxes = Arc::new(alloc, mailboxes)?;
-    let rounds = Rounds::new(host, Desk::new(alloc)?, mailboxes, waker);
+    let desk = Desk::new(alloc)?;
+    let wakers = Wakers {
+        acceptor: waker,
+        stand_in,
+    };
+    let rounds = Rounds::new(asked, desk, mailboxes, wakers);
     Ok(Arc::new(alloc, rounds)?)
 }
 
@@ -278,18 +312,37 @@ where
     }
 }
 
+/// Starts the thread that stands in for those that serve clients.
+fn start_stand_in<R>(
+    rt: R,
+    begun: Parker,
+    states: &ServerStates,
+    rounds: &Arc<Rounds<R>>,
+) -> Result<(), Shortage>
+where
+    R: Wait + Threads + Net + Clock + Copy + Send + Drop + 'static,
+{
+    let states = Arc::try_clone(states)?;
+    let stand_in = StandIn::new(rt, begun, states, Arc::try_clone(rounds)?);
+    match thread::spawn(&rt, move || stand_in.watch_all()) {
+        Ok(_) => Ok(()),
+        Err(_) => Err(Shortage::Memory),
+    }
+}
+
 /// Starts a thread that serves clients.
 fn start_server<R>(
     rt: R,
     alloc: Global,
     number: usize,
-    poll: Poll,
+    states: &ServerStates,
     rounds: &Arc<Rounds<R>>,
 ) -> Result<(), Shortage>
 where
     R: Wait + Threads + Net + Copy + Send + Drop + 'static,
 {
-    let mut server = Server::new(rt, alloc, number, poll, Arc::try_clone(rounds)?)?;
+    let states = Arc::try_clone(states)?;
+    let mut server = Server::new(rt, alloc, number, states, Arc::try_clone(rounds)?)?;
     match thread::spawn(&rt, move || server.serve_all()) {
         Ok(_) => Ok(()),
         Err(_) => Err(Shortage::Memory),

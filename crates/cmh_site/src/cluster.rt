@@ -434,6 +434,7 @@ where
             dial,
             backlog: BacklogLimit::default(),
             speakers,
+            is_asked: false,
         })
     }
 

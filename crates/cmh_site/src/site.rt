@@ -126,6 +126,7 @@ where
         journal: start.journal,
         patience: start.patience,
         backlog: start.backlog,
+        is_asked: false,
     };
     let mut host = SiteHost::start(rt, rt.alloc(), &setup, noting)?;
     let answered = host.serve(input, out);

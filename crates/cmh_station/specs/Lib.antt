@@ -7,4 +7,5 @@ pub mod Stations
 pub mod Appends
 pub mod Arrivals
 pub mod Questions
+pub mod Followers
 pub mod Keepers

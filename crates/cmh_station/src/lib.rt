@@ -5,18 +5,21 @@
 mod arrivals;
 mod batch;
 mod feeding;
+mod follower;
 mod journaled;
 mod keeper;
 pub mod laws;
 mod newest;
 mod parking_tap;
 mod past;
+mod questions;
 mod refusal;
 mod shared;
 mod station;
 mod storing;
 
 pub use crate::batch::BATCH_LIMIT;
+pub use crate::follower::Figures;
 pub use crate::journaled::JournaledController;
 pub use crate::keeper::Keeper;
 pub use crate::newest::NewestEntries;

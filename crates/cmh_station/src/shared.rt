@@ -3,15 +3,20 @@
 ghost use Rattle.std.specs.Prelude.{◌≡◌, ◌<◌, ◌≤◌, [], length, take, IfOk, IfErr, OnOk};
 ghost use Rattle.std.specs.Vec.{vec_len, vec_capacity};
 ghost use Rattle.cmh_station.specs.Arrivals.{TookFrames, TookSome};
+ghost use Rattle.cmh_controller.specs.Refusals.{RefusesSite};
 ghost use Rattle.cmh_station.specs.Batches.{AreUntilRefused, NotSteppedAll, NotSteppedFromFirst, SteppedAll};
+ghost use Rattle.cmh_station.specs.Followers.{AreFiguresOf};
 ghost use Rattle.cmh_station.specs.Journaled.{Journaled, batch_limit};
+ghost use Rattle.cmh_station.specs.Questions.{Owes, WaitsFor, WasNoQuestion};
 ghost use Rattle.cmh_station.specs.Steps.{NotStepped, Stepped};
 
+use crate::follower::{Figures, Follower};
 use crate::keeper::Keeper;
 use crate::parking_tap::{LinkTap, ParkingTap};
 use crate::refusal::StationRefusal;
 use crate::station::Station;
-use cmh_frames::{Event, Frame, Outcome, SiteId};
+use cmh_controller::Refusal;
+use cmh_frames::{Event, Frame, Outcome, ProcId, SiteId, Topology};
 use cmh_journal::{Journal, Sink};
 use cmh_shared::Listing;
 use crossbeam_utils::sync::{Parker, Unparker};
@@ -26,6 +31,9 @@ pub struct SharedStation<S: Sink, B: Listing, K: Keeper = Journal> {
     sleepers: Vec<Sleeper>,
     /// What wakes the thread that tells declarations, where there is one.
     watcher: OnceLock<Unparker>,
+    /// What answers questions while the station is locked, where it was asked for and memory was there. It is locked for
+    /// moments alone, by whoever has the station's lock or none.
+    follower: Mutex<Option<Follower>>,
 }
 
 /// What wakes the thread of the link to a site, and how many frames wait for it.
@@ -65,6 +73,7 @@ impl<S: Sink, B: Listing, K: Keeper> SharedStation<S, B, K> {
             station: Mutex::new(station),
             sleepers,
             watcher: OnceLock::new(),
+            follower: Mutex::new(None),
         };
         Ok((shared, with_parkers(taps, parkers, parking)))
     }
@@ -86,7 +95,7 @@ impl<S: Sink, B: Listing, K: Keeper> SharedStation<S, B, K> {
         let mut station = self.station.lock(rt);
         let before = station.count();
         let answer = station.step(rt, event);
-        self.give_back(station, before);
+        self.give_back(rt, station, before);
         answer
     }
 
@@ -105,7 +114,7 @@ impl<S: Sink, B: Listing, K: Keeper> SharedStation<S, B, K> {
         let mut station = self.station.lock(rt);
         let before = station.count();
         let answers = station.step_all(rt, events);
-        self.give_back(station, before);
+        self.give_back(rt, station, before);
         answers
     }
 
@@ -126,7 +135,7 @@ impl<S: Sink, B: Listing, K: Keeper> SharedStation<S, B, K> {
         let mut station = self.station.lock(rt);
         let before = station.count();
         let answers = step_from_first(rt, &mut station, events);
-        self.give_back(station, before);
+        self.give_back(rt, station, before);
         answers
     }
 
@@ -146,7 +155,7 @@ impl<S: Sink, B: Listing, K: Keeper> SharedStation<S, B, K> {
         let mut station = self.station.lock(rt);
         let before = station.count();
         let answers = station.step_until(rt, events);
-        self.give_back(station, before);
+        self.give_back(rt, station, before);
         answers
     }
 
@@ -164,18 +173,114 @@ impl<S: Sink, B: Listing, K: Keeper> SharedStation<S, B, K> {
         let mut station = self.station.lock(rt);
         let before = station.count();
         let answer = station.take_frames(rt, from, frames);
-        self.give_back(station, before);
+        self.give_back(rt, station, before);
         answer
     }
 
     /// Gives the lock back, and wakes who has something to do after the entries that the station has made since its journal
     /// had so many. These need not stay in memory.
-    fn give_back(&self, station: MutexGuard<'_, Station<S, B, K>>, before: usize) {
+    fn give_back<R: Wait>(&self, rt: &R, station: MutexGuard<'_, Station<S, B, K>>, before: usize) {
         let mut station = station;
         let news = self.news(&station, before);
+        self.lead_on(rt, &station, before);
         station.let_go();
         drop(station);
         self.wake_for(news);
+    }
+
+    /// Gives the follower, if there is one, the entries that the station has made since its journal had so many.
+    fn lead_on<R: Wait>(&self, rt: &R, station: &Station<S, B, K>, before: usize) {
+        let mut guard = self.follower.lock(rt);
+        if let Some(follower) = guard.take() {
+            *guard = follower.with_events(station.since(before), station.is_sealed());
+        }
+    }
+
+    /// Has the questions below answered by a second controller from now on, which takes each event once its entry is kept:
+    /// then they wait for no sync. They are of the last moment at which the station was not locked. Where the station has
+    /// entries already nothing is done.
+    ///
+    /// Where memory for the second controller is refused later, questions wait for the station again.
+    pub fn follow<R: Wait>(
+        &self,
+        rt: &R,
+        alloc: Global,
+        topology: &Topology,
+        site: SiteId,
+    ) -> Result<(), Refusal>
+        ensures refused { IfErr result (RefusesSite topology.now site) }
+    {
+        let station = self.station.lock(rt);
+        if station.count() == 0 {
+            let follower = Follower::new(alloc, topology, site)?;
+            let mut guard = self.follower.lock(rt);
+            *guard = Some(follower);
+        }
+        Ok(())
+    }
+
+    /// The follower, if there is one, after all events that it was given.
+    fn led_on<R: Wait>(&self, rt: &R) -> MutexGuard<'_, Option<Follower>> {
+        let mut guard = self.follower.lock(rt);
+        if let Some(follower) = guard.take() {
+            *guard = follower.caught_up();
+        }
+        guard
+    }
+
+    /// Has the second controller, if there is one, take the events that wait for it, so that no step and no question has to.
+    pub fn catch_up<R: Wait>(&self, rt: &R) {
+        drop(self.led_on(rt));
+    }
+
+    /// `Station::waits_of`, of some moment.
+    pub fn waits_of<R: Wait>(&self, rt: &R, process: ProcId) -> Result<Vec<ProcId>, StationRefusal>
+        ensures ok { IfOk result (λ others. WaitsFor process others.items) }
+        ensures refused { IfErr result (WasNoQuestion process) }
+    {
+        {
+            let guard = self.led_on(rt);
+            if let Some(follower) = &*guard {
+                return follower.waits_of(process);
+            }
+        }
+        self.station.lock(rt).waits_of(process)
+    }
+
+    /// `Station::owed_by`, of some moment.
+    pub fn owed_by<R: Wait>(&self, rt: &R, process: ProcId) -> Result<Vec<ProcId>, StationRefusal>
+        ensures ok { IfOk result (λ others. Owes process others.items) }
+        ensures refused { IfErr result (WasNoQuestion process) }
+    {
+        {
+            let guard = self.led_on(rt);
+            if let Some(follower) = &*guard {
+                return follower.owed_by(process);
+            }
+        }
+        self.station.lock(rt).owed_by(process)
+    }
+
+    /// The figures of some moment. The only error is out of memory.
+    pub fn figures<R: Wait>(&self, rt: &R) -> Result<Figures, AllocError>
+        ensures { IfOk result (λ figures. (station : Journaled) × AreFiguresOf station figures) }
+    {
+        {
+            let guard = self.led_on(rt);
+            if let Some(follower) = &*guard {
+                return Ok(follower.figures());
+            }
+        }
+        let mut station = self.station.lock(rt);
+        let declared = match station.tell(rt) {
+            Ok(told) => told.len(),
+            Err(_) => return Err(AllocError),
+        };
+        Ok(Figures {
+            entries: station.count(),
+            declared,
+            is_sealed: station.is_sealed(),
+        })
     }
 
     /// The station, lent until the guard is dropped, for a look or another call that makes no entry: after a step through
@@ -239,6 +344,7 @@ impl<S: Sink, B: Listing, K: Keeper> SharedStation<S, B, K> {
             station,
             sleepers: _sleepers,
             watcher: _watcher,
+            follower: _follower,
         } = self;
         station.into_inner()
     }

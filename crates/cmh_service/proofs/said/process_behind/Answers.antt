@@ -1,5 +1,5 @@
 use Rattle.std.proofs.Common.{sym, ◌∙◌}
-use Rattle.cmh_service.proofs.Questions.{no_number}
+use Rattle.cmh_service.proofs.NoQuestions.{no_number}
 use Rattle.cmh_service.proofs.said.process_behind.Goals as goal
 
 pub returns-in_default : goal.returns-in_default
