@@ -1,4 +1,5 @@
-//! What becomes of the frames of a closed link: they are taken and dropped, so that they don't stay in memory.
+//! What becomes of the frames of a closed link: they are taken and dropped, so that no more of them stay in memory than its ring
+//! has room for.
 
 ghost use Rattle.std.specs.Prelude.{◌≡◌};
 
@@ -20,6 +21,7 @@ pub(crate) fn drain<R: Wait, S: Sink, B: Listing, K: Keeper>(
 ) -> LinkTap
     ensures { result.to ≡ tap.to }
 {
+    shared.station.wake_seldom(tap.to());
     for _ in rt.forever() {
         if shared.ending.load(Ordering::SeqCst) {
             break;

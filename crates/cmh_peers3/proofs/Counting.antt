@@ -1,11 +1,9 @@
 -- What entries got, piece by piece, as a receiver's end counts it.
-use Rattle.std.proofs.Common.{◌≡◌, ℕ, ◌+◌, ◌^◌, ◌<◌, ◌≤◌, ◌==◌, if◌then◌else◌, Bool, true, false, Some, List, [], ◌∷◌, ◌++◌, length, take, drop, get_or, refl, sym, ap, ◌∙◌, arith, append-nil, length-append, take-append-drop}
+use Rattle.std.proofs.Common.{◌≡◌, ℕ, ◌+◌, ◌^◌, ◌<◌, ◌≤◌, Bool, true, false, Some, List, [], ◌∷◌, ◌++◌, length, take, drop, get_or, refl, sym, ap, ◌∙◌, arith, append-nil, length-append, take-append-drop}
 use Rattle.std.proofs.lemmas.List.{length-take-le, take_more}
 use Rattle.cmh_runs.proofs.Journals.{receipts_of-append}
 use Rattle.cmh_model3.specs.Entries.{Entry}
 use Rattle.cmh_model3.specs.Journals.{message_from, receipts_of}
-use Rattle.cmh_model3.specs.declared.event.Event.{Event}
-use Rattle.cmh_model3.specs.declared.event.Event.TheVariants.{Ask, Reply, Withdraw, Got, Turn}
 use Rattle.cmh_model3.specs.declared.frame.Message.{Message}
 use Rattle.cmh_wire3.specs.Mark.{mark_on}
 use Rattle.cmh_wire3.specs.Wire.{spelled, spelling}
@@ -54,26 +52,6 @@ fewer_receipts from es i =
     let both = ap (λ (l : List Message). length l) (receipts_of-append message_from from (take i es) (drop i es)) in
     let lengths = length-append (receipts_of from (take i es)) (receipts_of from (drop i es)) in
     omega (arith, all, both, lengths)
-
-one_at_most : (from : ℕ) (event : Event) → length (message_from from event) ≤ 1
-one_at_most from (Ask asker targets) = omega arith
-one_at_most from (Reply holder asker) = omega arith
-one_at_most from (Got sender clock frame) = one (sender == from)
-  where
-    one : (b : Bool) → length {A = Message} (if b then record { clock = clock; frame = frame } ∷ [] else []) ≤ 1
-    one true = omega arith
-    one false = omega arith
-one_at_most from (Withdraw asker targets) = omega arith
-one_at_most from (Turn clock) = omega arith
-
--- entries got no more messages than there are entries
-pub few_receipts : (from : ℕ) (es : List Entry) → length (receipts_of from es) ≤ length es
-few_receipts from [] = omega arith
-few_receipts from (e ∷ es) =
-    let later = few_receipts from es in
-    let one = one_at_most from e.event in
-    let both = length-append (message_from from e.event) (receipts_of from es) in
-    omega (arith, later, one, both)
 
 -- ---- messages that are taken one by one
 

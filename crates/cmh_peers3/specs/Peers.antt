@@ -1,24 +1,12 @@
 -- The other sites of a world, as a site knows them by its journal.
 use Rattle.std.specs.Prelude.{◌≡◌, ◌≢◌, ℕ, ◌<◌, ◌==◌, Bool, true, false, List, [], ◌∷◌, ◌++◌, length, filter, not, nat_lt, slice_index_or, Option, None, Some}
 use Rattle.cmh_model3.specs.Entries.{Entry}
-use Rattle.cmh_model3.specs.Journals.{receipts_of, sendings_of}
+use Rattle.cmh_model3.specs.Journals.{sendings_of}
 use Rattle.cmh_model3.specs.declared.frame.Message.{Message}
 use Rattle.cmh_runs.specs.Runs.{IsBeginningOf}
-use Rattle.cmh_wire3.specs.Mark.{first_mark, mark_of}
-use Rattle.cmh_wire3.specs.Wire.{spelled}
-use Rattle.cmh_resume3.specs.Receiver.{Receiver, all_synced, closed_off, heard_at, opened, with_message}
-use Rattle.cmh_resume3.specs.Sender.{Sender, fresh_sender}
+use Rattle.cmh_resume3.specs.Receiver.{Receiver, all_synced, closed_off, heard_at, with_message}
+use Rattle.cmh_resume3.specs.Sender.{Sender}
 use Rattle.cmh_peers3.specs.declared.peer.Peer.{Peer}
-
--- ---- from a journal
-
--- a peer whose receipts are those of entries, and whose sender's end was given nothing
-abbrev pub met : List Entry → ℕ → Peer
-met entries s = record {
-  site = s;
-  out = fresh_sender 0 first_mark [];
-  into = opened (length (receipts_of s entries)) (mark_of (spelled (receipts_of s entries))) false;
-}
 
 -- the sites but this one
 abbrev pub others : ℕ → List ℕ → List ℕ

@@ -14,5 +14,5 @@ mod taken;
 pub use crate::given::queue_all;
 pub use crate::happening::{Action, Happening};
 pub use crate::links::{Unmet, links_law, links_of, peers_from};
-pub use crate::peer::{Peer, is_behind, others_of, peers_of, place_of};
+pub use crate::peer::{Peer, is_behind, others_of, place_of};
 pub use crate::places::{acknowledge_at, claim_at, end_at, happen_at, next_at, receive_at};

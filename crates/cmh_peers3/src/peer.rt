@@ -1,12 +1,11 @@
 //! Another site.
 
-ghost use Rattle.std.specs.Prelude.{◌≡◌, map, IfOk};
+ghost use Rattle.std.specs.Prelude.{◌≡◌, IfOk};
 ghost use Rattle.std.specs.List.{list_any};
 ghost use Rattle.cmh_peers3.specs.Peers as spec;
-ghost use Rattle.cmh_peers3.specs.Peers.{IsPlaceOf, met, others};
+ghost use Rattle.cmh_peers3.specs.Peers.{IsPlaceOf, others};
 
-use crate::links::{Unmet, peers_from};
-use cmh_model3::{Entry, Event, Message, SiteId};
+use cmh_model3::SiteId;
 use cmh_resume3::{ReceiverEnd, SenderEnd};
 use std::alloc::{AllocError, Global};
 
@@ -32,22 +31,6 @@ pub fn others_of(alloc: Global, sites: &[SiteId], site: SiteId) -> Result<Vec<Si
         }
     }
     Ok(them)
-}
-
-/// A peer for each of these sites. The entries are those of this site's journal, from its beginning: all that they got is
-/// counted, and of what they sent nothing was given to a sender's end yet.
-pub fn peers_of(
-    alloc: Global,
-    them: &[SiteId],
-    entries: &[Entry<Event, Message>],
-) -> Result<Vec<Peer>, AllocError>
-    ensures { IfOk result (λ peers. peers.items ≡ map (met entries.now) them.now) }
-{
-    match peers_from(alloc, them, &[], entries) {
-        Ok(peers) => Ok(peers),
-        Err(Unmet::Memory) => Err(AllocError),
-        Err(Unmet::Full) => unreachable!(),
-    }
 }
 
 /// Where a site stands among peers.

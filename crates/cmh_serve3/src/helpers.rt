@@ -1,5 +1,6 @@
 //! Threads that help to write answers.
 
+use crate::clients::may_write;
 use crate::guests::{Guest, MOST_CLIENTS};
 use std::alloc::{AllocError, Global};
 use std::sync::atomic::{AtomicBool, AtomicUsize, Ordering};
@@ -71,14 +72,6 @@ impl Table {
                 write_at(place);
             }
         }
-    }
-}
-
-/// Whether a client stands here that can be sent something.
-fn may_write(guest: &Option<Guest>) -> bool {
-    match guest {
-        Some(client) => client.may_write(),
-        None => false,
     }
 }
 

@@ -2,36 +2,27 @@
 
 use crate::arrivals::{Arrival, MOST_ARRIVALS};
 use crate::calls::Call;
+use crate::clients::Clients;
 use crate::console::Console;
 use crate::descriptor::Descriptor;
 use crate::doors::{Doors, is_of_port};
 use crate::guests::{Guest, MOST_CLIENTS};
 use crate::helpers::Helpers;
-use crate::places::{free_place, put_at, take_at, trim};
+use crate::links::Links;
 use crate::serve_fault::ServeFault;
-use crate::socket::Socket;
 use crate::voice::SiteVoice;
-use cmh_clients3::{MOST_TOGETHER, Site, Talker};
+use cmh_clients3::Site;
 use cmh_console::{Ahead, Input, Output};
 use cmh_disk3::JournalFolder;
-use cmh_talk3::Figures;
-use mio::net::{TcpListener, TcpStream};
 use mio::{Events, Interest, Poll, Token};
 use std::alloc::{AllocError, Global};
-use std::io::{BufRead, ErrorKind, Write};
+use std::io::{BufRead, Write};
 use std::net::Net;
 use std::sync::Wait;
 use std::time::{Clock, Duration};
 
 /// Standard error.
 const ERRORS: Token = Token(4);
-
-/// The first of the connections that are dialled, of those that others dialled, and of clients.
-const FIRST_CALL: usize = 16;
-
-const FIRST_ARRIVAL: usize = 128;
-
-const FIRST_GUEST: usize = 512;
 
 /// How many bytes are read at once.
 const SCRATCH: usize = 1 << 14;
@@ -54,31 +45,17 @@ const SHORT_WAIT: u64 = 20;
 
 const LONG_WAIT: u64 = 500;
 
-/// The place of standard input among clients, behind those that connect.
-const CONSOLE: usize = MOST_CLIENTS;
-
 /// A site with its connections.
 #[derive(Drop)]
 pub(crate) struct Hub<D: JournalFolder> {
-    alloc: Global,
     poll: Poll,
     events: Events,
-    links: TcpListener,
-    clients: Option<TcpListener>,
     site: Site<D>,
-    calls: Vec<Call>,
-    arrivals: Vec<Option<Arrival>>,
-    guests: Vec<Option<Guest>>,
-    /// Who helps to write to clients.
-    pub helpers: Helpers,
-    console: Option<Console>,
+    links: Links,
+    pub clients: Clients,
     /// Where notes go, if anybody wants them.
     errors: Option<Descriptor>,
     scratch: Vec<u8>,
-    /// The number of the next connection.
-    next_line: u64,
-    /// Whose turn is first in the next round.
-    first: usize,
     /// Connections may wait on a port that could not be taken yet.
     may_accept: bool,
 }
@@ -149,21 +126,13 @@ impl<D: JournalFolder> Hub<D> {
             helpers,
         } = spare;
         Hub {
-            alloc,
             poll,
             events,
-            links,
-            clients,
             site,
-            calls,
-            arrivals,
-            guests,
-            helpers,
-            console,
+            links: Links::new(alloc, links, calls, arrivals),
+            clients: Clients::new(alloc, clients, guests, console, helpers),
             errors,
             scratch,
-            next_line: 1,
-            first: 0,
             may_accept: true,
         }
     }
@@ -182,10 +151,10 @@ impl<D: JournalFolder> Hub<D> {
             let Ok(since) = rt.monotonic() else {
                 return Err(ServeFault::Listen);
             };
-            self.read_console(input)?;
+            self.clients.read_console(input, self.poll.registry())?;
             self.turn(rt, since)?;
             self.tell_notes(voice);
-            if self.write_console(out)? {
+            if self.clients.write_console(out, self.poll.registry())? {
                 return Ok(());
             }
         }
@@ -201,21 +170,21 @@ impl<D: JournalFolder> Hub<D> {
         Ok(())
     }
 
-    /// Reads lines of standard input.
-    fn read_console<I: BufRead + Ahead>(&mut self, input: &mut Input<I>) -> Result<(), ServeFault> {
-        match &mut self.console {
-            Some(console) => console.read(input, self.poll.registry()),
-            None => Ok(()),
+    /// Notes what each connection is ready for.
+    fn look_at_all(&mut self) {
+        for event in self.events.iter() {
+            let token = event.token();
+            let Token(number) = token;
+            if let Some(socket) = self.links.socket(number) {
+                socket.ready(event);
+            } else if let Some(socket) = self.clients.socket(number) {
+                socket.ready(event);
+            } else {
+                self.may_accept |= is_of_port(token);
+                self.clients.ready(token);
+                note_errors(&mut self.errors, token);
+            }
         }
-    }
-
-    /// Writes answers to standard output. Answers whether standard input has ended, and all is written.
-    fn write_console<W: Write>(&mut self, out: &mut Output<W>) -> Result<bool, ServeFault> {
-        let Some(console) = &mut self.console else {
-            return Ok(false);
-        };
-        console.write(out, self.poll.registry())?;
-        Ok(console.is_over())
     }
 
     /// Tells notes on standard error, as far as that does not wait.
@@ -251,182 +220,49 @@ impl<D: JournalFolder> Hub<D> {
 
     /// Whether there is more to do at once.
     fn is_busy(&self) -> bool {
-        self.has_busy_console() || self.has_busy_connections()
+        self.clients.is_busy() || self.links.is_busy() || self.has_notes()
     }
 
-    fn has_busy_console(&self) -> bool {
-        let has_lines = match &self.console {
-            Some(console) => console.is_busy(),
-            None => false,
-        };
-        let has_notes = match &self.errors {
+    /// Whether a note can be told at once.
+    fn has_notes(&self) -> bool {
+        match &self.errors {
             Some(errors) => errors.is_ready() && self.site.noting.has_note(),
             None => false,
-        };
-        has_lines || has_notes
-    }
-
-    fn has_busy_connections(&self) -> bool {
-        self.calls.iter().any(|call| call.is_busy())
-            || self.arrivals.iter().any(|arrival| match arrival {
-                Some(arrival) => arrival.is_busy(),
-                None => false,
-            })
-            || self.guests.iter().any(|guest| match guest {
-                Some(guest) => guest.is_busy(),
-                None => false,
-            })
+        }
     }
 
     /// Does what can be done at once.
     fn turn<R: Wait + Net>(&mut self, rt: &R, since: Duration) -> Result<(), ServeFault> {
         let now = millis(since);
-        if self.may_accept {
-            self.may_accept = self.accept_links(now) | self.accept_clients();
-        }
-        self.hear_sites(now);
+        self.accept(now);
+        self.links.hear(&mut self.site, &mut self.scratch, now);
         self.hear_clients()?;
         for _ in 0..MOST_ROUNDS {
-            if !self.round() {
+            if !self.clients.round(&mut self.site) {
                 break;
             }
         }
         self.tell_all(rt, now);
         self.site.look(since.as_secs());
-        self.tell_clients();
-        self.write_clients();
+        self.clients.tell(&mut self.site);
+        self.clients.write();
         Ok(())
     }
 
-    /// Notes what each connection is ready for.
-    fn look_at_all(&mut self) {
-        for event in self.events.iter() {
-            let Token(number) = event.token();
-            if number < FIRST_CALL {
-                self.may_accept |= is_of_port(event.token());
-                if let Some(console) = &mut self.console {
-                    console.ready(event.token());
-                }
-                if let Some(errors) = &mut self.errors {
-                    if event.token() == ERRORS {
-                        errors.ready();
-                    }
-                }
-            } else if let Some(socket) = socket_at(
-                number,
-                &mut self.calls,
-                &mut self.arrivals,
-                &mut self.guests,
-            ) {
-                socket.ready(event);
-            }
-        }
-    }
-
-    /// Takes the connections of other sites that wait. Answers whether some may wait still.
-    fn accept_links(&mut self, now: u64) -> bool {
-        for _ in 0..MOST_ARRIVALS {
-            match self.links.accept() {
-                Ok((stream, _)) => self.let_site_in(stream, now),
-                Err(error) => return may_accept_more(error.kind()),
-            }
-        }
-        true
-    }
-
-    fn let_site_in(&mut self, stream: TcpStream, now: u64) {
-        let Some(place) = self.place_for_site(now) else {
-            return;
-        };
-        if let Some(old) = take_at(&mut self.arrivals, place) {
-            old.end(&mut self.site);
-        }
-        let token = Token(FIRST_ARRIVAL.saturating_add(place));
-        if let Some(socket) = registered(&self.poll, stream, token) {
-            let line = self.next_line;
-            self.next_line = self.next_line.saturating_add(1);
-            let arrival = Arrival::new(self.alloc, line, socket, now);
-            put_at(&mut self.arrivals, place, arrival);
-        }
-    }
-
-    /// A free place for a connection of another site, or that of one that has told no hello for long.
-    fn place_for_site(&mut self, now: u64) -> Option<usize> {
-        match free_place(&mut self.arrivals, MOST_ARRIVALS) {
-            Some(place) => Some(place),
-            None => self.arrivals.iter().position(|arrival| match arrival {
-                Some(arrival) => arrival.makes_room(now),
-                None => true,
-            }),
-        }
-    }
-
-    fn accept_clients(&mut self) -> bool {
-        for _ in 0..MOST_CLIENTS {
-            let Some(clients) = &self.clients else {
-                return false;
-            };
-            match clients.accept() {
-                Ok((stream, _)) => self.let_client_in(stream),
-                Err(error) => return may_accept_more(error.kind()),
-            }
-        }
-        true
-    }
-
-    fn let_client_in(&mut self, stream: TcpStream) {
-        let Some(place) = free_place(&mut self.guests, MOST_CLIENTS) else {
-            return;
-        };
-        let token = Token(FIRST_GUEST.saturating_add(place));
-        if let Some(socket) = registered(&self.poll, stream, token) {
-            put_at(&mut self.guests, place, Guest::new(self.alloc, socket));
-        }
-    }
-
-    /// Takes what other sites sent.
-    fn hear_sites(&mut self, now: u64) {
-        for place in 0..self.arrivals.len() {
-            if let Some(arrival) = take_at(&mut self.arrivals, place) {
-                self.hear_site(place, arrival, now);
-            }
-        }
-        trim(&mut self.arrivals);
-    }
-
-    /// Takes what came on a connection, which has this place.
-    fn hear_site(&mut self, place: usize, arrival: Arrival, now: u64) {
-        let mut arrival = arrival;
-        let was = arrival.place();
-        let goes_on = arrival.go_on(&mut self.site, &mut self.scratch, now);
-        if was.is_none() {
-            self.is_called(arrival.place());
-        }
-        if goes_on {
-            if let Some(place) = arrival.goes_on_at() {
-                self.site.meeting.is_heard(place);
-            }
-            put_at(&mut self.arrivals, place, arrival);
-        } else {
-            arrival.end(&mut self.site);
-        }
-    }
-
-    /// The site at this place said hello: it can be dialled.
-    fn is_called(&mut self, place: Option<usize>) {
-        let Some(place) = place else {
-            return;
-        };
-        if let Some(call) = self.calls.get_mut(place) {
-            call.is_called();
+    /// Takes the connections that may wait on the ports.
+    fn accept(&mut self, now: u64) {
+        if self.may_accept {
+            let registry = self.poll.registry();
+            self.may_accept = self.links.accept(registry, &mut self.site, now)
+                | self.clients.accept(registry);
         }
     }
 
     /// Reads what clients sent, and what more of them send meanwhile.
     fn hear_clients(&mut self) -> Result<(), ServeFault> {
         for _ in 0..MOST_LOOKS {
-            self.read_clients();
-            if !self.may_be_joined() {
+            self.clients.read(&mut self.scratch);
+            if !self.clients.may_be_joined() {
                 return Ok(());
             }
             self.wait(Duration::ZERO)?;
@@ -434,177 +270,34 @@ impl<D: JournalFolder> Hub<D> {
                 return Ok(());
             }
         }
-        self.read_clients();
+        self.clients.read(&mut self.scratch);
         Ok(())
-    }
-
-    /// Whether some clients have said something, and others may have meanwhile.
-    fn may_be_joined(&self) -> bool {
-        let speakers = self.speakers();
-        speakers > 0 && speakers < self.clients()
-    }
-
-    fn read_clients(&mut self) {
-        for guest in self.guests.iter_mut() {
-            if let Some(guest) = guest {
-                guest.read(&mut self.scratch);
-            }
-        }
-    }
-
-    /// Takes events of clients as far as one append takes them, and answers them. Answers whether there were any.
-    fn round(&mut self) -> bool {
-        let speakers = self.speakers();
-        if speakers == 0 {
-            return false;
-        }
-        let most = MOST_TOGETHER.div_ceil(speakers);
-        let figures = self.figures();
-        let count = self.guests.len().saturating_add(1);
-        self.site.batch.clear();
-        let first = self.first;
-        self.first = first.saturating_add(1) % count;
-        for step in 0..count {
-            let at = first.saturating_add(step) % count;
-            if self.site.batch.is_full() {
-                self.first = at;
-                break;
-            }
-            let place = if at < self.guests.len() { at } else { CONSOLE };
-            if let Some(talker) = talker_at(&mut self.guests, &mut self.console, place) {
-                talker.take_lines(place, most, &mut self.site, &figures);
-            }
-        }
-        if self.site.batch.is_empty() {
-            return false;
-        }
-        self.site.make_room();
-        self.site.step();
-        self.answer_clients();
-        true
-    }
-
-    /// How many clients have said something that was not taken yet.
-    fn speakers(&self) -> usize {
-        let speaking = self.guests.iter().filter(|guest| match guest {
-            Some(guest) => guest.talker.has_lines(),
-            None => false,
-        });
-        let console = match &self.console {
-            Some(console) => usize::from(console.talker.has_lines()),
-            None => 0,
-        };
-        speaking.count().saturating_add(console)
-    }
-
-    fn figures(&self) -> Figures {
-        Figures {
-            clients: self.clients(),
-        }
-    }
-
-    /// How many clients there are.
-    fn clients(&self) -> usize {
-        let guests = self.guests.iter().filter(|guest| guest.is_some());
-        guests
-            .count()
-            .saturating_add(usize::from(self.console.is_some()))
-    }
-
-    /// Says the replies to the clients that wait for them. A client for which there is none is closed.
-    fn answer_clients(&mut self) {
-        let site = &self.site;
-        for (number, place) in site.batch.places().iter().enumerate() {
-            if let Some(talker) = talker_at(&mut self.guests, &mut self.console, *place) {
-                match site.replies.get(number) {
-                    Some(reply) => talker.answer(*reply),
-                    None => talker.give_up(),
-                }
-            }
-        }
-    }
-
-    fn call_sites<R: Net>(&mut self, net: &R, now: u64) {
-        for call in self.calls.iter_mut() {
-            call.go_on(
-                net,
-                self.poll.registry(),
-                &mut self.site,
-                &mut self.scratch,
-                now,
-            );
-        }
-    }
-
-    /// Tells those who watch what happened.
-    fn tell_clients(&mut self) {
-        if self.site.teller.news().is_empty() {
-            return;
-        }
-        let mut watchers = false;
-        let guests = 0..self.guests.len();
-        for place in guests.chain(CONSOLE..=CONSOLE) {
-            if let Some(talker) = talker_at(&mut self.guests, &mut self.console, place) {
-                watchers |= talker.watches();
-                talker.tell(self.site.teller.news());
-            }
-        }
-        self.site.teller.told(watchers);
     }
 
     /// Writes what clients and other sites are to be sent.
     fn tell_all<R: Wait + Net>(&mut self, rt: &R, now: u64) {
-        let answers = self.answers();
+        let answers = self.clients.answers();
         if answers >= MANY_ANSWERS {
-            self.helpers.take(rt, &mut self.guests);
+            self.clients.lend(rt);
         } else {
-            self.write_clients();
+            self.clients.write();
         }
         if answers < SITES_FIRST {
-            self.helpers.give_back(rt, &mut self.guests);
+            self.clients.take_back(rt);
         }
-        self.call_sites(rt, now);
-        self.helpers.give_back(rt, &mut self.guests);
-    }
-
-    /// How many clients can be sent something.
-    fn answers(&self) -> usize {
-        let answered = self.guests.iter().filter(|guest| match guest {
-            Some(guest) => guest.may_write(),
-            None => false,
-        });
-        answered.count()
-    }
-
-    /// Writes what clients are to be sent, and closes those that are over.
-    fn write_clients(&mut self) {
-        for guest in self.guests.iter_mut() {
-            if let Some(client) = guest {
-                client.write();
-                if client.is_over() {
-                    *guest = None;
-                }
-            }
-        }
-        trim(&mut self.guests);
+        let registry = self.poll.registry();
+        self.links
+            .call(rt, registry, &mut self.site, &mut self.scratch, now);
+        self.clients.take_back(rt);
     }
 }
 
-/// The client at a place.
-fn talker_at<'a>(
-    guests: &'a mut Vec<Option<Guest>>,
-    console: &'a mut Option<Console>,
-    place: usize,
-) -> Option<&'a mut Talker> {
-    if place == CONSOLE {
-        return match console {
-            Some(console) => Some(&mut console.talker),
-            None => None,
-        };
-    }
-    match guests.get_mut(place) {
-        Some(Some(guest)) => Some(&mut guest.talker),
-        _ => None,
+/// The system told that a descriptor is ready, perhaps standard error.
+fn note_errors(errors: &mut Option<Descriptor>, token: Token) {
+    if token == ERRORS {
+        if let Some(errors) = errors {
+            errors.ready();
+        }
     }
 }
 
@@ -618,48 +311,4 @@ fn is_settled(state: cmh_resume3::State) -> bool {
 
 fn millis(since: Duration) -> u64 {
     u64::try_from(since.as_millis()).unwrap_or(u64::MAX)
-}
-
-/// Whether more connections may wait on a port after this error.
-fn may_accept_more(error: ErrorKind) -> bool {
-    matches!(error, ErrorKind::Interrupted | ErrorKind::ConnectionAborted)
-}
-
-/// A connection that is waited for.
-fn registered(poll: &Poll, stream: TcpStream, token: Token) -> Option<Socket> {
-    let mut stream = stream;
-    let both = Interest::READABLE | Interest::WRITABLE;
-    if stream.set_nodelay(true).is_err()
-        || poll.registry().register(&mut stream, token, both).is_err()
-    {
-        return None;
-    }
-    Some(Socket::new(stream))
-}
-
-/// The socket that an event of this number is of.
-fn socket_at<'a>(
-    number: usize,
-    calls: &'a mut Vec<Call>,
-    arrivals: &'a mut Vec<Option<Arrival>>,
-    guests: &'a mut Vec<Option<Guest>>,
-) -> Option<&'a mut Socket> {
-    if number < FIRST_ARRIVAL {
-        return calls.get_mut(number.checked_sub(FIRST_CALL)?)?.socket();
-    }
-    if number < FIRST_GUEST {
-        return match arrivals.get_mut(number - FIRST_ARRIVAL) {
-            Some(Some(arrival)) => Some(arrival.socket()),
-            _ => None,
-        };
-    }
-    match guests.get_mut(number - FIRST_GUEST) {
-        Some(Some(guest)) => Some(guest.socket()),
-        _ => None,
-    }
-}
-
-/// The token of the connection that is dialled to the peer at a place.
-pub(crate) fn call_token(place: usize) -> Token {
-    Token(FIRST_CALL.saturating_add(place))
 }

@@ -4,12 +4,14 @@
 
 mod arrivals;
 mod calls;
+mod clients;
 mod console;
 mod descriptor;
 mod doors;
 mod guests;
 mod helpers;
 mod hub;
+mod links;
 mod opening;
 mod places;
 mod ports;

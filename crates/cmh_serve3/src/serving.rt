@@ -5,7 +5,8 @@ ghost use Rattle.cmh_console.specs.Status.{IsStatus};
 
 use crate::calls::Call;
 use crate::doors::Doors;
-use crate::hub::{Hub, Parts, Spare, call_token};
+use crate::hub::{Hub, Parts, Spare};
+use crate::links::call_token;
 use crate::opening::open;
 use crate::ports::Ports;
 use crate::serve_fault::ServeFault;
@@ -146,10 +147,10 @@ where
     let mut hub = open_hub(rt, alloc, start, port, voice.is_some())?;
     let Lines { input, out } = lines;
     if port.is_some() {
-        hub.helpers.start(rt);
+        hub.clients.helpers.start(rt);
     }
     let ended = run(rt, &mut hub, input, out, voice);
-    hub.helpers.end(rt);
+    hub.clients.helpers.end(rt);
     ended
 }
 

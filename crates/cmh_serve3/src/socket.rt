@@ -4,6 +4,7 @@ ghost use Rattle.std.specs.Prelude.{◌≤◌, length};
 
 use mio::event::Event;
 use mio::net::TcpStream;
+use mio::{Interest, Registry, Token};
 use std::io::{ErrorKind, Read, Write};
 
 /// A socket, and what it is ready for as far as is known.
@@ -128,4 +129,19 @@ impl Socket {
     pub fn takes_more(&self) -> bool {
         self.can_write && !self.is_broken
     }
+}
+
+/// A connection that is waited for.
+pub(crate) fn registered(registry: &Registry, stream: TcpStream, token: Token) -> Option<Socket> {
+    let mut stream = stream;
+    let both = Interest::READABLE | Interest::WRITABLE;
+    if stream.set_nodelay(true).is_err() || registry.register(&mut stream, token, both).is_err() {
+        return None;
+    }
+    Some(Socket::new(stream))
+}
+
+/// Whether more connections may wait on a port after this error.
+pub(crate) fn may_accept_more(error: ErrorKind) -> bool {
+    matches!(error, ErrorKind::Interrupted | ErrorKind::ConnectionAborted)
 }

@@ -21,7 +21,7 @@ use cmh_journal::{Journal, Sink};
 use cmh_shared::Listing;
 use crossbeam_utils::sync::{Parker, Unparker};
 use std::alloc::{AllocError, Global};
-use std::sync::atomic::{AtomicUsize, Ordering};
+use std::sync::atomic::{AtomicBool, AtomicUsize, Ordering};
 use std::sync::{Arc, Mutex, MutexGuard, OnceLock, Wait};
 
 /// A station under a lock, and what wakes the threads of its taps.
@@ -42,6 +42,15 @@ struct Sleeper {
     to: SiteId,
     unparker: Unparker,
     waiting: Arc<AtomicUsize>,
+    /// It takes frames only to drop them.
+    is_dropping: AtomicBool,
+}
+
+impl Sleeper {
+    /// Whether its thread has something to do now that frames were sent on its link.
+    fn has_work(&self) -> bool {
+        !self.is_dropping.load(Ordering::Relaxed) || self.waiting.load(Ordering::Relaxed) > 0
+    }
 }
 
 /// Who has something to do after steps: the threads of links that frames were sent on, and the one that tells
@@ -318,7 +327,7 @@ impl<S: Sink, B: Listing, K: Keeper> SharedStation<S, B, K> {
     /// Wakes those threads. It locks nothing, waits for nobody and takes no memory.
     fn wake_for(&self, news: News) {
         for (place, sleeper) in self.sleepers.iter().enumerate() {
-            if news.links >> (place % 64) & 1 == 1 {
+            if news.links >> (place % 64) & 1 == 1 && sleeper.has_work() {
                 sleeper.unparker.unpark();
             }
         }
@@ -326,6 +335,14 @@ impl<S: Sink, B: Listing, K: Keeper> SharedStation<S, B, K> {
             if let Some(watcher) = self.watcher.get() {
                 watcher.unpark();
             }
+        }
+    }
+
+    /// The thread of the link to a site takes its frames only to drop them from now on. So a step wakes it only where frames
+    /// wait for room in the ring, and most steps wake nobody for it.
+    pub fn wake_seldom(&self, to: SiteId) {
+        if let Some(sleeper) = self.sleepers.iter().find(|sleeper| sleeper.to == to) {
+            sleeper.is_dropping.store(true, Ordering::SeqCst);
         }
     }
 
@@ -362,6 +379,7 @@ fn make_parkers(alloc: Global, taps: &[LinkTap]) -> Result<(Vec<Parker>, Vec<Sle
             to: tap.to(),
             unparker: parker.unparker().clone()?,
             waiting: tap.waiting()?,
+            is_dropping: AtomicBool::new(false),
         })?;
         parkers.push(parker)?;
     }
