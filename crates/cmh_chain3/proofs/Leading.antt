@@ -1,10 +1,11 @@
 -- Epochs that go on to one another are one run.
-use Rattle.std.proofs.Common.{◌≡◌, ℕ, ◌+◌, ◌<◌, ◌≤◌, ◌||◌, true, suc, Option, Some, List, [], ◌∷◌, ◌++◌, length, map, take, drop, get_or, if◌then◌else◌, inl, inr, refl, sym, ap, ◌∙◌, subst, append-nil, arith}
-use Rattle.std.specs.Prelude.{IfSome}
+use Rattle.std.proofs.Common.{◌≡◌, ℕ, ◌+◌, ◌<◌, ◌||◌, true, suc, Option, None, Some, List, [], ◌∷◌, ◌++◌, length, map, take, get_or, if◌then◌else◌, inl, inr, refl, sym, ap, ◌∙◌, subst, append-nil, arith}
+use Rattle.std.specs.Prelude.{IfNone, IfSome, slice_get}
 use Rattle.std.specs.List.{All}
 use Rattle.std.proofs.lemmas.Bool.{cases_eq, eq-eqb, ne_eqb, true≢false}
 use Rattle.std.proofs.lemmas.Slice.Zip.{all_zipped_more}
-use Rattle.std.proofs.lemmas.List.{drop_all, drop_more, take_more}
+use Rattle.std.proofs.lemmas.List.{append_assoc, take_more}
+use Rattle.std.proofs.lemmas.Option.{slice_get_read}
 use Rattle.cmh_controller3.specs.Controller.{Controller}
 use Rattle.cmh_epochs3.specs.Chains.{joined}
 use Rattle.cmh_epochs3.specs.Laws.{Chain, ChainsAreRuns, Epoch, World}
@@ -22,15 +23,19 @@ use Rattle.cmh_segment3.proofs.WholeEntries.{steps_come_back}
 use Rattle.cmh_audit3.specs.Journals.{journal_of}
 use Rattle.cmh_audit3.specs.Set.{AreOfWorld, has_site, sites_in}
 use Rattle.cmh_audit3.proofs.Sets.{world_parts}
-use Rattle.cmh_bases3.specs.Bases.{IsRestored}
+use Rattle.cmh_bases3.specs.Bases.{IsBaseOf, IsRestored}
 use Rattle.cmh_parts3.specs.Set.{AreOfEpoch, IsEpochSet}
 use Rattle.cmh_parts3.specs.Turns.{Follow, TurnsLeadOn}
 use Rattle.cmh_parts3.specs.Worlds.{AreJournalsFrom, StandAtBases, end_of, state_at, world_of}
-use Rattle.cmh_chain3.specs.Chains.{ComeFromOneRun, epoch_of, steps_in, turns_to}
+use Rattle.cmh_chain3.specs.Chains.{AreOneRun, ComeFromOneRun, epoch_of, steps_in, turns_to}
+use Rattle.cmh_chain3.specs.Findings.{CanBegin}
 use Rattle.cmh_chain3.specs.Follows.{BeginWithin, IsEndOf}
 use Rattle.cmh_chain3.specs.Inner.Leading.{AreEpoch, AreRestored, GoesOn, LeadOn}
 
 -- ---- values
+
+pub none_of : {X : Type 0} (P : Type 0) (found : Option X) → found ≡ None → IfNone found P → P
+none_of P found is holds = subst (λ o. IfNone o P) is holds
 
 pub some_of : {X : Type 0} (P : X → Type 0) (found : Option X) (x : X) → found ≡ Some x → IfSome found P → P x
 some_of P found x is holds = subst (λ o. IfSome o P) is holds
@@ -42,12 +47,15 @@ first_all P xs x more e all = subst (All P) e all 0 x (omega arith)
 pub later_all : {X : Type 0} (P : X → Type 0) (xs : List X) (x : X) (more : List X) (i : ℕ) (y : X) → xs ≡ x ∷ more → i < length more → y ≡ get_or more i y → All P xs → P y
 later_all P xs x more i y e l is all = subst P (sym is) (subst (All P) e all (suc i) y (omega (arith, l)))
 
--- what is left after the last one
-pub none_left : (t : Topology) (gs : List Segment) (more : List (List Segment)) (i : ℕ) → length more ≤ i → AreEpoch t gs → LeadOn t gs (drop i more)
-none_left t gs more i past epoch = subst (LeadOn t gs) (sym (drop_all i more past)) epoch
+-- what holds of the first one, as it was taken, and those behind it
+pub in_all : {X : Type 0} (P : List X → Type 0) (xs : List X) (first taken : X) (more : List X) → xs ≡ first ∷ more → taken ≡ first → P (taken ∷ more) → P xs
+in_all P xs first taken more e is h = subst P (sym e) (subst (λ x. P (x ∷ more)) is h)
 
-pub one_left : (t : Topology) (gs next : List Segment) (more : List (List Segment)) (i : ℕ) → i < length more → next ≡ get_or more i next → GoesOn t gs next → LeadOn t next (drop (i + 1) more) → LeadOn t gs (drop i more)
-one_left t gs next more i l is on rest = subst (LeadOn t gs) (sym (drop_more more i next l ∙ ap (λ x. x ∷ drop (i + 1) more) (sym is))) (on, rest)
+-- the next one stands behind the first
+pub next_there : (first next : List Segment) (more : List (List Segment)) (i : ℕ) → i < length more → next ≡ get_or more i next → slice_get (first ∷ more) (i + 1) ≡ Some next
+next_there first next more i l is =
+    let e : suc i ≡ i + 1 = omega arith in
+    subst (λ k. slice_get (first ∷ more) k ≡ Some next) e (slice_get_read (first ∷ more) (length (first ∷ more)) (suc i) next refl (omega (arith, l)) is)
 
 -- ---- one run
 
@@ -87,6 +95,26 @@ one_run t gs more law leads =
     let all = parts_of t gs more leads in
     record { events = joined all.parts; run = (law (site_of t) (world_of t gs) all.last all.parts all.chain).0; comes = all.comes }
 
+-- ---- what leads from the first epoch to those behind it
+
+-- whatever the epoch goes on to, the first one goes on to with the epochs before that
+abbrev pub LeadsOn : Topology → List Segment → List (List Segment) → List Segment → Type 0
+LeadsOn t first before gs = (rest : List (List Segment)) → LeadOn t gs rest → LeadOn t first (before ++ rest)
+
+pub ends_here : (t : Topology) (first : List Segment) (before : List (List Segment)) (gs : List Segment) → LeadsOn t first before gs → AreEpoch t gs → LeadOn t first before
+ends_here t first before gs leads epoch = subst (LeadOn t first) (append-nil before) (leads [] epoch)
+
+pub one_further : (t : Topology) (first gs next : List Segment) (more : List (List Segment)) (i : ℕ) → i < length more → next ≡ get_or more i next → GoesOn t gs next
+    → LeadsOn t first (take i more) gs → LeadsOn t first (take (i + 1) more) next
+one_further t first gs next more i l is on leads rest later =
+    let here : take (i + 1) more ≡ take i more ++ next ∷ [] = take_more more i next l ∙ ap (λ y. take i more ++ y ∷ []) (sym is) in
+    subst (LeadOn t first) (sym (ap (λ l. l ++ rest) here ∙ append_assoc (take i more) (next ∷ []) rest)) (leads (next ∷ rest) (on, later))
+
+pub runs_before : (t : Topology) (first : List Segment) (more : List (List Segment)) (i : ℕ) → ComeFromOneRun t first (take i more) → AreOneRun t (take (i + 1) (first ∷ more))
+runs_before t first more i run =
+    let e : suc i ≡ i + 1 = omega arith in
+    subst (λ k. AreOneRun t (take k (first ∷ more))) e run
+
 -- ---- one epoch goes on to the next
 
 pub goes_on : (t : Topology) (gs next : List Segment) (cs : List Controller) (queues : Queues Message) → TurnsLeadOn t → IsEndOf t gs cs queues
@@ -119,6 +147,10 @@ restored_more t gs i g cs c l is all new =
     let next : take (i + 1) gs ≡ take i gs ++ g ∷ [] = take_more gs i g l ∙ ap (λ y. take i gs ++ y ∷ []) (sym is) in
     subst (λ xs. AreRestored t xs (cs ++ c ∷ [])) (sym next)
     (all_zipped_more (λ (x : Segment) (k : Controller). IsRestored t x.header.site x.header.epoch x.base k) (take i gs) cs g c all new)
+
+-- a site that can't begin with its base
+pub cannot_begin : (t : Topology) (gs : List Segment) (i : ℕ) (g : Segment) → i < length gs → g ≡ get_or gs i g → (IsBaseOf t g.header.site g.header.epoch g.base → ⊥) → CanBegin t gs → ⊥
+cannot_begin t gs i g l is refused all = refused (subst (λ (x : Segment). IsBaseOf t x.header.site x.header.epoch x.base) (sym is) (all i g l))
 
 pub stand_at : (t : Topology) (gs : List Segment) (cs : List Controller) → AreRestored t gs cs → StandAtBases t gs cs
 stand_at t [] [] all = tt

@@ -10,8 +10,6 @@ use Rattle.cmh_segment3.specs.Base.{IsBase}
 use Rattle.cmh_segment3.specs.Entries.{step_of}
 use Rattle.cmh_segment3.specs.declared.segment.Segment.{Segment}
 use Rattle.cmh_audit3.specs.Journals.{journal_of}
-use Rattle.cmh_chain3.specs.declared.chain.ChainVerdict.{ChainVerdict}
-use Rattle.cmh_chain3.specs.declared.chain.ChainVerdict.TheVariants.{Accepted, Refused, Apart}
 use Rattle.cmh_parts3.specs.Set.{IsEpochSet}
 use Rattle.cmh_parts3.specs.Turns.{turns_of}
 use Rattle.cmh_parts3.specs.Worlds.{world_of}
@@ -45,9 +43,3 @@ pub record ComeFromOneRun (t : Topology) (first : List Segment) (more : List (Li
 abbrev pub AreOneRun : Topology → List (List Segment) → Type 0
 AreOneRun t [] = ⊤
 AreOneRun t (first ∷ more) = ComeFromOneRun t first more
-
--- what is said where all epochs are accepted
-abbrev pub IfAccepted : ChainVerdict → Type 0 → Type 0
-IfAccepted Accepted Holds = Holds
-IfAccepted (Refused place) Holds = ⊤
-IfAccepted (Apart place) Holds = ⊤

@@ -1,4 +1,5 @@
 pub mod Says
 pub mod Follows
 pub mod Chains
+pub mod Findings
 pub mod Inner

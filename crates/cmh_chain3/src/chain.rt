@@ -1,10 +1,11 @@
 //! The audit of epochs, one after the other.
 
-ghost use Rattle.std.specs.Prelude.{◌≡◌, IfOk, IfSome};
+ghost use Rattle.std.specs.Prelude.{◌≡◌, IfNone, IfOk, IfSome};
 ghost use Rattle.std.specs.List.{All};
 ghost use Rattle.cmh_segment3.specs.Base.{IsBase};
 ghost use Rattle.cmh_chain3.specs.Chains as spec;
-ghost use Rattle.cmh_chain3.specs.Chains.{AreOneRun, IfAccepted, IsReadEpoch};
+ghost use Rattle.cmh_chain3.specs.Chains.{IsReadEpoch};
+ghost use Rattle.cmh_chain3.specs.Findings.{CanBegin, Finds, IsEpochFrom};
 ghost use Rattle.cmh_chain3.specs.Follows.{IsEndOf};
 ghost use Rattle.cmh_chain3.specs.Inner.Leading.{AreRestored};
 
@@ -35,8 +36,6 @@ pub enum ChainVerdict {
 
 /// Audits epochs in their order: whether each is one from its bases, and the bases of each but the first say the end of the
 /// one before it. The only error is out of memory, after which nothing is said of them.
-///
-/// The contract says what it means that all are accepted, and nothing of a refusal.
 pub fn audit_chain(
     alloc: Global,
     topology: &Topology,
@@ -44,8 +43,9 @@ pub fn audit_chain(
 ) -> Result<ChainVerdict, AuditMemory>
     requires { All (IsReadEpoch topology.now) epochs.now }
 
-    // Where all are accepted, all their entries and the turns between them come from one run from the first bases.
-    ensures { IfOk result (λ v. IfAccepted v (AreOneRun topology.now epochs.now)) }
+    // Where all are accepted, all their entries and the turns between them come from one run from the first bases. Else those
+    // before the place that is named do, and the epoch there is none from its bases, or these do not say where that run ends.
+    ensures { IfOk result (Finds topology.now epochs.now) }
 {
     chain_law();
     turn_law(topology);
@@ -106,8 +106,9 @@ fn end_of(
     segments: &[Segment],
 ) -> Result<Option<End>, AuditMemory>
     requires { IsReadEpoch topology.now segments.now }
-    ensures { IfOk result (λ found. IfSome found (λ end.
+    ensures ends { IfOk result (λ found. IfSome found (λ end.
         IsEndOf topology.now segments.now end.controllers.items end.under_way)) }
+    ensures none { IfOk result (λ found. IfNone found (¬ IsEpochFrom topology.now segments.now)) }
 {
     let Some(controllers) = controllers_of(alloc, topology, segments)? else {
         return Ok(None);
@@ -121,7 +122,7 @@ fn end_of(
             controllers,
             under_way,
         })),
-        _ => Ok(None),
+        EpochVerdict::Disagreed(_) | EpochVerdict::Refused(_) => Ok(None),
     }
 }
 
@@ -132,8 +133,9 @@ pub(crate) fn controllers_of(
     segments: &[Segment],
 ) -> Result<Option<Vec<Controller>>, AuditMemory>
     requires { All (λ g. IsBase g.base) segments.now }
-    ensures { IfOk result (λ found. IfSome found (λ controllers.
+    ensures restored { IfOk result (λ found. IfSome found (λ controllers.
         AreRestored topology.now segments.now controllers.items)) }
+    ensures none { IfOk result (λ found. IfNone found (¬ CanBegin topology.now segments.now)) }
 {
     let mut controllers = Vec::new(alloc);
     for segment in segments {

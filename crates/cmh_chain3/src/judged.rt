@@ -1,7 +1,8 @@
 //! The verdict on one epoch from its bases as they were read.
 
-ghost use Rattle.std.specs.Prelude.{IfOk, IfSome};
+ghost use Rattle.std.specs.Prelude.{IfNone, IfOk, IfSome};
 ghost use Rattle.cmh_chain3.specs.Chains.{IsReadEpoch};
+ghost use Rattle.cmh_chain3.specs.Findings.{CanBegin};
 ghost use Rattle.cmh_parts3.specs.Verdicts.{Ends, Refuses};
 
 use crate::chain::controllers_of;
@@ -21,6 +22,7 @@ pub fn verdict_on(
     requires { IsReadEpoch topology.now segments.now }
     ensures ends { IfOk result (λ found. IfSome found (Ends topology.now segments.now)) }
     ensures refused { IfOk result (λ found. IfSome found (Refuses topology.now segments.now)) }
+    ensures none { IfOk result (λ found. IfNone found (¬ CanBegin topology.now segments.now)) }
 {
     match controllers_of(alloc, topology, segments)? {
         Some(controllers) => Ok(Some(audit_epoch(alloc, topology, segments, controllers)?)),

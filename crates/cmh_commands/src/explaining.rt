@@ -125,25 +125,48 @@ pub fn explanation<R: AllocGlobal + Files>(
     };
     let mut fault = Words::new(line);
     let _ = fault.next_word();
-    match subject_of(fault.next_word().unwrap_or(b"")) {
-        Subject::File => explain_file(rt, words, &mut fault, &mut text)?,
-        Subject::Topology => explain_topology(rt, words, &mut text)?,
-        Subject::Journal => explain_journal(words, &mut fault, &mut text)?,
-        Subject::Set => explain_set(rt, words, &mut fault, &mut text)?,
-        Subject::Site => explain_site(words, &mut text)?,
-        Subject::Listen => explain_ports(rt, words, &mut text)?,
-        Subject::Input => write!(text, "standard input can't be read")?,
-        Subject::Output => write!(text, "standard output can't be written, or nobody reads it")?,
-        Subject::Random => write!(text, "/dev/urandom gives no random bytes")?,
-        Subject::Page => write!(text, "a page tells at most 20,000 events")?,
-        Subject::Picture => write!(
-            text,
-            "a picture of a run has at most 20,000 lines, entries and frames; --from and --to choose columns"
-        )?,
-        Subject::Descriptors => explain_descriptors(&mut fault, &mut text)?,
-        Subject::Memory => write!(text, "memory was refused")?,
+    let subject = subject_of(fault.next_word().unwrap_or(b""));
+    if let Some(cause) = cause_by_itself(subject) {
+        text.push_str(cause)?;
+        return Ok(text);
     }
+    explain(rt, words, subject, &mut fault, &mut text)?;
     Ok(text)
+}
+
+/// What explains a line for whatever command it ended.
+const fn cause_by_itself(subject: Subject) -> Option<&'static str> {
+    match subject {
+        Subject::Input => Some("standard input can't be read"),
+        Subject::Output => Some("standard output can't be written, or nobody reads it"),
+        Subject::Random => Some("/dev/urandom gives no random bytes"),
+        Subject::Page => Some("a page tells at most 20,000 events"),
+        Subject::Picture => Some(
+            "a picture of a run has at most 20,000 lines, entries and frames; --from and --to choose columns",
+        ),
+        Subject::Memory => Some("memory was refused"),
+        _ => None,
+    }
+}
+
+/// Explains a line by what the command was given.
+fn explain<R: AllocGlobal + Files>(
+    rt: &R,
+    words: &ArgMatches<'_>,
+    subject: Subject,
+    fault: &mut Words<'_>,
+    text: &mut String,
+) -> Result<(), AllocError> {
+    match subject {
+        Subject::File => explain_file(rt, words, fault, text),
+        Subject::Topology => explain_topology(rt, words, text),
+        Subject::Journal => explain_journal(words, fault, text),
+        Subject::Set => explain_set(rt, words, fault, text),
+        Subject::Site => explain_site(words, text),
+        Subject::Listen => explain_ports(rt, words, text),
+        Subject::Descriptors => explain_descriptors(fault, text),
+        _ => Ok(()),
+    }
 }
 
 /// Of a site that the topology does not have.
@@ -204,7 +227,7 @@ fn explain_out<R: AllocGlobal + Files>(
         return Ok(());
     }
     if words.get_flag(RECORD) {
-        write!(text, "a record can't be written beside a segment")?;
+        text.push_str("a record can't be written beside a segment")?;
         return Ok(());
     }
     let path = words
@@ -308,7 +331,7 @@ fn explain_topology<R: AllocGlobal + Files>(
     match topology_again(rt, path) {
         Some(bytes) => tell_topology(rt.alloc(), &bytes, task_of(words), text),
         None => {
-            write!(text, "it is not read again to say more")?;
+            text.push_str("it is not read again to say more")?;
             Ok(())
         }
     }
@@ -331,9 +354,8 @@ fn tell_topology(
         return tell_edition3(alloc, bytes, &value, task, text);
     }
     if matches!(task, Task::Declarations) {
-        write!(
-            text,
-            "this is no topology of edition 3, and `audit` with --declarations has no other"
+        text.push_str(
+            "this is no topology of edition 3, and `audit` with --declarations has no other",
         )?;
         return Ok(());
     }
@@ -347,7 +369,7 @@ fn tell_topology(
     match Topology::new(alloc, file.edition, &file.rows) {
         Err(fault) => tell_rows(Limits::of(file.edition), &file.rows, fault, text),
         Ok(_) => {
-            write!(text, "this is no topology of edition 3")?;
+            text.push_str("this is no topology of edition 3")?;
             Ok(())
         }
     }
@@ -395,8 +417,9 @@ fn explain_journal(
     text: &mut String,
 ) -> Result<(), AllocError> {
     if let Some(path) = words.get_str(JOURNAL) {
-        write!(text, "{path}: ")?;
-        return tell_own_journal(fault.next_word().unwrap_or(b""), text);
+        let trouble = trouble_of_own_journal(fault.next_word().unwrap_or(b""));
+        write!(text, "{path}: {trouble}")?;
+        return Ok(());
     }
     match journal_at(words, fault.number()) {
         Some(path) => write!(text, "{path}: ")?,
@@ -407,30 +430,26 @@ fn explain_journal(
     }
     match fault.number() {
         Some(1) => write!(text, "{}", JournalFault::BadHeader)?,
-        Some(2) => write!(text, "the bytes there are no entry")?,
+        Some(2) => text.push_str("the bytes there are no entry")?,
         _ => write!(text, "{}", JournalFault::Full)?,
     }
     Ok(())
 }
 
 /// Of the journal of a site that was to run; in edition 3 it is a folder.
-fn tell_own_journal(word: &[u8], text: &mut String) -> Result<(), AllocError> {
+fn trouble_of_own_journal(word: &[u8]) -> &'static str {
     match word {
-        b"damaged" => write!(
-            text,
+        b"damaged" => {
             "the newest segment in it has no whole entry there, and what stands there can't be the rest of an append; nothing was cut"
-        )?,
-        b"other" => write!(text, "the newest segment in it is of another site or world")?,
-        b"unlawful" => write!(
-            text,
+        }
+        b"other" => "the newest segment in it is of another site or world",
+        b"unlawful" => {
             "an entry of the newest segment in it is not what the rules make of its event; at 0, the segment begins in a state that the site can't be in"
-        )?,
-        _ => write!(
-            text,
+        }
+        _ => {
             "it can't be made or locked here, is no regular file, or another site writes to it; of edition 3 it is a folder, which needs --new where it has no journal, and must not have one with --new"
-        )?,
+        }
     }
-    Ok(())
 }
 
 /// The site and the edition of a journal.
@@ -462,7 +481,7 @@ fn explain_set<R: AllocGlobal + Files>(
         (Some(topology), Some(heads)) => {
             tell_set(number, &topology, paths, &heads, text)?;
         }
-        _ => write!(text, "the files are not read again to say more")?,
+        _ => text.push_str("the files are not read again to say more")?,
     }
     Ok(())
 }
@@ -562,8 +581,8 @@ fn explain_ports<R: AllocGlobal + Files>(
     let site: Option<u16> = words.get_one(SITE);
     match words.get_str(PORT) {
         Some(port) => write!(text, "of 127.0.0.1 this port is taken: {port}, or")?,
-        None if site.is_some() => write!(text, "of 127.0.0.1 this port is taken:")?,
-        None => write!(text, "of 127.0.0.1 one of these ports is taken:")?,
+        None if site.is_some() => text.push_str("of 127.0.0.1 this port is taken:")?,
+        None => text.push_str("of 127.0.0.1 one of these ports is taken:")?,
     }
     let path = words.get_str(TOPOLOGY).unwrap_or("");
     let Some(bytes) = topology_again(rt, path) else {

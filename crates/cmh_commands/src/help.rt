@@ -415,10 +415,10 @@ impl Help {
 
 fn play(alloc: Global) -> Result<String, AllocError> {
     let mut text = String::from_str(alloc, SCRIPT)?;
-    write!(text, "\nRefusals, as in `refused 3`:\n")?;
+    text.push_str("\nRefusals, as in `refused 3`:\n")?;
     refusals(&mut text, "")?;
     row(&mut text, 12, JournalFault::Full)?;
-    write!(text, "\nFaults of sites, as in `topology 2`:\n")?;
+    text.push_str("\nFaults of sites, as in `topology 2`:\n")?;
     topology_faults(&mut text)?;
     row(
         &mut text,
@@ -432,7 +432,7 @@ fn play(alloc: Global) -> Result<String, AllocError> {
 /// Of sites that run: the lines that they are given, refusals, faults of links, notes and statuses.
 fn running(alloc: Global, lines: &str, notes: &str, statuses: &str) -> Result<String, AllocError> {
     let mut text = String::from_str(alloc, lines)?;
-    write!(text, "\nRefusals, as in `refused 3`:\n")?;
+    text.push_str("\nRefusals, as in `refused 3`:\n")?;
     refusals(&mut text, STATION_REFUSALS)?;
     row(&mut text, 12, JournalFault::Full)?;
     write!(
@@ -447,21 +447,15 @@ fn refusals(text: &mut String, of_station: &str) -> Result<(), AllocError> {
     for refusal in REFUSALS {
         row(text, refusal.number(), refusal)?;
     }
-    write!(text, "{of_station}")?;
+    text.push_str(of_station)?;
     row(text, Refusal::Memory.number(), Refusal::Memory)
 }
 
 fn audit(alloc: Global) -> Result<String, AllocError> {
     let mut text = String::from_str(alloc, TOPOLOGY_FILE)?;
-    write!(
-        text,
-        "\nFaults of the topology, as in `fault topology 2`:\n"
-    )?;
+    text.push_str("\nFaults of the topology, as in `fault topology 2`:\n")?;
     topology_faults(&mut text)?;
-    write!(
-        text,
-        "\nFaults of journal P, as in `fault journal P 2 at 7`:\n"
-    )?;
+    text.push_str("\nFaults of journal P, as in `fault journal P 2 at 7`:\n")?;
     for fault in [
         JournalFault::BadHeader,
         JournalFault::BadEntry(7),
@@ -469,10 +463,7 @@ fn audit(alloc: Global) -> Result<String, AllocError> {
     ] {
         row(&mut text, fault.number(), fault)?;
     }
-    write!(
-        text,
-        "\nFaults of the journals together, as in `fault set 4`:\n"
-    )?;
+    text.push_str("\nFaults of the journals together, as in `fault set 4`:\n")?;
     for fault in SET_FAULTS {
         row(&mut text, fault.number(), fault)?;
     }
@@ -500,7 +491,7 @@ fn audit(alloc: Global) -> Result<String, AllocError> {
 
 fn show(alloc: Global) -> Result<String, AllocError> {
     let mut text = String::from_str(alloc, SHOW_LINES)?;
-    write!(text, "\nFaults of journal P, as in `fault journal P 1`:\n")?;
+    text.push_str("\nFaults of journal P, as in `fault journal P 1`:\n")?;
     for fault in [JournalFault::BadHeader, JournalFault::Full] {
         row(&mut text, fault.number(), fault)?;
     }

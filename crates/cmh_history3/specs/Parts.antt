@@ -1,12 +1,10 @@
 -- The epochs of a world from one of them on, or up to one of them.
-use Rattle.std.specs.Prelude.{◌≡◌, ◌⊎◌, ◌<◌, ℕ, List, [], ◌∷◌, if◌then◌else◌, ⊤}
+use Rattle.std.specs.Prelude.{◌≡◌, ◌⊎◌, ◌<◌, ℕ, List, [], ◌∷◌, if◌then◌else◌}
 use Rattle.std.specs.Bool.{nat_lt}
 use Rattle.cmh_topology3.specs.Topology.{Topology}
 use Rattle.cmh_segment3.specs.declared.head.Header.{Header}
 use Rattle.cmh_segment3.specs.declared.segment.Segment.{Segment}
 use Rattle.cmh_chain3.specs.Chains.{AreOneRun}
-use Rattle.cmh_chain3.specs.declared.chain.ChainVerdict.{ChainVerdict}
-use Rattle.cmh_chain3.specs.declared.chain.ChainVerdict.TheVariants.{Accepted, Refused, Apart}
 use Rattle.cmh_history3.specs.Epochs.{AreEpochs}
 
 -- The base of a segment stands for the epoch: the segment is of it, or it is the next one, and the site jumped over it.
@@ -27,9 +25,3 @@ ended_with epoch (g ∷ later) = if nat_lt epoch g.header.epoch then bare g ∷ 
 pub record ArePartOfRun (t : Topology) (journals epochs : List (List Segment)) : Type 0 where
   pub epochs_are : AreEpochs journals epochs
   pub one : AreOneRun t epochs
-
--- what is said where all epochs are accepted
-abbrev pub IfPart : ChainVerdict → Type 0 → Type 0
-IfPart Accepted Holds = Holds
-IfPart (Refused place) Holds = ⊤
-IfPart (Apart place) Holds = ⊤

@@ -3,9 +3,11 @@
 ghost use Rattle.std.specs.Prelude.{◌↔◌, IfOk, IsTrue};
 ghost use Rattle.std.specs.List.{All, AllByRecursion};
 ghost use Rattle.cmh_chain3.specs.Chains.{IsReadEpoch};
+ghost use Rattle.cmh_chain3.specs.Findings.{Finds};
 ghost use Rattle.cmh_parts3.specs.Set.{IsEpochSet};
+ghost use Rattle.cmh_history3.specs.Epochs.{AreEpochs};
 ghost use Rattle.cmh_history3.specs.Histories.{AreReadBases};
-ghost use Rattle.cmh_history3.specs.Parts.{ArePartOfRun, BeginsWith, IfPart};
+ghost use Rattle.cmh_history3.specs.Parts.{BeginsWith};
 
 use crate::epochs::epochs_of;
 use crate::journal::Journal;
@@ -28,8 +30,6 @@ pub struct Part {
 
 /// Audits the epochs of journals in their order from the bases of the first one, as `audit_history` does from where nothing
 /// has happened. What led to these bases is not looked at.
-///
-/// The contract says what it means that all are accepted, and nothing of a refusal.
 pub fn audit_part(
     alloc: Global,
     topology: &Topology,
@@ -40,8 +40,11 @@ pub fn audit_part(
     // The epochs can be audited once more, each by itself.
     ensures read { IfOk result (λ part. All (IsReadEpoch topology.now) part.epochs.items) }
 
-    // Where all are accepted, all entries and the turns between them come from one run from the first bases.
-    ensures accepted { IfOk result (λ part. IfPart part.verdict (ArePartOfRun topology.now journals.items part.epochs.items)) }
+    ensures epochs { IfOk result (λ part. AreEpochs journals.items part.epochs.items) }
+
+    // Where all are accepted, all entries and the turns between them come from one run from the first bases. Else those before
+    // the place that is named do, and the epoch there is none from its bases, or these do not say where that run ends.
+    ensures found { IfOk result (λ part. Finds topology.now part.epochs.items part.verdict) }
 {
     let epochs = epochs_of(alloc, journals)?;
     check_sets(topology, &epochs)?;

@@ -1,9 +1,11 @@
 //! The verdict on all epochs of a world.
 
-ghost use Rattle.std.specs.Prelude.{IfOk};
+ghost use Rattle.std.specs.Prelude.{◌≡◌, IfOk, List, Some, slice_get};
 ghost use Rattle.std.specs.List.{All, AllByRecursion};
+ghost use Rattle.cmh_chain3.specs.Chains as chain;
 ghost use Rattle.cmh_parts3.specs.Set.{IsEpochSet};
-ghost use Rattle.cmh_history3.specs.Histories.{AreOfOneRun, AreReadBases, IfAccepted};
+ghost use Rattle.cmh_segment3.specs.declared.segment.Segment as segment;
+ghost use Rattle.cmh_history3.specs.Histories.{AreReadBases, FindsIn};
 ghost use Rattle.cmh_history3.specs.Inner.Sets.{BeginWorld};
 
 use crate::epochs::epochs_of;
@@ -61,8 +63,6 @@ impl From<AllocError> for HistoryFault {
 
 /// Audits the epochs of journals in their order, the open one with all that follows as one epoch. A site that has begun a
 /// later epoch there turns to it between its entries; whether its base says where it stands then is not looked at.
-///
-/// The contract says what it means that all are accepted, and nothing of a refusal.
 pub fn audit_history(
     alloc: Global,
     topology: &Topology,
@@ -70,8 +70,9 @@ pub fn audit_history(
 ) -> Result<HistoryVerdict, HistoryFault>
     requires { AllByRecursion AreReadBases journals.items }
 
-    // Where all are accepted, all entries and the turns between them come from one run.
-    ensures { IfOk result (λ v. IfAccepted v (AreOfOneRun topology.now journals.items)) }
+    // Where all are accepted, all entries and the turns between them come from one run. Else those before the epoch that is
+    // named do, and this is none from its bases, or these do not say where that run ends.
+    ensures { IfOk result (FindsIn topology.now journals.items) }
 {
     first_law();
     let epochs = epochs_of(alloc, journals)?;
@@ -108,8 +109,11 @@ pub(crate) fn check_epoch(topology: &Topology, segments: &[Segment]) -> Result<(
     Ok(())
 }
 
-/// The epoch at this place.
-fn epoch_at(epochs: &[Rows<Segment>], place: usize) -> Epoch {
+/// The epoch at this place; 0 where there is none.
+fn epoch_at(epochs: &[Rows<Segment>], place: usize) -> Epoch
+    ensures { (segments : List segment.Segment) → slice_get epochs.now place ≡ Some segments
+        → result ≡ chain.epoch_of segments }
+{
     match epochs.get(place) {
         Some(epoch) => epoch_of(epoch.as_slice()),
         None => Epoch::new(0),
@@ -117,7 +121,9 @@ fn epoch_at(epochs: &[Rows<Segment>], place: usize) -> Epoch {
 }
 
 /// The epoch of segments; 0 where there are none.
-fn epoch_of(segments: &[Segment]) -> Epoch {
+fn epoch_of(segments: &[Segment]) -> Epoch
+    ensures { result ≡ chain.epoch_of segments.now }
+{
     match segments.first() {
         Some(segment) => segment.header.epoch,
         None => Epoch::new(0),

@@ -1,11 +1,14 @@
-use Rattle.std.proofs.Common.{drop}
-use Rattle.cmh_chain3.specs.Chains.{IsReadEpoch}
-use Rattle.cmh_chain3.specs.Inner.Leading.{LeadOn}
+use Rattle.std.proofs.Common.{◌≡◌, ◌∷◌, Some, take}
+use Rattle.std.specs.Prelude.{slice_get}
+use Rattle.cmh_chain3.specs.Chains.{AreOneRun, IsReadEpoch}
+use Rattle.cmh_chain3.proofs.Leading.{LeadsOn}
 use Rattle.cmh_chain3.proofs.chain.audit_chain.Given as goal
 
--- it is enough that the rest goes on from here
+-- the epochs before this one are one run, and with what this one goes on to they are another
 abbrev pub invariant-loop-place : goal.invariant-loop-place
 invariant-loop-place l = record {
   read : IsReadEpoch l.topology l.segments;
-  leads : LeadOn l.topology l.segments (drop l.place l.more) → LeadOn l.topology l.initial.segments l.more;
+  there : slice_get (l.initial.segments ∷ l.more) l.place ≡ Some l.segments;
+  before : AreOneRun l.topology (take l.place (l.initial.segments ∷ l.more));
+  leads : LeadsOn l.topology l.initial.segments (take l.place l.more) l.segments;
 }

@@ -1,7 +1,7 @@
 use Rattle.std.proofs.Common.{List, true≢false, ap, sym, subst, ◌∙◌}
 use Rattle.cmh_frames.specs.Rows.{Row}
 use Rattle.cmh_topology3.specs.Topology.{IsTopologyOf}
-use Rattle.cmh_history3.specs.Histories.{AreOfOneRun, IfAccepted}
+use Rattle.cmh_history3.specs.Histories.{FindsIn}
 use Rattle.cmh_history3.specs.declared.verdict.HistoryVerdict.{HistoryVerdict}
 use Rattle.cmh_long_audit3.specs.declared.auditing.Told.{Told}
 use Rattle.cmh_long_audit3.proofs.Zips.{all_bases, says_topology}
@@ -22,7 +22,7 @@ returns c = λ yes.
         says = says_topology _ _ _ _ c.in_ok-file.ensures.says topology_is;
         journals = journals;
         read = c.in_ok-journals.ensures;
-        one = subst (λ (v : HistoryVerdict). IfAccepted v (AreOfOneRun world journals)) w.in-Accepted.is c.in-Ok.ensures;
+        one = subst (λ (v : HistoryVerdict). FindsIn world journals v) w.in-Accepted.is c.in-Ok.ensures;
         report = w.in_ok-told-in-Accepted.ensures (sym (ap (λ (told : Told). told.is_accepted) w.told-is) ∙ yes);
       }
       | in-Refused+in_ok-told-in-Refused w ↦ absurd (true≢false (sym yes ∙ ap (λ (told : Told). told.is_accepted) w.told-is ∙ w.in_ok-told-in-Refused.ensures))

@@ -1,8 +1,8 @@
 use Rattle.std.proofs.Common.{List, subst}
 use Rattle.cmh_frames.specs.Rows.{Row}
 use Rattle.cmh_topology3.specs.Topology.{IsTopologyOf}
+use Rattle.cmh_chain3.specs.Findings.{Finds}
 use Rattle.cmh_chain3.specs.declared.chain.ChainVerdict.{ChainVerdict}
-use Rattle.cmh_history3.specs.Parts.{ArePartOfRun, IfPart}
 use Rattle.cmh_long_audit3.proofs.Ranges.{part_bases}
 use Rattle.cmh_long_audit3.proofs.Zips.{says_topology}
 use Rattle.cmh_long_audit3.proofs.part.audited_part.Goals as goal
@@ -22,5 +22,8 @@ returns c = λ yes.
       journals = journals;
       read = c.in_ok-journals.ensures;
       epochs = part.epochs.items;
-      one = subst (λ (v : ChainVerdict). IfPart v (ArePartOfRun world journals part.epochs.items)) (c.in_ok-told.ensures yes) c.in-Ok.ensures.accepted;
+      one = record {
+        epochs_are = c.in-Ok.ensures.epochs;
+        one = subst (λ (v : ChainVerdict). Finds world part.epochs.items v) (c.in_ok-told.ensures yes) c.in-Ok.ensures.found;
+      };
     }
