@@ -343,30 +343,31 @@ fn journal_arg<'a>(alloc: Global) -> Arg<'a> {
 }
 
 fn why_arg<'a>(alloc: Global) -> Arg<'a> {
-    Arg::new(alloc, WHY)
-        .long(WHY)
-        .help("Tells, where the journals are refused, why each site stops")
-        .action(ArgAction::SetTrue)
+    flag(
+        alloc,
+        WHY,
+        "Tells, where the journals are refused, why each site stops",
+    )
 }
 
 fn run_arg<'a>(alloc: Global) -> Result<Arg<'a>, Error> {
-    let run = Arg::new(alloc, RUN)
-        .long(RUN)
-        .help("Lists, where the journals are accepted, one run that they come from")
-        .action(ArgAction::SetTrue)
-        .conflicts_with(WHY)?;
+    let run = flag(
+        alloc,
+        RUN,
+        "Lists, where the journals are accepted, one run that they come from",
+    )
+    .conflicts_with(WHY)?;
     Ok(run)
 }
 
 fn declarations_arg<'a>(alloc: Global) -> Result<Arg<'a>, Error> {
-    let declarations = Arg::new(alloc, DECLARATIONS)
-        .long(DECLARATIONS)
-        .help(
-            "Tells, where the journals of edition 3 are accepted, what became of each declaration's cycle",
-        )
-        .action(ArgAction::SetTrue)
-        .conflicts_with(WHY)?
-        .conflicts_with(RUN)?;
+    let declarations = flag(
+        alloc,
+        DECLARATIONS,
+        "Tells, where the journals of edition 3 are accepted, what became of each declaration's cycle",
+    )
+    .conflicts_with(WHY)?
+    .conflicts_with(RUN)?;
     Ok(declarations)
 }
 
@@ -401,12 +402,11 @@ fn epoch_option<'a>(alloc: Global, name: &'a str) -> Result<Arg<'a>, Error> {
 
 /// Whether records of what is audited are kept.
 fn record_arg<'a>(alloc: Global) -> Arg<'a> {
-    Arg::new(alloc, RECORD)
-        .long(RECORD)
-        .help(
-            "Keeps, where journals of edition 3 are accepted, a record beside each segment whose epoch all sites have ended",
-        )
-        .action(ArgAction::SetTrue)
+    flag(
+        alloc,
+        RECORD,
+        "Keeps, where journals of edition 3 are accepted, a record beside each segment whose epoch all sites have ended",
+    )
 }
 
 /// The epoch that the sites of a restored world begin. None begins the first one with a base.
@@ -456,12 +456,13 @@ fn column_arg<'a>(alloc: Global, name: &'a str) -> Result<Arg<'a>, Error> {
 
 /// Whether a page is made in place of a picture.
 fn page_arg<'a>(alloc: Global) -> Result<Arg<'a>, Error> {
-    let page = Arg::new(alloc, PAGE)
-        .long(PAGE)
-        .help("A page that steps through the run in a browser, in place of a picture")
-        .action(ArgAction::SetTrue)
-        .conflicts_with(KIND)?
-        .conflicts_with(FORMAT)?;
+    let page = flag(
+        alloc,
+        PAGE,
+        "A page that steps through the run in a browser, in place of a picture",
+    )
+    .conflicts_with(KIND)?
+    .conflicts_with(FORMAT)?;
     Ok(page)
 }
 
@@ -495,30 +496,25 @@ fn port_arg<'a>(alloc: Global) -> Arg<'a> {
 }
 
 fn quiet_arg<'a>(alloc: Global) -> Arg<'a> {
-    Arg::new(alloc, QUIET)
-        .long(QUIET)
-        .help("Tells no notes on standard error")
-        .action(ArgAction::SetTrue)
+    flag(alloc, QUIET, "Tells no notes on standard error")
 }
 
 /// How a site of edition 3 begins.
 fn new_arg<'a>(alloc: Global) -> Arg<'a> {
-    Arg::new(alloc, NEW)
-        .long(NEW)
-        .help(
-            "Of edition 3: begins a new journal in a folder that has none; without it the site goes on with the journal there",
-        )
-        .action(ArgAction::SetTrue)
+    flag(
+        alloc,
+        NEW,
+        "Of edition 3: begins a new journal in a folder that has none; without it the site goes on with the journal there",
+    )
 }
 
 /// Whether a site of edition 3 takes no event before it has met the other sites.
 fn wait_for_peers_arg<'a>(alloc: Global) -> Arg<'a> {
-    Arg::new(alloc, WAIT_FOR_PEERS)
-        .long(WAIT_FOR_PEERS)
-        .help(
-            "Of edition 3: refuses events until each link has answered, for a journal that was put back from a backup",
-        )
-        .action(ArgAction::SetTrue)
+    flag(
+        alloc,
+        WAIT_FOR_PEERS,
+        "Of edition 3: refuses events until each link has answered, for a journal that was put back from a backup",
+    )
 }
 
 fn script_arg<'a>(alloc: Global) -> Arg<'a> {
@@ -566,37 +562,37 @@ fn backlog_arg<'a>(alloc: Global) -> Arg<'a> {
 }
 
 fn notes_arg<'a>(alloc: Global) -> Arg<'a> {
-    Arg::new(alloc, NOTES)
-        .long(NOTES)
-        .help("Tells on standard error what a site notices by itself, as a link that closes")
-        .action(ArgAction::SetTrue)
+    flag(
+        alloc,
+        NOTES,
+        "Tells on standard error what a site notices by itself, as a link that closes",
+    )
 }
 
 /// A service of editions 1 and 2 tells notes unless it is quiet.
 fn serve_notes_arg<'a>(alloc: Global) -> Arg<'a> {
-    Arg::new(alloc, NOTES)
-        .long(NOTES)
-        .help(
-            "Of edition 3: tells on standard error what the site notices by itself, as a link that is refused",
-        )
-        .action(ArgAction::SetTrue)
+    flag(
+        alloc,
+        NOTES,
+        "Of edition 3: tells on standard error what the site notices by itself, as a link that is refused",
+    )
 }
 
 /// Of every command that has faults. Where standard error is a terminal, it is as if it were given.
 fn explain_arg<'a>(alloc: Global) -> Arg<'a> {
-    Arg::new(alloc, EXPLAIN)
-        .long(EXPLAIN)
-        .help("Explains a fault in a second line on standard error, as at a terminal")
-        .action(ArgAction::SetTrue)
+    flag(
+        alloc,
+        EXPLAIN,
+        "Explains a fault in a second line on standard error, as at a terminal",
+    )
 }
 
 fn strict_arg<'a>(alloc: Global) -> Arg<'a> {
-    Arg::new(alloc, STRICT)
-        .long(STRICT)
-        .help(
-            "Starts no site where the open files don't suffice for all, and fails where a link can't be opened",
-        )
-        .action(ArgAction::SetTrue)
+    flag(
+        alloc,
+        STRICT,
+        "Starts no site where the open files don't suffice for all, and fails where a link can't be opened",
+    )
 }
 
 /// The files of journals, one at least.
@@ -605,6 +601,14 @@ fn journals_arg<'a>(alloc: Global) -> Arg<'a> {
         .value_name("JOURNAL")
         .required(true)
         .action(ArgAction::Append)
+}
+
+/// An option without a value.
+fn flag<'a>(alloc: Global, name: &'a str, help: &'a str) -> Arg<'a> {
+    Arg::new(alloc, name)
+        .long(name)
+        .help(help)
+        .action(ArgAction::SetTrue)
 }
 
 /// An option whose value is one of these words.
