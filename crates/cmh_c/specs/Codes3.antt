@@ -3,8 +3,8 @@ use Rattle.std.specs.Prelude.{◌≡◌, ℕ, Bool, List, ◌++◌, length, take
 use Rattle.std.specs.List.Sorted.{IsStrictlyIncreasing}
 use Rattle.cmh_model3.specs.Lists.{in_list}
 use Rattle.cmh_controller3.specs.Refusals.{number_of}
-use Rattle.cmh_restart3.specs.declared.fault.RestartFault.{RestartFault}
-use Rattle.cmh_restart3.specs.declared.fault.RestartFault.TheVariants.{NoSegment, Damaged, OtherSegment, NotHere, Unlawful, Full as TooLong, MoreThanSent, OtherMessages, Memory as OutOfMemory}
+use Rattle.cmh_seat3.specs.declared.restart_fault.RestartFault.{RestartFault}
+use Rattle.cmh_seat3.specs.declared.restart_fault.RestartFault.TheVariants.{NoSegment, Damaged, OtherSegment, NotHere, Unlawful, Full as TooLong, MoreThanSent, OtherMessages, Memory as OutOfMemory}
 use Rattle.cmh_seat3.specs.declared.entries.EntryFault.{EntryFault}
 use Rattle.cmh_seat3.specs.declared.entries.EntryFault.TheVariants.{Memory, NoEntry}
 use Rattle.cmh_seat3.specs.declared.fault.SeatFault.{SeatFault}

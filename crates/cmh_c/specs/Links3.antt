@@ -2,9 +2,9 @@
 use Rattle.std.specs.Prelude.{◌≡◌, ◌⊎◌, ℕ, List}
 use Rattle.cmh_runs.specs.Number.{IsNumber}
 use Rattle.cmh_segment3.specs.declared.entry.Entry.{Entry}
-use Rattle.cmh_restart3.specs.Journals.{IsUnread}
-use Rattle.cmh_restart3.specs.Links.{AreReceipts, AreSentPast, IsNotSentPast}
-use Rattle.cmh_restart3.specs.declared.links.Receipts.{Receipts}
+use Rattle.cmh_seat3.specs.Journals.{IsUnread}
+use Rattle.cmh_seat3.specs.Links.{AreReceipts, AreSentPast, IsNotSentPast}
+use Rattle.cmh_seat3.specs.declared.links.Receipts.{Receipts}
 use Rattle.cmh_c.specs.Codes.{Answers}
 use Rattle.cmh_c.specs.Codes3.{code_of_restart}
 

@@ -4,9 +4,9 @@ use Rattle.cmh_frames.specs.Rows.{Row, fault_number}
 use Rattle.cmh_frames.specs.declared.rows.TopologyFault.{TopologyFault}
 use Rattle.cmh_topology3.specs.Rows.{fault_of}
 use Rattle.cmh_topology3.specs.Topology.{IsTopologyOf, Topology, is_site}
-use Rattle.cmh_restart3.specs.Opening.{IsNotOpened as IsUnopened, Opens}
+use Rattle.cmh_seat3.specs.Opening.{IsNotOpened as IsUnopened, Opens}
 use Rattle.cmh_seat3.specs.Seat.{IsFresh, Seat}
-use Rattle.cmh_restart3.specs.declared.fault.RestartFault.{RestartFault}
+use Rattle.cmh_seat3.specs.declared.restart_fault.RestartFault.{RestartFault}
 use Rattle.cmh_c.specs.Codes3.{code_of_restart, place_of}
 use Rattle.cmh_c.specs.Opening.{words_of}
 

@@ -7,9 +7,8 @@ ghost use Rattle.cmh_c.specs.Inner.Faults.{code_of_call, place_told};
 
 use cmh_frames::TopologyFault;
 use cmh_reader::ReadFault;
-use cmh_restart3::RestartFault;
 use cmh_seat::{InletFault, SeatFault};
-use cmh_seat3::{EntryFault, SeatFault as SeatFault3};
+use cmh_seat3::{EntryFault, RestartFault, SeatFault as SeatFault3};
 use std::alloc::{AllocError, AllocFailed};
 
 pub const DONE: u32 = 0;

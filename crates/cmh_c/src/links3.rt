@@ -1,14 +1,14 @@
 //! What a journal of edition 3 has of the links of its site.
 
 ghost use Rattle.std.specs.Prelude.{◌≡◌, ◌≢◌, ◌<◌, ℕ, List, IfErr, IfOk, length};
-ghost use Rattle.cmh_restart3.specs.Journals.{OfJournal};
+ghost use Rattle.cmh_seat3.specs.Journals.{OfJournal};
 ghost use Rattle.cmh_seat.specs.Fills.{Fills};
 ghost use Rattle.cmh_c.specs.Inner.Faults.{code_of_call};
 ghost use Rattle.cmh_c.specs.Links3.{AreGot, AreSent, IsNotGot, IsNotSent};
 
 use crate::codes::{CallFault, DONE, SHORT};
-use cmh_restart3::{Receipts, got, sent_past};
 use cmh_runs::SiteId;
+use cmh_seat3::{Receipts, got, sent_past};
 use cmh_wire3::Mark;
 use std::alloc::Global;
 

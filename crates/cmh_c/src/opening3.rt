@@ -8,9 +8,8 @@ ghost use Rattle.cmh_c.specs.Opening3.{IsNoSite, IsNotOpened, IsNotReopened, IsS
 use crate::codes::CallFault;
 use crate::rows::rows_of;
 use cmh_frames::{SiteRow, TopologyFault};
-use cmh_restart3::{Opened, open};
 use cmh_runs::SiteId;
-use cmh_seat3::Seat;
+use cmh_seat3::{Opened, Seat, open};
 use cmh_topology3::{Topology, World};
 use std::alloc::Global;
 

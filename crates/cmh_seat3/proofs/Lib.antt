@@ -10,3 +10,6 @@ pub mod Spelled
 pub mod Steps
 pub mod TakenOut
 pub mod Waiting
+pub mod Listing
+pub mod Reading
+pub mod Replaying

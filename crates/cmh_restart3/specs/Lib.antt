@@ -1,3 +1,0 @@
-pub mod Journals
-pub mod Links
-pub mod Opening
