@@ -23,12 +23,11 @@ use Rattle.cmh_segment3.proofs.WholeEntries.{steps_come_back}
 use Rattle.cmh_audit3.specs.Journals.{journal_of}
 use Rattle.cmh_audit3.specs.Set.{AreOfWorld, has_site, sites_in}
 use Rattle.cmh_audit3.proofs.Sets.{world_parts}
-use Rattle.cmh_bases3.specs.Bases.{IsBaseOf, IsRestored}
+use Rattle.cmh_bases3.specs.Bases.{IsRestored}
 use Rattle.cmh_parts3.specs.Set.{AreOfEpoch, IsEpochSet}
 use Rattle.cmh_parts3.specs.Turns.{Follow, TurnsLeadOn}
 use Rattle.cmh_parts3.specs.Worlds.{AreJournalsFrom, StandAtBases, end_of, state_at, world_of}
 use Rattle.cmh_chain3.specs.Chains.{AreOneRun, ComeFromOneRun, epoch_of, steps_in, turns_to}
-use Rattle.cmh_chain3.specs.Findings.{CanBegin}
 use Rattle.cmh_chain3.specs.Follows.{BeginWithin, IsEndOf}
 use Rattle.cmh_chain3.specs.Inner.Leading.{AreEpoch, AreRestored, GoesOn, LeadOn}
 
@@ -147,10 +146,6 @@ restored_more t gs i g cs c l is all new =
     let next : take (i + 1) gs ≡ take i gs ++ g ∷ [] = take_more gs i g l ∙ ap (λ y. take i gs ++ y ∷ []) (sym is) in
     subst (λ xs. AreRestored t xs (cs ++ c ∷ [])) (sym next)
     (all_zipped_more (λ (x : Segment) (k : Controller). IsRestored t x.header.site x.header.epoch x.base k) (take i gs) cs g c all new)
-
--- a site that can't begin with its base
-pub cannot_begin : (t : Topology) (gs : List Segment) (i : ℕ) (g : Segment) → i < length gs → g ≡ get_or gs i g → (IsBaseOf t g.header.site g.header.epoch g.base → ⊥) → CanBegin t gs → ⊥
-cannot_begin t gs i g l is refused all = refused (subst (λ (x : Segment). IsBaseOf t x.header.site x.header.epoch x.base) (sym is) (all i g l))
 
 pub stand_at : (t : Topology) (gs : List Segment) (cs : List Controller) → AreRestored t gs cs → StandAtBases t gs cs
 stand_at t [] [] all = tt

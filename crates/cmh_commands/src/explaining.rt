@@ -125,48 +125,24 @@ pub fn explanation<R: AllocGlobal + Files>(
     };
     let mut fault = Words::new(line);
     let _ = fault.next_word();
-    let subject = subject_of(fault.next_word().unwrap_or(b""));
-    if let Some(cause) = cause_by_itself(subject) {
-        text.push_str(cause)?;
-        return Ok(text);
-    }
-    explain(rt, words, subject, &mut fault, &mut text)?;
-    Ok(text)
-}
-
-/// What explains a line for whatever command it ended.
-const fn cause_by_itself(subject: Subject) -> Option<&'static str> {
-    match subject {
-        Subject::Input => Some("standard input can't be read"),
-        Subject::Output => Some("standard output can't be written, or nobody reads it"),
-        Subject::Random => Some("/dev/urandom gives no random bytes"),
-        Subject::Page => Some("a page tells at most 20,000 events"),
-        Subject::Picture => Some(
+    match subject_of(fault.next_word().unwrap_or(b"")) {
+        Subject::File => explain_file(rt, words, &mut fault, &mut text)?,
+        Subject::Topology => explain_topology(rt, words, &mut text)?,
+        Subject::Journal => explain_journal(words, &mut fault, &mut text)?,
+        Subject::Set => explain_set(rt, words, &mut fault, &mut text)?,
+        Subject::Site => explain_site(words, &mut text)?,
+        Subject::Listen => explain_ports(rt, words, &mut text)?,
+        Subject::Input => text.push_str("standard input can't be read")?,
+        Subject::Output => text.push_str("standard output can't be written, or nobody reads it")?,
+        Subject::Random => text.push_str("/dev/urandom gives no random bytes")?,
+        Subject::Page => text.push_str("a page tells at most 20,000 events")?,
+        Subject::Picture => text.push_str(
             "a picture of a run has at most 20,000 lines, entries and frames; --from and --to choose columns",
-        ),
-        Subject::Memory => Some("memory was refused"),
-        _ => None,
+        )?,
+        Subject::Descriptors => explain_descriptors(&mut fault, &mut text)?,
+        Subject::Memory => text.push_str("memory was refused")?,
     }
-}
-
-/// Explains a line by what the command was given.
-fn explain<R: AllocGlobal + Files>(
-    rt: &R,
-    words: &ArgMatches<'_>,
-    subject: Subject,
-    fault: &mut Words<'_>,
-    text: &mut String,
-) -> Result<(), AllocError> {
-    match subject {
-        Subject::File => explain_file(rt, words, fault, text),
-        Subject::Topology => explain_topology(rt, words, text),
-        Subject::Journal => explain_journal(words, fault, text),
-        Subject::Set => explain_set(rt, words, fault, text),
-        Subject::Site => explain_site(words, text),
-        Subject::Listen => explain_ports(rt, words, text),
-        Subject::Descriptors => explain_descriptors(fault, text),
-        _ => Ok(()),
-    }
+    Ok(text)
 }
 
 /// Of a site that the topology does not have.
