@@ -1,6 +1,12 @@
-pub mod Ordered
-pub mod Further
-pub mod Searched
-pub mod Lawful
-pub mod Stages
+pub mod BaseRows
+pub mod Fitting
 pub mod Following
+pub mod Further
+pub mod Lawful
+pub mod Numbers
+pub mod Ordered
+pub mod Places
+pub mod Searched
+pub mod Stages
+pub mod Turns
+pub mod Whole

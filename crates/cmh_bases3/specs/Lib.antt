@@ -1,3 +1,4 @@
 pub mod Bases
-pub mod Laws
+pub mod FittingLinks
 pub mod Inner
+pub mod Laws

@@ -6,9 +6,9 @@ use Rattle.cmh_controller3.specs.declared.outcome.Outcome.{Outcome}
 use Rattle.cmh_controller3.specs.declared.refusal.Refusal.{Refusal}
 use Rattle.cmh_journaled.specs.Batches.{AreAnswers}
 use Rattle.cmh_journaled.specs.declared.refusal.Refusal.{Refusal as Reason}
-use Rattle.cmh_log3.specs.Files.{Held}
-use Rattle.cmh_machine3.specs.Machines.{site_of_machine}
-use Rattle.cmh_machine3.specs.Sites.{Site, meaning_of}
+use Rattle.cmh_station3.specs.Files.{Held}
+use Rattle.cmh_station3.specs.Machines.{site_of_machine}
+use Rattle.cmh_station3.specs.Sites.{Site, meaning_of}
 use Rattle.cmh_model3.specs.declared.event.Event.{Event}
 use Rattle.cmh_node3.specs.Nodes.{Node}
 use Rattle.cmh_node3.specs.Steps.{StepsAll}

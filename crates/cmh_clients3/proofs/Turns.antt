@@ -1,7 +1,7 @@
 -- Events that are taken one after the other.
 use Rattle.std.proofs.Common.{◌≡◌, ℕ, zero, suc, ◌+◌, ◌<◌, Bool, List, [], ◌∷◌, ◌++◌, length, take, slice_index_or, Option, refl, subst₂, arith}
 use native.Mathlib.Numerals.{unary_clauses}
-use Rattle.cmh_log3.specs.Files.{Held}
+use Rattle.cmh_station3.specs.Files.{Held}
 use Rattle.cmh_model3.specs.declared.event.Event.{Event}
 use Rattle.cmh_node3.specs.Nodes.{Node}
 use Rattle.cmh_talk3.specs.declared.reply.EventReply.{EventReply}

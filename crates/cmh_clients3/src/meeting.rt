@@ -1,7 +1,7 @@
 //! Whether a site has met the other sites since it was started.
 
-use cmh_log3::SegmentFile;
 use cmh_node3::Node;
+use cmh_station3::SegmentFile;
 use cmh_talk3::{OutState, out_state};
 use std::alloc::{AllocError, Global};
 

@@ -3,9 +3,9 @@
 use crate::meeting::Meeting;
 use crate::note::SiteNote;
 use cmh_carriers::Meter;
-use cmh_log3::SegmentFile;
 use cmh_model3::SiteId;
 use cmh_node3::Node;
+use cmh_station3::SegmentFile;
 use cmh_talk3::{IntoState, LinkStates, News, OutState, link_news, states_of};
 use std::alloc::{AllocError, Global};
 

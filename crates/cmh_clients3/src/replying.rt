@@ -9,9 +9,9 @@ ghost use Rattle.cmh_talk3.specs.Numbers as spec;
 
 use crate::batch::Batch;
 use crate::telling::{Answered, Teller};
-use cmh_log3::SegmentFile;
 use cmh_model3::Event;
 use cmh_node3::{Node, NotStepped, StepFault};
+use cmh_station3::SegmentFile;
 use cmh_talk3::{EventReply, reply_of, reply_of_none};
 use std::alloc::{AllocError, Global};
 

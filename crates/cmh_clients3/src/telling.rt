@@ -2,9 +2,9 @@
 
 use cmh_controller3::{Controller, Outcome, Refusal as RuleRefusal};
 use cmh_journaled::Refusal;
-use cmh_log3::SegmentFile;
 use cmh_model3::{Entry, Event, Message};
 use cmh_node3::Node;
+use cmh_station3::SegmentFile;
 use cmh_talk3::{
     LeftPair, LinkStates, News, left_pairs, link_news, news_of_own, news_of_taken, states_of,
 };

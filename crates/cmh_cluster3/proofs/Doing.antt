@@ -2,7 +2,7 @@
 use Rattle.std.proofs.Common.{◌≡◌, ◌<◌, ◌≤◌, ◌∙◌, ap, ℕ, zero, suc, Bool, true, false, List, [], ◌∷◌, Option, None, Some, refl, sym, subst, inl, inr, true≢false}
 use Rattle.std.specs.Prelude.{slice_get, slice_set}
 use Rattle.std.proofs.lemmas.Bool.{cases_lt}
-use Rattle.cmh_log3.specs.Files.{Held}
+use Rattle.cmh_station3.specs.Files.{Held}
 use Rattle.cmh_node3.specs.Nodes.{Node}
 use Rattle.cmh_talk3.specs.declared.deed.Deed.{Deed}
 use Rattle.cmh_talk3.specs.declared.reply.EventReply.{EventReply}

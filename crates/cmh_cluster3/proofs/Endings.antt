@@ -2,7 +2,7 @@
 use Rattle.std.proofs.Common.{◌≡◌, ℕ, Bool, List, Option, length, sym, subst}
 use Rattle.cmh_console.specs.Device.{Writing}
 use Rattle.cmh_files3.specs.Audits.{AuditEnds, OfTopology}
-use Rattle.cmh_log3.specs.Files.{Held}
+use Rattle.cmh_station3.specs.Files.{Held}
 use Rattle.cmh_topology3.specs.Topology.{sites_of}
 use Rattle.cmh_cluster3.specs.Endings.{Answered, EndsInAudit}
 

@@ -2,7 +2,7 @@
 use Rattle.std.proofs.Common.{◌≡◌, ◌<◌, ◌≤◌, ◌∙◌, ap, arith, length, ℕ, zero, suc, Bool, List, [], ◌∷◌, Option, None, Some, refl, sym, subst}
 use Rattle.std.specs.Prelude.{slice_index_or, slice_get, slice_set}
 use Rattle.cmh_links3.proofs.Growing.{grows_same, grows_then}
-use Rattle.cmh_log3.specs.Files.{Held}
+use Rattle.cmh_station3.specs.Files.{Held}
 use Rattle.cmh_node3.specs.Nodes.{Node}
 use Rattle.std.specs.List.{AllZip}
 use Rattle.cmh_cluster3.specs.Sites.{AllGoOn, GoesOn, IsDown}

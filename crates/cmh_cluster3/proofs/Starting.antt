@@ -2,7 +2,7 @@
 use Rattle.std.proofs.Common.{◌≡◌, ◌<◌, ◌≤◌, ◌∙◌, ◌+◌, ℕ, Bool, List, [], ◌∷◌, ◌++◌, Option, Some, refl, sym, ap, subst, length, take, get_or}
 use Rattle.std.specs.List.{AllZip}
 use Rattle.std.proofs.lemmas.List.{take_all, take_more}
-use Rattle.cmh_log3.specs.Files.{Held}
+use Rattle.cmh_station3.specs.Files.{Held}
 use Rattle.cmh_node3.specs.Nodes.{Node}
 use Rattle.cmh_topology3.specs.Topology.{Topology}
 use Rattle.cmh_cluster3.specs.Sites.{Starts}

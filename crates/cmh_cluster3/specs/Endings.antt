@@ -9,7 +9,7 @@ use Rattle.cmh_console.specs.declared.dialogue.Flow.{Flow}
 use Rattle.cmh_console.specs.declared.dialogue.Flow.TheVariants.{Awaits, Ends}
 use Rattle.cmh_disk3.specs.declared.disk_file.DiskFile.{DiskFile}
 use Rattle.cmh_files3.specs.Audits.{AuditEnds, IsOfNoTopology, OfTopology}
-use Rattle.cmh_log3.specs.Files.{Held}
+use Rattle.cmh_station3.specs.Files.{Held}
 use Rattle.cmh_node3.specs.Nodes.{Node}
 use Rattle.cmh_topology3.specs.Topology.{Topology as World, sites_of}
 use Rattle.cmh_cluster3.specs.Faults.{as_fault}

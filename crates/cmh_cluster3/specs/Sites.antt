@@ -8,10 +8,10 @@ use Rattle.cmh_journaled.specs.Keepers.{Unsent}
 use Rattle.cmh_journaled.specs.Stories.{Journaled}
 use Rattle.cmh_journaled.specs.declared.refusal.Refusal.{Refusal as Reason}
 use Rattle.cmh_links3.specs.Growing.{Grows}
-use Rattle.cmh_log3.specs.Files.{Held}
-use Rattle.cmh_log3.specs.Logs.{SegmentLog}
-use Rattle.cmh_machine3.specs.Machines.{Machine}
-use Rattle.cmh_machine3.specs.declared.beginning.Beginning.{Beginning}
+use Rattle.cmh_station3.specs.Files.{Held}
+use Rattle.cmh_station3.specs.Logs.{SegmentLog}
+use Rattle.cmh_station3.specs.Machines.{Machine}
+use Rattle.cmh_station3.specs.declared.beginning.Beginning.{Beginning}
 use Rattle.cmh_model3.specs.declared.event.Event.{Event as TheEvent}
 use Rattle.cmh_model3.specs.declared.event.Event.TheVariants as events
 use Rattle.cmh_model3.specs.declared.frame.Message.{Message}

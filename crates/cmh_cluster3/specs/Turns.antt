@@ -1,7 +1,7 @@
 -- What a line of a cluster's script does to the sites, and what answers it.
 use Rattle.std.specs.Prelude.{◌≡◌, ◌≢◌, ◌⊎◌, ℕ, Bool, List, slice_get, Option, None, Some, MatchOption}
 use Rattle.cmh_console.specs.declared.dialogue.Flow.{Flow}
-use Rattle.cmh_log3.specs.Files.{Held}
+use Rattle.cmh_station3.specs.Files.{Held}
 use Rattle.cmh_node3.specs.Nodes.{Node}
 use Rattle.cmh_talk3.specs.declared.deed.Deed.{Deed}
 use Rattle.cmh_talk3.specs.declared.deed.Question.{Question}

@@ -19,8 +19,8 @@ use cmh_console::{
     DialogueFault, Fault, Flow, Input, NextLine, Output, WriteFault, read_topology_file3,
 };
 use cmh_files3::run_audit3;
-use cmh_log3::SegmentFile;
 use cmh_script3::read_line;
+use cmh_station3::SegmentFile;
 use cmh_topology3::Topology;
 use std::alloc::{AllocError, Global};
 use std::fs::File;

@@ -5,8 +5,8 @@ ghost use Rattle.cmh_cluster3.specs.Sites.{AllGoOn, GoesOn};
 
 use crate::places::node_at;
 use cmh_links3::{Incoming, Onward, Outgoing};
-use cmh_log3::SegmentFile;
 use cmh_node3::Node;
+use cmh_station3::SegmentFile;
 use std::alloc::Global;
 
 /// No time passes in a cluster, so that its output does not depend on how long anything takes: no link is silent, and no note

@@ -3,8 +3,8 @@
 ghost use Rattle.std.specs.Prelude.{◌≡◌, Some, MatchOption, slice_get, slice_set};
 ghost use Rattle.cmh_cluster3.specs.Sites.{IsDown};
 
-use cmh_log3::SegmentFile;
 use cmh_node3::Node;
+use cmh_station3::SegmentFile;
 
 /// The site at a place, if it runs.
 pub(crate) fn node_at<F: SegmentFile>(nodes: &[Option<Node<F>>], place: usize) -> Option<&Node<F>>

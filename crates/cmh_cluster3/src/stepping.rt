@@ -9,9 +9,9 @@ ghost use Rattle.cmh_node3.specs.Steps.{IsOwn};
 ghost use Rattle.cmh_talk3.specs.Answers.{Answers, standing_of};
 
 use crate::reply::ClusterReply;
-use cmh_log3::SegmentFile;
 use cmh_model3::{Event, ProcId, Targets};
 use cmh_node3::{Node, NotStepped, StepFault};
+use cmh_station3::SegmentFile;
 use cmh_talk3::{
     Deed, EventReply, Figures, Question, Reply, answer_question, reply_of, reply_of_none,
 };

@@ -13,8 +13,8 @@ use Rattle.cmh_segment3.specs.declared.base.Base.{Base}
 use Rattle.cmh_segment3.specs.declared.links.LinkState.{LinkState}
 use Rattle.cmh_segment3.specs.declared.segment.Segment.{Segment}
 use Rattle.cmh_audit3.specs.Set.{IsSet, begins_world, has_site, is_empty_base, is_known, is_of_world, lacks_site, sites_in}
-use Rattle.cmh_parts3.specs.Links.{between, got_from, acked_to, kept_for, links_of, under_way}
-use Rattle.cmh_parts3.specs.Worlds.{state_at, world_of}
+use Rattle.cmh_history3.specs.Between.{between, got_from, acked_to, kept_for, links_of, under_way}
+use Rattle.cmh_history3.specs.Worlds.{state_at, world_of}
 
 -- ---- each segment begins the world
 

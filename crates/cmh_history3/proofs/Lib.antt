@@ -1,3 +1,13 @@
-pub mod Taking
+pub mod Agreed
 pub mod Beginning
+pub mod Elsewhere
+pub mod Ends
+pub mod Following
+pub mod Leading
+pub mod Queueing
 pub mod Reading
+pub mod Rows
+pub mod Standing
+pub mod Taking
+pub mod Turning
+pub mod Waiting

@@ -7,8 +7,8 @@ use Rattle.cmh_epochs3.specs.Laws.{IsRunFrom, RunsBeginAtFirst, World}
 use Rattle.cmh_topology3.specs.Topology.{Topology, site_of}
 use Rattle.cmh_segment3.specs.Base.{IsBase}
 use Rattle.cmh_segment3.specs.declared.segment.Segment.{Segment}
-use Rattle.cmh_parts3.specs.Set.{IsEpochSet}
-use Rattle.cmh_chain3.specs.Chains.{AreOneRun, IsReadEpoch}
+use Rattle.cmh_history3.specs.EpochSet.{IsEpochSet}
+use Rattle.cmh_history3.specs.Chains.{AreOneRun, IsReadEpoch}
 use Rattle.cmh_history3.specs.Epochs.{AreEpochs, behind, followed, left_behind, open_in, standing, standing_in, without_entries}
 use Rattle.cmh_history3.specs.Histories.{AreOfOneRun, AreReadBases}
 use Rattle.cmh_history3.specs.Inner.Sets.{BeginWorld}

@@ -8,8 +8,8 @@ use Rattle.cmh_topology3.specs.Topology.{Topology, site_of}
 use Rattle.cmh_segment3.specs.Base.{IsBase}
 use Rattle.cmh_segment3.specs.declared.segment.Segment.{Segment}
 use Rattle.cmh_audit3.specs.Set.{IsSet}
-use Rattle.cmh_chain3.specs.Chains.{epoch_of, steps_in}
-use Rattle.cmh_chain3.specs.Findings.{IsApart, IsRefused}
+use Rattle.cmh_history3.specs.Chains.{epoch_of, steps_in}
+use Rattle.cmh_history3.specs.Findings.{IsApart, IsRefused}
 use Rattle.cmh_history3.specs.Epochs.{AreEpochs}
 use Rattle.cmh_history3.specs.declared.verdict.HistoryVerdict.{HistoryVerdict}
 use Rattle.cmh_history3.specs.declared.verdict.HistoryVerdict.TheVariants.{Accepted, Refused, Apart}

@@ -1,5 +1,14 @@
-pub mod Journals
+pub mod Between
+pub mod Chains
+pub mod EpochSet
 pub mod Epochs
+pub mod Findings
+pub mod Follows
 pub mod Histories
-pub mod Parts
 pub mod Inner
+pub mod Journals
+pub mod Parts
+pub mod Says
+pub mod Turns
+pub mod Verdicts
+pub mod Worlds

@@ -4,7 +4,7 @@ use Rattle.std.specs.Bool.{nat_lt}
 use Rattle.cmh_topology3.specs.Topology.{Topology}
 use Rattle.cmh_segment3.specs.declared.head.Header.{Header}
 use Rattle.cmh_segment3.specs.declared.segment.Segment.{Segment}
-use Rattle.cmh_chain3.specs.Chains.{AreOneRun}
+use Rattle.cmh_history3.specs.Chains.{AreOneRun}
 use Rattle.cmh_history3.specs.Epochs.{AreEpochs}
 
 -- The base of a segment stands for the epoch: the segment is of it, or it is the next one, and the site jumped over it.

@@ -2,18 +2,18 @@
 
 ghost use Rattle.std.specs.Prelude.{◌↔◌, IfOk, IsTrue};
 ghost use Rattle.std.specs.List.{All, AllByRecursion};
-ghost use Rattle.cmh_chain3.specs.Chains.{IsReadEpoch};
-ghost use Rattle.cmh_chain3.specs.Findings.{Finds};
-ghost use Rattle.cmh_parts3.specs.Set.{IsEpochSet};
+ghost use Rattle.cmh_history3.specs.Chains.{IsReadEpoch};
+ghost use Rattle.cmh_history3.specs.Findings.{Finds};
+ghost use Rattle.cmh_history3.specs.EpochSet.{IsEpochSet};
 ghost use Rattle.cmh_history3.specs.Epochs.{AreEpochs};
 ghost use Rattle.cmh_history3.specs.Histories.{AreReadBases};
 ghost use Rattle.cmh_history3.specs.Parts.{BeginsWith};
 
+use crate::chain::{ChainVerdict, audit_chain};
 use crate::epochs::epochs_of;
 use crate::journal::Journal;
 use crate::verdict::{HistoryFault, check_epoch};
 use cmh_audit3::SetFault;
-use cmh_chain3::{ChainVerdict, audit_chain};
 use cmh_segment3::{Rows, Segment};
 use cmh_topology3::Topology;
 use cmh_wire3::Epoch;

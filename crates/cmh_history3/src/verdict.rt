@@ -2,18 +2,18 @@
 
 ghost use Rattle.std.specs.Prelude.{◌≡◌, IfOk, List, Some, slice_get};
 ghost use Rattle.std.specs.List.{All, AllByRecursion};
-ghost use Rattle.cmh_chain3.specs.Chains as chain;
-ghost use Rattle.cmh_parts3.specs.Set.{IsEpochSet};
+ghost use Rattle.cmh_history3.specs.Chains as chain;
+ghost use Rattle.cmh_history3.specs.EpochSet.{IsEpochSet};
 ghost use Rattle.cmh_segment3.specs.declared.segment.Segment as segment;
 ghost use Rattle.cmh_history3.specs.Histories.{AreReadBases, FindsIn};
 ghost use Rattle.cmh_history3.specs.Inner.Sets.{BeginWorld};
 
+use crate::chain::{ChainVerdict, audit_chain};
+use crate::epoch_set::are_of_epoch;
 use crate::epochs::epochs_of;
 use crate::journal::Journal;
 use cmh_audit3::{AuditMemory, SetFault, check_set, check_world};
-use cmh_chain3::{ChainVerdict, audit_chain};
 use cmh_epochs3::first_law;
-use cmh_parts3::are_of_epoch;
 use cmh_segment3::{Rows, Segment};
 use cmh_topology3::Topology;
 use cmh_wire3::Epoch;

@@ -1,3 +1,10 @@
+pub mod Cutting
 mod FileLemmas
-mod ReadLemmas
+pub mod Furthest
 mod JournalLemmas
+pub mod Keeping
+pub mod Places
+mod ReadLemmas
+pub mod SegmentFiles
+pub mod Sites
+pub mod TwoReads

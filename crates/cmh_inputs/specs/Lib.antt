@@ -1,5 +1,9 @@
+pub mod BetweenReads
 pub mod Editions
-pub mod Stored
-pub mod Reading
 pub mod FileFaults
+pub mod Furthest
+pub mod Inner
+pub mod Reading
 pub mod Readings
+pub mod Stored
+pub mod TwoReads

@@ -13,12 +13,6 @@ pub record HaveFault (fault : JournalFault) (bytes : List ℕ) : Type 0 where
   pub first : IsFault bytes fault
   pub named : fault ≢ Memory
 
--- the bytes are no journal of any edition
-pub record AreNoJournal (bytes : List ℕ) : Type 0 where
-  pub fault : JournalFault
-  pub has : HaveFault fault bytes
-  pub no_segment : ¬ BeginsSegment bytes
-
 -- A beginning of the file was read, since that shows what is wrong with all of it: it is no segment, and its first fault
 -- as a journal is that of what was read.
 pub record IsRefusedBy (file bytes : List ℕ) : Type 0 where

@@ -2,7 +2,7 @@
 use Rattle.std.specs.Prelude.{◌≡◌, ℕ, ◌-◌, ◌<◌, ◌≤◌, ◌⊎◌, ⊤, List, [], length, take, slice_index_or, Option, Some}
 use Rattle.cmh_files.specs.Readings.{HaveNoStop, IsStopOf, file_at}
 use Rattle.cmh_files.specs.Stops.{length_at}
-use Rattle.cmh_inputs.specs.Reading.{AreNoJournal, HasNoFile, HasNoJournal, IsReadAt}
+use Rattle.cmh_inputs.specs.Reading.{HasNoFile, HasNoJournal, IsReadAt}
 use Rattle.cmh_inputs.specs.Stored.{Stored}
 use Rattle.cmh_inputs.specs.declared.reading.TheConstants.{LONGEST_TOPOLOGY}
 use Rattle.cmh_inputs.specs.declared.file_fault.FileFault.{FileFault}
@@ -15,12 +15,6 @@ path_at paths i = slice_index_or paths i []
 pub record AreJournalsAt (stored : Stored) (paths files : List (List ℕ)) : Type 0 where
   pub count : length files ≡ length paths
   pub each : (i : ℕ) → i < length paths → IsReadAt stored (path_at paths i) (file_at files i)
-
--- one of the files is no journal of any edition
-pub record OneIsFaulty (files : List (List ℕ)) : Type 0 where
-  pub place : ℕ
-  pub inside : place < length files
-  pub none : AreNoJournal (file_at files place)
 
 -- where the files are told, the bytes are those of the topology file at its path and of the journals at theirs
 pub record AreFilesAt (stored : Stored) (topology_path : List ℕ) (paths : List (List ℕ)) (topology : List ℕ)

@@ -1,7 +1,7 @@
 //! The files of the disk.
 
 use crate::inputs::{InputFile, Inputs, NotRead};
-use cmh_folder3::newest_segment;
+use cmh_play3::newest_segment;
 use std::alloc::AllocError;
 use std::fs::Metadata;
 use std::io::{ErrorKind, Read};

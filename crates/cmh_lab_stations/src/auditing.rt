@@ -1,5 +1,6 @@
 //! Audits of what sinks hold.
 
+use crate::answer::{Answer, Unanswered};
 use crate::making::word;
 use crate::object::{Objects, bytes, topology};
 use crate::telling::put_lines;
@@ -8,7 +9,6 @@ use cmh_console::Words;
 use cmh_files::VerdictText;
 use cmh_frames::Topology;
 use cmh_journal::{StoredJournal, Tail, read_stored};
-use cmh_lab_lines::{Answer, Unanswered};
 use std::alloc::Global;
 use std::sync::Wait;
 

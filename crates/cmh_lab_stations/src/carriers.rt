@@ -1,10 +1,11 @@
 //! Connections in memory.
 
+use crate::answer::{Answer, Unanswered};
 use crate::making::word;
 use crate::object::{Object, Objects};
+use crate::reading::{bytes_of, number, size};
 use cmh_carriers::{Incoming, MemIncoming, MemOutgoing, Outgoing};
 use cmh_console::Words;
-use cmh_lab_lines::{Answer, Unanswered, bytes_of, number, size};
 use std::alloc::Global;
 use std::sync::Wait;
 

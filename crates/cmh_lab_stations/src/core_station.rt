@@ -4,13 +4,13 @@ ghost use Rattle.std.specs.Prelude.{◌≡◌, ◌<◌, ◌-◌, ◌^◌, [], fa
 ghost use Rattle.cmh_reader.specs.Reader.{StandsFor};
 ghost use Rattle.cmh_lab_stations.specs.Disks.{failures_of};
 
+use crate::answer::{Answer, Unanswered};
 use crate::disk::Disk;
 use crate::stepping::{Stepping, Steps, call_stepping, look};
 use crate::taps::take_from;
 use cmh_carriers::MemIncoming;
 use cmh_console::Words;
 use cmh_frames::{Event, Frame, Outcome, SiteId, Topology};
-use cmh_lab_lines::{Answer, Unanswered};
 use cmh_links::{Lent, ReaderEnd, SharedLinks, run_reader};
 use cmh_reader::FrameReader;
 use cmh_station::{JournaledController, LinkTap, StationRefusal};

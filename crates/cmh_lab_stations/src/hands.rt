@@ -3,13 +3,14 @@
 ghost use Rattle.std.specs.Prelude.{◌≡◌, ◌<◌, ◌-◌, ◌^◌, None, [], false};
 ghost use Rattle.cmh_reader.specs.Reader.{StandsFor};
 
+use crate::answer::{Answer, Unanswered};
 use crate::making::word;
 use crate::object::{Object, Objects};
+use crate::reading::{frame, number, size};
 use crate::telling::refusal_of;
 use cmh_carriers::MemIncoming;
 use cmh_console::Words;
 use cmh_frames::{Frame, SiteId};
-use cmh_lab_lines::{Answer, Unanswered, frame, number, size};
 use cmh_links::{FrameSource, Handover, Next, ReaderEnd, SharedLinks, run_reader};
 use cmh_reader::FrameReader;
 use cmh_station::StationRefusal;

@@ -1,11 +1,11 @@
 //! What is left of a station that has ended or was not made.
 
+use crate::answer::{Answer, Unanswered};
 use crate::disk::Disk;
 use crate::station::read_one;
 use crate::stepping::look;
 use cmh_console::Words;
 use cmh_journal::Journal;
-use cmh_lab_lines::{Answer, Unanswered};
 use cmh_station::BoardReader;
 
 /// The journal and the sink, where they came back, and the readers of the board.

@@ -3,14 +3,15 @@
 ghost use Rattle.std.specs.Prelude.{◌≡◌, [], false};
 ghost use Rattle.cmh_reader.specs.Reader.{StandsFor};
 
+use crate::answer::{Answer, Unanswered};
 use crate::carriers::Taking;
 use crate::hands::Frames;
 use crate::making::word;
 use crate::object::{Object, Objects, topology};
+use crate::reading::{edition, number, senders};
 use cmh_carriers::{Incoming, MemIncoming, Outgoing};
 use cmh_console::Words;
 use cmh_frames::{Edition, SiteId};
-use cmh_lab_lines::{Answer, Unanswered, edition, number, senders};
 use cmh_links::{LinkFault, LinkState, LinkTable, ReaderEnd, SharedLinks, run_writer};
 use cmh_reader::FrameReader;
 use std::alloc::Global;

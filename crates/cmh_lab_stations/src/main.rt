@@ -4,27 +4,32 @@
 //! (`still`) a hundred times more, so that a count of allocations shows whether it takes none.
 #![tactic(auto)]
 
+mod answer;
 mod auditing;
 mod carriers;
 mod core_station;
 mod disk;
 mod hands;
+mod lab;
 mod left;
 mod links;
 mod making;
 mod noting;
 mod object;
 mod questions;
+mod reading;
 mod shared;
+mod slots;
 mod station;
 mod stepping;
 mod taps;
 mod telling;
 
+use crate::answer::{Answer, Unanswered};
+use crate::lab::{Lab, run_lab};
 use crate::making::word;
 use crate::object::{Object, Objects};
 use cmh_console::{Input, Output, Words};
-use cmh_lab_lines::{Answer, Lab, Unanswered, run_lab};
 use std::alloc::Global;
 use std::io::{BufReader, BufWriter};
 use std::process::ExitCode;

@@ -3,16 +3,17 @@
 ghost use Rattle.std.specs.Prelude.{◌≡◌, ◌≤◌, IfOk};
 ghost use Rattle.cmh_lab_stations.specs.Disks.{failures_of};
 
+use crate::answer::{Answer, Unanswered};
 use crate::core_station::open_core;
 use crate::disk::Disk;
 use crate::left::Left;
 use crate::object::{Object, Objects, topology};
+use crate::reading::{bytes_of, edition, number, rows, size};
 use crate::station::{NewStation, open};
 use crate::telling::put_refusal;
 use cmh_console::Words;
 use cmh_frames::Topology;
 use cmh_journal::{FuseSink, MemSink, Sink};
-use cmh_lab_lines::{Answer, Unanswered, bytes_of, edition, number, rows, size};
 use cmh_station::StationRefusal;
 use std::alloc::Global;
 use std::sync::Wait;

@@ -1,12 +1,13 @@
 //! What a site notices, as lines, and how many of them are told in a second.
 
+use crate::answer::{Answer, Unanswered};
 use crate::links::{fault_of, state_of};
 use crate::making::word;
 use crate::object::{Object, Objects};
+use crate::reading::number;
 use cmh_carriers::{Meter, Note, Noted, Origin};
 use cmh_console::Words;
 use cmh_frames::SiteId;
-use cmh_lab_lines::{Answer, Unanswered, number};
 use std::sync::Wait;
 
 fn site(words: &mut Words<'_>) -> Result<SiteId, Unanswered> {

@@ -1,14 +1,15 @@
 //! The objects of this laboratory.
 
+use crate::answer::Unanswered;
 use crate::carriers::Taking;
 use crate::core_station::Core;
 use crate::hands::{Frames, Hands};
 use crate::left::Left;
 use crate::shared::Shared;
+use crate::slots::Slots;
 use crate::station::Opened;
 use cmh_carriers::{MemIncoming, Meter};
 use cmh_frames::Topology;
-use cmh_lab_lines::{Slots, Unanswered};
 use cmh_links::SharedLinks;
 use std::sync::Wait;
 

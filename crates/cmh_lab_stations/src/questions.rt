@@ -1,11 +1,12 @@
 //! Questions to a station, which change nothing.
 
+use crate::answer::{Answer, Unanswered};
 use crate::disk::Disk;
 use crate::making::word;
+use crate::reading::event;
 use crate::telling::{put_processes, put_refusal};
 use cmh_console::Words;
 use cmh_frames::ProcId;
-use cmh_lab_lines::{Answer, Unanswered, event};
 use cmh_station::{Listing, Station, StationRefusal};
 use std::alloc::Global;
 

@@ -3,6 +3,7 @@
 ghost use Rattle.std.specs.Prelude.{◌≤◌, length};
 ghost use Rattle.cmh_station.specs.Journaled.{batch_limit};
 
+use crate::answer::{Answer, Unanswered};
 use crate::disk::Disk;
 use crate::left::Left;
 use crate::object::Object;
@@ -12,7 +13,6 @@ use crate::taps::parking_to;
 use crate::telling::put_refusal;
 use cmh_console::Words;
 use cmh_frames::{Event, Frame, Outcome, SiteId};
-use cmh_lab_lines::{Answer, Unanswered};
 use cmh_station::{BoardReader, KeptBoard, ParkingTap, SharedStation, StationRefusal};
 use std::alloc::Global;
 use std::sync::Wait;

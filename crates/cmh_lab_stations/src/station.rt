@@ -4,6 +4,7 @@ ghost use Rattle.std.specs.Prelude.{◌≡◌, ◌≤◌};
 ghost use Rattle.std.specs.Option.{option_map};
 ghost use Rattle.cmh_lab_stations.specs.Disks.{failures_of};
 
+use crate::answer::{Answer, Unanswered};
 use crate::disk::Disk;
 use crate::left::Left;
 use crate::object::Object;
@@ -14,7 +15,6 @@ use crate::taps::take_from;
 use crate::telling::{put_processes, put_refusal};
 use cmh_console::Words;
 use cmh_frames::{Event, Frame, Outcome, SiteId, Topology};
-use cmh_lab_lines::{Answer, Unanswered};
 use cmh_station::{BoardReader, KeptBoard, LinkTap, Station, StationRefusal, Told};
 use std::alloc::Global;
 use std::marker::Model;

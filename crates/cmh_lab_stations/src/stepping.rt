@@ -3,12 +3,13 @@
 ghost use Rattle.std.specs.Prelude.{◌≤◌, length};
 ghost use Rattle.cmh_station.specs.Journaled.{batch_limit};
 
+use crate::answer::{Answer, Unanswered};
 use crate::disk::Disk;
+use crate::reading::{event, size};
 use crate::telling::{put_entries, put_step, put_steps};
 use cmh_console::{Words, number};
 use cmh_frames::{Entry, Event, Frame, Outcome, ProcId, SiteId, Targets};
 use cmh_journal::Sink;
-use cmh_lab_lines::{Answer, Unanswered, event, size};
 use cmh_station::{BATCH_LIMIT, StationRefusal};
 use std::alloc::Global;
 

@@ -1,10 +1,11 @@
 //! What calls of stations answer.
 
+use crate::answer::{Answer, Unanswered};
+use crate::reading::number;
 use cmh_console::Words;
 use cmh_controller::Refusal;
 use cmh_files::EntryText;
 use cmh_frames::{Entry, Frame, Outcome, ProcId, SiteId};
-use cmh_lab_lines::{Answer, Unanswered, number};
 use cmh_station::StationRefusal;
 
 /// `refused` and the number.

@@ -2,7 +2,7 @@
 use Rattle.std.proofs.Common.{◌≡◌, ℕ, Bool, List, [], ◌++◌, Option, sym, subst, append_assoc, append-nil}
 use Rattle.cmh_model3.specs.Entries.{Entry as Step}
 use Rattle.cmh_model3.specs.declared.frame.Message.{Message}
-use Rattle.cmh_log3.specs.Files.{Held}
+use Rattle.cmh_station3.specs.Files.{Held}
 use Rattle.cmh_node3.specs.Nodes.{IsExact, Node, StaysExact}
 use Rattle.cmh_node3.specs.Steps.{NotTakes, Takes}
 use Rattle.cmh_node3.specs.declared.receiving.NotTaken.{NotTaken}

@@ -4,15 +4,15 @@ use Rattle.std.proofs.Math.Seq.{take-add}
 use Rattle.std.proofs.lemmas.Grind.{flat_map-append}
 use Rattle.std.proofs.lemmas.List.{length-append, take-append-drop}
 use Rattle.byteorder.specs.Endian.{big_bytes}
-use Rattle.cmh_hello3.specs.Hello.{IsHelloFront, IsReplyFront}
-use Rattle.cmh_hello3.specs.Stream.{IsAcknowledgementFront}
-use Rattle.cmh_hello3.specs.declared.acknowledgement.Acknowledgement.{Acknowledgement}
-use Rattle.cmh_hello3.specs.declared.acknowledgement.AcknowledgementFront.TheVariants as Said
-use Rattle.cmh_hello3.specs.declared.answer.Answer.{Answer}
-use Rattle.cmh_hello3.specs.declared.answer.ReplyFront.TheVariants as Reply
-use Rattle.cmh_hello3.specs.declared.hello.Hello.{Hello}
-use Rattle.cmh_hello3.specs.declared.hello.HelloFront.TheVariants as Hi
-use Rattle.cmh_hello3.specs.declared.refusal.Refusal.{Refusal}
+use Rattle.cmh_resume3.specs.Hello.{IsHelloFront, IsReplyFront}
+use Rattle.cmh_resume3.specs.Stream.{IsAcknowledgementFront}
+use Rattle.cmh_resume3.specs.declared.acknowledgement.Acknowledgement.{Acknowledgement}
+use Rattle.cmh_resume3.specs.declared.acknowledgement.AcknowledgementFront.TheVariants as Said
+use Rattle.cmh_resume3.specs.declared.answer.Answer.{Answer}
+use Rattle.cmh_resume3.specs.declared.answer.ReplyFront.TheVariants as Reply
+use Rattle.cmh_resume3.specs.declared.hello.Hello.{Hello}
+use Rattle.cmh_resume3.specs.declared.hello.HelloFront.TheVariants as Hi
+use Rattle.cmh_resume3.specs.declared.refusal.Refusal.{Refusal}
 use Rattle.cmh_model3.specs.declared.frame.Message.{Message}
 use Rattle.cmh_wire3.specs.Wire.{spelled, spelling}
 

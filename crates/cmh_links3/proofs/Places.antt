@@ -3,7 +3,7 @@ use Rattle.std.proofs.Common.{◌≡◌, ◌≢◌, ℕ, Bool, List, length, Opt
 use Rattle.std.proofs.lemmas.List.{length-set}
 use Rattle.cmh_model3.specs.Entries.{Entry as Step}
 use Rattle.cmh_model3.specs.declared.frame.Message.{Message}
-use Rattle.cmh_log3.specs.Files.{Held}
+use Rattle.cmh_station3.specs.Files.{Held}
 use Rattle.cmh_resume3.specs.Receiver.{Receiver}
 use Rattle.cmh_resume3.specs.Sender.{Sender}
 use Rattle.cmh_peers3.specs.Changes.{ChangesInto, ChangesOut}

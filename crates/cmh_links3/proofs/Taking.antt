@@ -2,14 +2,14 @@
 use Rattle.std.proofs.Common.{◌≡◌, ◌≢◌, ℕ, suc, ◌<◌, ◌≤◌, Bool, List, [], length, take, drop, Option, Some, refl, sym, ap, ◌∙◌, subst, inl, inr, arith}
 use Rattle.cmh_model3.specs.declared.frame.Message.{Message}
 use Rattle.cmh_wire3.specs.Wire.{spelled}
-use Rattle.cmh_hello3.specs.Hello.{IsReplyFront}
-use Rattle.cmh_hello3.specs.Stream.{IsAcknowledgementFront, IsItemFront, item_spelling}
-use Rattle.cmh_hello3.specs.declared.item.Item.TheVariants as item
-use Rattle.cmh_hello3.specs.declared.item.ItemFront.TheVariants.{Whole}
-use Rattle.cmh_hello3.specs.declared.refusal.Mismatch.{Mismatch}
-use Rattle.cmh_hello3.specs.declared.acknowledgement.AcknowledgementFront.TheVariants as Said
-use Rattle.cmh_hello3.specs.declared.answer.ReplyFront.TheVariants as Reply
-use Rattle.cmh_log3.specs.Files.{Held}
+use Rattle.cmh_resume3.specs.Hello.{IsReplyFront}
+use Rattle.cmh_resume3.specs.Stream.{IsAcknowledgementFront, IsItemFront, item_spelling}
+use Rattle.cmh_resume3.specs.declared.item.Item.TheVariants as item
+use Rattle.cmh_resume3.specs.declared.item.ItemFront.TheVariants.{Whole}
+use Rattle.cmh_resume3.specs.declared.refusal.Mismatch.{Mismatch}
+use Rattle.cmh_resume3.specs.declared.acknowledgement.AcknowledgementFront.TheVariants as Said
+use Rattle.cmh_resume3.specs.declared.answer.ReplyFront.TheVariants as Reply
+use Rattle.cmh_station3.specs.Files.{Held}
 use Rattle.cmh_node3.specs.Changes.{Tells}
 use Rattle.cmh_node3.specs.Nodes.{Node, epoch_of}
 use Rattle.cmh_links3.specs.Connections.{Incoming, Outgoing, with_unread}

@@ -1,16 +1,16 @@
 -- A later epoch, of which a site hears on a link.
 use Rattle.std.specs.Prelude.{◌≡◌, ℕ, ◌+◌, ◌^◌, ◌/◌, ◌<◌, ◌≤◌, Bool, true, false, List, Option, None, Some}
-use Rattle.cmh_hello3.specs.Hello.{IsHelloFront, IsReplyFront}
-use Rattle.cmh_hello3.specs.Stream.{IsAcknowledgementFront, IsItemFront}
-use Rattle.cmh_hello3.specs.declared.acknowledgement.Acknowledgement.{Acknowledgement}
-use Rattle.cmh_hello3.specs.declared.acknowledgement.AcknowledgementFront.TheVariants as Said
-use Rattle.cmh_hello3.specs.declared.answer.Answer.{Answer}
-use Rattle.cmh_hello3.specs.declared.answer.ReplyFront.TheVariants as Reply
-use Rattle.cmh_hello3.specs.declared.hello.Hello.{Hello}
-use Rattle.cmh_hello3.specs.declared.hello.HelloFront.TheVariants as Front
-use Rattle.cmh_hello3.specs.declared.item.Item.{Item}
-use Rattle.cmh_hello3.specs.declared.item.Item.TheVariants.{Message as Sent, Note, Refused}
-use Rattle.cmh_hello3.specs.declared.item.ItemFront.TheVariants.{Whole}
+use Rattle.cmh_resume3.specs.Hello.{IsHelloFront, IsReplyFront}
+use Rattle.cmh_resume3.specs.Stream.{IsAcknowledgementFront, IsItemFront}
+use Rattle.cmh_resume3.specs.declared.acknowledgement.Acknowledgement.{Acknowledgement}
+use Rattle.cmh_resume3.specs.declared.acknowledgement.AcknowledgementFront.TheVariants as Said
+use Rattle.cmh_resume3.specs.declared.answer.Answer.{Answer}
+use Rattle.cmh_resume3.specs.declared.answer.ReplyFront.TheVariants as Reply
+use Rattle.cmh_resume3.specs.declared.hello.Hello.{Hello}
+use Rattle.cmh_resume3.specs.declared.hello.HelloFront.TheVariants as Front
+use Rattle.cmh_resume3.specs.declared.item.Item.{Item}
+use Rattle.cmh_resume3.specs.declared.item.Item.TheVariants.{Message as Sent, Note, Refused}
+use Rattle.cmh_resume3.specs.declared.item.ItemFront.TheVariants.{Whole}
 
 -- the epoch of a clock, which is its upper half
 abbrev pub epoch_in : ℕ → ℕ

@@ -1,7 +1,7 @@
 -- How a site's journal grows while its connections are served.
 use Rattle.std.specs.Prelude.{Bool, List, ◌++◌, Option}
 use Rattle.cmh_model3.specs.Entries.{Entry as Step}
-use Rattle.cmh_log3.specs.Files.{Held}
+use Rattle.cmh_station3.specs.Files.{Held}
 use Rattle.cmh_node3.specs.Nodes.{IsExact, Node}
 
 module _ {File : Type 0} (told : File → Option Held) (has_failed : File → Bool) where

@@ -2,19 +2,19 @@
 use Rattle.std.specs.Prelude.{◌≡◌, ◌≢◌, ◌↔◌, ◌⊎◌, ℕ, ◌-◌, ◌<◌, ◌≤◌, Bool, true, false, List, [], ◌++◌, length, drop, ⊤, Option, None, Some}
 use Rattle.cmh_model3.specs.declared.frame.Message.{Message}
 use Rattle.cmh_wire3.specs.Wire.{spelled}
-use Rattle.cmh_hello3.specs.Hello.{IsHelloFront, IsShortHello, answer_spelling, refusal_spelling}
-use Rattle.cmh_hello3.specs.Stream.{IsItemFront, IsShortItem, acknowledgement_spelling, item_spelling}
-use Rattle.cmh_hello3.specs.declared.acknowledgement.Acknowledgement.{Acknowledgement}
-use Rattle.cmh_hello3.specs.declared.hello.Hello.{Hello}
-use Rattle.cmh_hello3.specs.declared.hello.HelloFront.{HelloFront}
-use Rattle.cmh_hello3.specs.declared.hello.HelloFront.TheVariants as Front
-use Rattle.cmh_hello3.specs.declared.item.Item.TheVariants.{Message as Said, Note, Refused}
-use Rattle.cmh_hello3.specs.declared.item.ItemFront.{ItemFront}
-use Rattle.cmh_hello3.specs.declared.item.ItemFront.TheVariants.{Whole, Short, Bad}
-use Rattle.cmh_hello3.specs.declared.refusal.Mismatch.{Mismatch}
-use Rattle.cmh_hello3.specs.declared.refusal.Refusal.{Refusal}
-use Rattle.cmh_hello3.specs.declared.refusal.Refusal.TheVariants.{OtherEdition}
-use Rattle.cmh_log3.specs.Files.{Held}
+use Rattle.cmh_resume3.specs.Hello.{IsHelloFront, IsShortHello, answer_spelling, refusal_spelling}
+use Rattle.cmh_resume3.specs.Stream.{IsItemFront, IsShortItem, acknowledgement_spelling, item_spelling}
+use Rattle.cmh_resume3.specs.declared.acknowledgement.Acknowledgement.{Acknowledgement}
+use Rattle.cmh_resume3.specs.declared.hello.Hello.{Hello}
+use Rattle.cmh_resume3.specs.declared.hello.HelloFront.{HelloFront}
+use Rattle.cmh_resume3.specs.declared.hello.HelloFront.TheVariants as Front
+use Rattle.cmh_resume3.specs.declared.item.Item.TheVariants.{Message as Said, Note, Refused}
+use Rattle.cmh_resume3.specs.declared.item.ItemFront.{ItemFront}
+use Rattle.cmh_resume3.specs.declared.item.ItemFront.TheVariants.{Whole, Short, Bad}
+use Rattle.cmh_resume3.specs.declared.refusal.Mismatch.{Mismatch}
+use Rattle.cmh_resume3.specs.declared.refusal.Refusal.{Refusal}
+use Rattle.cmh_resume3.specs.declared.refusal.Refusal.TheVariants.{OtherEdition}
+use Rattle.cmh_station3.specs.Files.{Held}
 use Rattle.cmh_node3.specs.Changes.{Admits, Ends, RefusesHello, Says, Tells}
 use Rattle.cmh_node3.specs.Nodes.{AtPlace, Node, epoch_of}
 use Rattle.cmh_node3.specs.Steps.{NotTakes, Takes}

@@ -3,17 +3,17 @@
 use Rattle.std.specs.Prelude.{◌≡◌, ◌≢◌, ◌⊎◌, ℕ, zero, suc, ◌<◌, ◌≤◌, true, false, List, [], ◌∷◌, ◌++◌, length, drop, Option, None, Some}
 use Rattle.cmh_model3.specs.declared.frame.Message.{Message}
 use Rattle.cmh_wire3.specs.Wire.{spelled}
-use Rattle.cmh_hello3.specs.Hello.{IsReplyFront, hello_spelling}
-use Rattle.cmh_hello3.specs.Stream.{IsAcknowledgementFront, item_spelling}
-use Rattle.cmh_hello3.specs.declared.acknowledgement.AcknowledgementFront.{AcknowledgementFront}
-use Rattle.cmh_hello3.specs.declared.acknowledgement.AcknowledgementFront.TheVariants as Said
-use Rattle.cmh_hello3.specs.declared.answer.ReplyFront.{ReplyFront}
-use Rattle.cmh_hello3.specs.declared.answer.ReplyFront.TheVariants as Reply
-use Rattle.cmh_hello3.specs.declared.answer.Answer.{Answer}
-use Rattle.cmh_hello3.specs.declared.hello.Hello.{Hello}
-use Rattle.cmh_hello3.specs.declared.refusal.Refusal.{Refusal}
-use Rattle.cmh_hello3.specs.declared.refusal.Refusal.TheVariants.{Closed, Sealed}
-use Rattle.cmh_hello3.specs.declared.item.Item.TheVariants as item
+use Rattle.cmh_resume3.specs.Hello.{IsReplyFront, hello_spelling}
+use Rattle.cmh_resume3.specs.Stream.{IsAcknowledgementFront, item_spelling}
+use Rattle.cmh_resume3.specs.declared.acknowledgement.AcknowledgementFront.{AcknowledgementFront}
+use Rattle.cmh_resume3.specs.declared.acknowledgement.AcknowledgementFront.TheVariants as Said
+use Rattle.cmh_resume3.specs.declared.answer.ReplyFront.{ReplyFront}
+use Rattle.cmh_resume3.specs.declared.answer.ReplyFront.TheVariants as Reply
+use Rattle.cmh_resume3.specs.declared.answer.Answer.{Answer}
+use Rattle.cmh_resume3.specs.declared.hello.Hello.{Hello}
+use Rattle.cmh_resume3.specs.declared.refusal.Refusal.{Refusal}
+use Rattle.cmh_resume3.specs.declared.refusal.Refusal.TheVariants.{Closed, Sealed}
+use Rattle.cmh_resume3.specs.declared.item.Item.TheVariants as item
 use Rattle.cmh_peers3.specs.declared.happening.Action.{Action}
 use Rattle.cmh_peers3.specs.declared.happening.Action.TheVariants as act
 use Rattle.cmh_peers3.specs.declared.happening.Happening.{Happening}

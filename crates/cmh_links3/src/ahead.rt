@@ -5,14 +5,14 @@ ghost use Rattle.cmh_links3.specs.Ahead.{IsAheadOf, IsHeard, IsHeardBack, IsOfEp
 ghost use Rattle.cmh_links3.specs.Speaking.{IsOfPeer};
 ghost use Rattle.cmh_node3.specs.Nodes.{AtPlace};
 
-use cmh_hello3::{
-    AcknowledgementFront, Hello, HelloFront, Item, ItemFront, ReplyFront, decode_acknowledgement,
-    decode_hello, decode_item, decode_reply,
-};
-use cmh_log3::SegmentFile;
 use cmh_model3::Message;
 use cmh_node3::Node;
 use cmh_peers3::place_of;
+use cmh_resume3::{
+    AcknowledgementFront, Hello, HelloFront, Item, ItemFront, ReplyFront, decode_acknowledgement,
+    decode_hello, decode_item, decode_reply,
+};
+use cmh_station3::SegmentFile;
 use cmh_wire3::Epoch;
 
 /// How many epochs ahead of a site another one is at most. So no site comes to the last epoch at once.

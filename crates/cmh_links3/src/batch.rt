@@ -4,8 +4,8 @@ ghost use Rattle.std.specs.Prelude.{◌≡◌, IfOk};
 ghost use Rattle.cmh_links3.specs.Hearing.{IsBatch};
 
 use crate::ahead::epoch_of_message;
-use cmh_hello3::{Item, ItemFront, decode_item};
 use cmh_model3::Message;
+use cmh_resume3::{Item, ItemFront, decode_item};
 use cmh_wire3::Epoch;
 use std::alloc::{AllocError, Global};
 

@@ -1,9 +1,9 @@
 //! A connection that was accepted.
 
 ghost use Rattle.std.specs.Prelude.{◌≡◌, ℕ, ◌<◌, ◌≤◌, drop, length, true, false, None, IfOk, IfSome, OnErr, OnOk};
-ghost use Rattle.cmh_hello3.specs.Hello.{IsShortHello, refusal_spelling};
-ghost use Rattle.cmh_hello3.specs.Stream.{IsItemFront, IsShortItem};
-ghost use Rattle.cmh_hello3.specs.declared.item.Item.TheVariants as ItemType;
+ghost use Rattle.cmh_resume3.specs.Hello.{IsShortHello, refusal_spelling};
+ghost use Rattle.cmh_resume3.specs.Stream.{IsItemFront, IsShortItem};
+ghost use Rattle.cmh_resume3.specs.declared.item.Item.TheVariants as ItemType;
 ghost use Rattle.cmh_node3.specs.Nodes.{epoch_of};
 ghost use Rattle.cmh_links3.specs.Connections.{accepted, carries, closed, hears, with_unread};
 ghost use Rattle.cmh_links3.specs.Ahead.{IsAheadOf, IsHeard};
@@ -15,12 +15,12 @@ use crate::ahead::{epoch_of_hello, epoch_of_item, later_than};
 use crate::batch::batch_of;
 use crate::onward::Onward;
 use crate::unread::Unread;
-use cmh_hello3::{
-    Hello, HelloFront, Item, ItemFront, Refusal, decode_hello, decode_item, spell_refusal,
-};
-use cmh_log3::SegmentFile;
 use cmh_model3::Message;
 use cmh_node3::Node;
+use cmh_resume3::{
+    Hello, HelloFront, Item, ItemFront, Refusal, decode_hello, decode_item, spell_refusal,
+};
+use cmh_station3::SegmentFile;
 use cmh_wire3::Epoch;
 use std::alloc::{AllocError, Global};
 use std::marker::Model;

@@ -3,9 +3,9 @@
 ghost use Rattle.std.specs.Prelude.{◌≡◌, ◌≤◌, ◌<◌, ◌⊎◌, length, false, true, IfSome, OnErr, OnOk};
 ghost use Rattle.cmh_peers3.specs.declared.happening.Action.TheVariants.{Dial};
 ghost use Rattle.cmh_peers3.specs.declared.happening.Happening.TheVariants.{Passed};
-ghost use Rattle.cmh_hello3.specs.Hello.{IsReplyFront};
-ghost use Rattle.cmh_hello3.specs.Stream.{item_spelling};
-ghost use Rattle.cmh_hello3.specs.declared.item.Item.TheVariants as ItemType;
+ghost use Rattle.cmh_resume3.specs.Hello.{IsReplyFront};
+ghost use Rattle.cmh_resume3.specs.Stream.{item_spelling};
+ghost use Rattle.cmh_resume3.specs.declared.item.Item.TheVariants as ItemType;
 ghost use Rattle.cmh_node3.specs.Nodes.{AtPlace, epoch_of};
 ghost use Rattle.cmh_links3.specs.Ahead.{IsAheadOf, IsHeardBack};
 ghost use Rattle.cmh_links3.specs.Connections.{undialled};
@@ -15,13 +15,13 @@ ghost use Rattle.cmh_links3.specs.Speaking.{HearsAnswer, HearsStranger, SaidIfRo
 use crate::ahead::{epoch_of_acknowledgement, epoch_of_answer, is_of_peer, later_than};
 use crate::onward::Onward;
 use crate::unread::Unread;
-use cmh_hello3::{
+use cmh_node3::Node;
+use cmh_peers3::{Action, Happening};
+use cmh_resume3::{
     Acknowledgement, AcknowledgementFront, Answer, Hello, Refusal, ReplyFront,
     decode_acknowledgement, decode_reply, spell_mismatch, spell_note,
 };
-use cmh_log3::SegmentFile;
-use cmh_node3::Node;
-use cmh_peers3::{Action, Happening};
+use cmh_station3::SegmentFile;
 use cmh_wire3::{Epoch, encode};
 use std::alloc::{AllocError, Global};
 use std::marker::Model;

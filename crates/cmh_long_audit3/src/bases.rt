@@ -2,14 +2,13 @@
 
 use crate::journals::{count_until, journals_until, segments_of};
 use cmh_audit3::{AuditMemory, Verdict, audit, check_set};
+use cmh_bases3::base_of;
 use cmh_controller3::Controller;
 use cmh_files3::AuditFault;
-use cmh_history3::whole_journals;
+use cmh_history3::{Link, disagreement, messages_between, whole_journals};
 use cmh_model3::{Event, Message, SiteId};
-use cmh_parts3::{Link, disagreement, messages_between};
 use cmh_segment3::{Base, Rows, Segment};
 use cmh_topology3::Topology;
-use cmh_turns3::base_of;
 use cmh_wire3::Epoch;
 use std::alloc::{AllocError, Global};
 use std::fmt::Write;

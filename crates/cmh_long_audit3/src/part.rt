@@ -2,7 +2,7 @@
 
 ghost use Rattle.std.specs.Prelude.{◌≡◌, true, IfOk, map};
 ghost use Rattle.std.specs.List.{All};
-ghost use Rattle.cmh_chain3.specs.Chains.{IsReadEpoch};
+ghost use Rattle.cmh_history3.specs.Chains.{IsReadEpoch};
 ghost use Rattle.cmh_console.specs.Status.{IsStatus};
 ghost use Rattle.cmh_long_audit3.specs.Parts.{IsPartAccepted};
 
@@ -12,10 +12,9 @@ use crate::keeping::{Flaw, first_flawed};
 use crate::noted::Noted;
 use crate::part_report::part_report;
 use crate::part_text::{apart_lines, refused_part};
-use cmh_chain3::ChainVerdict;
 use cmh_console::{Fault, Output, read_topology_file3};
 use cmh_files3::AuditFault;
-use cmh_history3::{Part, audit_part};
+use cmh_history3::{ChainVerdict, Part, audit_part};
 use cmh_topology3::Topology;
 use cmh_wire3::Epoch;
 use std::alloc::Global;

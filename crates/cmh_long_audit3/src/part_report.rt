@@ -1,18 +1,17 @@
 //! The report on some epochs that are accepted.
 
 ghost use Rattle.std.specs.List.{All};
-ghost use Rattle.cmh_chain3.specs.Chains.{IsReadEpoch};
+ghost use Rattle.cmh_history3.specs.Chains.{IsReadEpoch};
 
 use crate::places::events_in;
-use cmh_chain3::verdict_on;
+use cmh_bases3::base_of;
 use cmh_controller3::Controller;
 use cmh_files3::AuditFault;
+use cmh_history3::{EpochVerdict, verdict_on};
 use cmh_merge::Queues;
 use cmh_model3::{Frame, Message, ProcId, SiteId, Stamp};
-use cmh_parts3::EpochVerdict;
 use cmh_segment3::{Base, Pair, Rows, Segment, Stamped, StampedPair};
 use cmh_topology3::Topology;
-use cmh_turns3::base_of;
 use std::alloc::{AllocError, Global};
 use std::fmt::Write;
 

@@ -1,7 +1,7 @@
 //! What an audit of some epochs writes where it refuses one.
 
 ghost use Rattle.std.specs.List.{All};
-ghost use Rattle.cmh_chain3.specs.Chains.{IsReadEpoch};
+ghost use Rattle.cmh_history3.specs.Chains.{IsReadEpoch};
 ghost use Rattle.cmh_segment3.specs.Base.{IsBase};
 
 use crate::auditing::{least_epoch, refused_text};
@@ -9,12 +9,11 @@ use crate::bases::write_sites;
 use crate::lines::stop_lines;
 use cmh_audit3::Stop;
 use cmh_bases3::controller_of;
-use cmh_chain3::verdict_on;
 use cmh_controller3::Refusal;
 use cmh_files3::AuditFault;
+use cmh_history3::{EpochVerdict, Link, messages_between, verdict_on};
 use cmh_merge::Queues;
 use cmh_model3::{Message, SiteId};
-use cmh_parts3::{EpochVerdict, Link, messages_between};
 use cmh_segment3::{Rows, Segment};
 use cmh_topology3::Topology;
 use cmh_wire3::Epoch;

@@ -14,10 +14,10 @@ use Rattle.cmh_model3.specs.Journals.{message_from, receipts_of}
 use Rattle.cmh_model3.specs.declared.event.Event.{Event}
 use Rattle.cmh_model3.specs.declared.event.Event.TheVariants.{Ask, Reply, Withdraw, Got, Turn}
 use Rattle.cmh_model3.specs.declared.frame.Message.{Message}
-use Rattle.cmh_machine3.specs.Machines.{site_of_machine}
-use Rattle.cmh_machine3.specs.Sites.{meaning_of}
-use Rattle.cmh_log3.specs.Files.{Held}
-use Rattle.cmh_log3.specs.Logs.{log_meaning}
+use Rattle.cmh_station3.specs.Machines.{site_of_machine}
+use Rattle.cmh_station3.specs.Sites.{meaning_of}
+use Rattle.cmh_station3.specs.Files.{Held}
+use Rattle.cmh_station3.specs.Logs.{log_meaning}
 use Rattle.cmh_node3.specs.Steps.{IsOwn, Station, accepted, entries_made, got_event}
 
 abbrev nothing : List Message

@@ -6,12 +6,12 @@ use Rattle.cmh_journaled.specs.Keepers.{unsent}
 use Rattle.cmh_journaled.specs.Steps.{HandedOver}
 use Rattle.cmh_model3.specs.Entries.{Entry as Step}
 use Rattle.cmh_topology3.specs.Topology.{Topology, sites_of}
-use Rattle.cmh_log3.specs.Files.{Held}
+use Rattle.cmh_station3.specs.Files.{Held}
 use Rattle.cmh_station3.specs.Opening.{Opened}
 use Rattle.cmh_segment3.specs.declared.links.LinkState.{LinkState}
 use Rattle.cmh_segment3.specs.Base.{IsLinkRow, link_place}
 use Rattle.cmh_segment3.specs.Rows.{AreRows}
-use Rattle.cmh_machine3.specs.declared.beginning.Beginning.{Beginning}
+use Rattle.cmh_station3.specs.declared.beginning.Beginning.{Beginning}
 use Rattle.cmh_peers3.specs.Links.{link_at, met_from}
 use Rattle.cmh_peers3.specs.Peers.{IsGiven, IsGivenPart, others as others_but}
 use Rattle.cmh_peers3.specs.declared.peer.Peer.{Peer}

@@ -6,11 +6,11 @@ use Rattle.std.proofs.lemmas.List.{get_or-map, length-map}
 use Rattle.std.proofs.lemmas.List.Kept.{AllPairs-from_increasing}
 use Rattle.cmh_model3.specs.Entries.{Entry as Step}
 use Rattle.cmh_model3.specs.Lists.{IsAscending}
-use Rattle.cmh_log3.specs.Files.{Held}
+use Rattle.cmh_station3.specs.Files.{Held}
 use Rattle.cmh_segment3.specs.declared.links.LinkState.{LinkState}
 use Rattle.cmh_segment3.specs.States.{base_of, stamp_of, state_in, turned_to}
 use Rattle.cmh_segment3.specs.declared.rows.Stamped.{Stamped}
-use Rattle.cmh_machine3.specs.declared.beginning.Beginning.{Beginning}
+use Rattle.cmh_station3.specs.declared.beginning.Beginning.{Beginning}
 use Rattle.cmh_bases3.specs.Bases.{IsBaseOf}
 use Rattle.cmh_controller3.specs.Controller.{Controller, state_of}
 use Rattle.cmh_segment3.specs.declared.base.Base.{Base}

@@ -13,13 +13,13 @@ use Rattle.cmh_model3.specs.Journals.{message_from, receipts_of, sendings_of}
 use Rattle.cmh_model3.specs.declared.frame.Message.{Message}
 use Rattle.cmh_wire3.specs.Mark.{mark_on}
 use Rattle.cmh_wire3.specs.Wire.{spelled}
-use Rattle.cmh_log3.specs.Files.{Held}
+use Rattle.cmh_station3.specs.Files.{Held}
 use Rattle.cmh_resume3.proofs.Ends.{marked_more}
 use Rattle.cmh_resume3.specs.Receiver.{Receiver}
 use Rattle.cmh_resume3.specs.Sender.{Sender}
 use Rattle.cmh_segment3.specs.declared.links.LinkState.{LinkState}
 use Rattle.cmh_segment3.specs.declared.links.Outgoing.{Outgoing}
-use Rattle.cmh_machine3.specs.declared.beginning.Beginning.{Beginning}
+use Rattle.cmh_station3.specs.declared.beginning.Beginning.{Beginning}
 use Rattle.cmh_peers3.proofs.Counting.{got_received, mark_received, synced_received}
 use Rattle.cmh_peers3.specs.Links.{got_since, link_at}
 use Rattle.cmh_peers3.specs.Peers.{WasGiven, received}

@@ -10,15 +10,15 @@ use Rattle.std.proofs.lemmas.List.{get_or-map, get_or-set_other}
 use Rattle.std.proofs.lemmas.List.Kept.{AllPairs-from_increasing}
 use Rattle.std.proofs.lemmas.Option.{get_or_from_slice_get, slice_get_within}
 use Rattle.cmh_model3.specs.Entries.{Entry as Step}
-use Rattle.cmh_log3.specs.Files.{Held}
-use Rattle.cmh_hello3.specs.declared.acknowledgement.Acknowledgement.{Acknowledgement}
-use Rattle.cmh_hello3.specs.declared.answer.Answer.{Answer}
+use Rattle.cmh_station3.specs.Files.{Held}
+use Rattle.cmh_resume3.specs.declared.acknowledgement.Acknowledgement.{Acknowledgement}
+use Rattle.cmh_resume3.specs.declared.answer.Answer.{Answer}
 use Rattle.cmh_resume3.specs.Receiver.{Claims, Receiver}
 use Rattle.cmh_resume3.specs.Sender.{Sender}
 use Rattle.cmh_segment3.specs.declared.links.LinkState.{LinkState}
 use Rattle.cmh_peers3.specs.Links.{link_at}
-use Rattle.cmh_hello3.specs.declared.refusal.Mismatch.{Mismatch as MismatchOf}
-use Rattle.cmh_hello3.specs.declared.refusal.Mismatch.TheVariants.{LessThanAcknowledged, MoreThanSent, OtherFrames}
+use Rattle.cmh_resume3.specs.declared.refusal.Mismatch.{Mismatch as MismatchOf}
+use Rattle.cmh_resume3.specs.declared.refusal.Mismatch.TheVariants.{LessThanAcknowledged, MoreThanSent, OtherFrames}
 use Rattle.cmh_peers3.specs.Changes.{Acknowledges, ChangesInto, ChangesOut, EndsAt, SaysCount, StandsStill}
 use Rattle.cmh_peers3.specs.declared.happening.Action.{Action}
 use Rattle.cmh_peers3.specs.declared.happening.Action.TheVariants.{Rest, Dial, Greet, Note, Refuse, Close, Turn}

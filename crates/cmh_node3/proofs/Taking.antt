@@ -11,10 +11,10 @@ use Rattle.cmh_controller3.specs.declared.refusal.Refusal.{Refusal}
 use Rattle.cmh_model3.specs.Entries.{Entry as Step}
 use Rattle.cmh_model3.specs.declared.event.Event.{Event}
 use Rattle.cmh_model3.specs.declared.frame.Message.{Message}
-use Rattle.cmh_machine3.specs.Machines.{site_of_machine}
-use Rattle.cmh_machine3.specs.Sites.{meaning_of}
-use Rattle.cmh_log3.specs.Files.{Held}
-use Rattle.cmh_log3.specs.Logs.{log_meaning}
+use Rattle.cmh_station3.specs.Machines.{site_of_machine}
+use Rattle.cmh_station3.specs.Sites.{meaning_of}
+use Rattle.cmh_station3.specs.Files.{Held}
+use Rattle.cmh_station3.specs.Logs.{log_meaning}
 use Rattle.std.proofs.lemmas.List.{get_or_default}
 use Rattle.std.proofs.lemmas.Option.{get_or_from_slice_get}
 use Rattle.cmh_runs.proofs.Beginnings.{beginning_take, length-beginning}

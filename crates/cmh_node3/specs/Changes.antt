@@ -1,12 +1,12 @@
 -- What a call changes at one end of one link. The rest of the site stays as it was.
 use Rattle.std.specs.Prelude.{◌≡◌, ◌≢◌, ℕ, ◌<◌, Bool, true, length, slice_get, Option, None, Some}
 use Rattle.cmh_model3.specs.declared.frame.Message.{Message}
-use Rattle.cmh_hello3.specs.declared.acknowledgement.Acknowledgement.{Acknowledgement}
-use Rattle.cmh_hello3.specs.declared.hello.Hello.{Hello}
-use Rattle.cmh_hello3.specs.declared.refusal.Mismatch.{Mismatch}
-use Rattle.cmh_hello3.specs.declared.refusal.Mismatch.TheVariants.{LessThanAcknowledged, MoreThanSent, OtherFrames}
-use Rattle.cmh_hello3.specs.declared.refusal.Refusal.{Refusal}
-use Rattle.cmh_hello3.specs.declared.refusal.Refusal.TheVariants as refusal
+use Rattle.cmh_resume3.specs.declared.acknowledgement.Acknowledgement.{Acknowledgement}
+use Rattle.cmh_resume3.specs.declared.hello.Hello.{Hello}
+use Rattle.cmh_resume3.specs.declared.refusal.Mismatch.{Mismatch}
+use Rattle.cmh_resume3.specs.declared.refusal.Mismatch.TheVariants.{LessThanAcknowledged, MoreThanSent, OtherFrames}
+use Rattle.cmh_resume3.specs.declared.refusal.Refusal.{Refusal}
+use Rattle.cmh_resume3.specs.declared.refusal.Refusal.TheVariants as refusal
 use Rattle.cmh_resume3.specs.Receiver.{Claims, IsFit, IsUnfit}
 use Rattle.cmh_peers3.specs.Changes.{Acknowledges, ChangesInto, ChangesOut, DoesSafely, EndsAt, GivesSafely}
 use Rattle.cmh_peers3.specs.declared.happening.Action.{Action}

@@ -10,11 +10,11 @@ use Rattle.cmh_model3.specs.declared.frame.Message.{Message}
 use Rattle.cmh_runs.specs.Runs.{IsBeginningOf}
 use Rattle.cmh_segment3.specs.declared.links.LinkState.{LinkState}
 use Rattle.cmh_segment3.specs.declared.links.Outgoing.{Outgoing}
-use Rattle.cmh_machine3.specs.Machines.{Machine, site_of_machine}
-use Rattle.cmh_machine3.specs.Sites.{meaning_of}
-use Rattle.cmh_machine3.specs.declared.beginning.Beginning.{Beginning}
-use Rattle.cmh_log3.specs.Files.{Held}
-use Rattle.cmh_log3.specs.Logs.{SegmentLog, log_meaning}
+use Rattle.cmh_station3.specs.Machines.{Machine, site_of_machine}
+use Rattle.cmh_station3.specs.Sites.{meaning_of}
+use Rattle.cmh_station3.specs.declared.beginning.Beginning.{Beginning}
+use Rattle.cmh_station3.specs.Files.{Held}
+use Rattle.cmh_station3.specs.Logs.{SegmentLog, log_meaning}
 use Rattle.cmh_resume3.specs.Sender.{Sender, StandsSince}
 use Rattle.cmh_peers3.specs.Links.{got_since, link_at}
 use Rattle.cmh_peers3.specs.declared.peer.Peer.{Peer}

@@ -15,11 +15,11 @@ use Rattle.cmh_model3.specs.Entries.{Entry as Step}
 use Rattle.cmh_model3.specs.declared.event.Event.{Event}
 use Rattle.cmh_model3.specs.declared.event.Event.TheVariants.{Ask, Got}
 use Rattle.cmh_model3.specs.declared.frame.Message.{Message}
-use Rattle.cmh_machine3.specs.Machines.{Machine, site_of_machine}
-use Rattle.cmh_machine3.specs.Sites.{meaning_of}
-use Rattle.cmh_machine3.specs.declared.beginning.Beginning.{Beginning}
-use Rattle.cmh_log3.specs.Files.{Held}
-use Rattle.cmh_log3.specs.Logs.{SegmentLog, log_meaning}
+use Rattle.cmh_station3.specs.Machines.{Machine, site_of_machine}
+use Rattle.cmh_station3.specs.Sites.{meaning_of}
+use Rattle.cmh_station3.specs.declared.beginning.Beginning.{Beginning}
+use Rattle.cmh_station3.specs.Files.{Held}
+use Rattle.cmh_station3.specs.Logs.{SegmentLog, log_meaning}
 use Rattle.cmh_topology3.specs.Topology.{Topology, sites_of}
 use Rattle.cmh_peers3.specs.Peers.{AtEach, IsGiven, IsGivenPart, keeps_many, others}
 use Rattle.cmh_peers3.specs.Links.{met_from}

@@ -4,7 +4,7 @@ use Rattle.cmh_bases3.specs.Bases.{IsBaseOf}
 use Rattle.cmh_controller3.specs.Controller.{state_of}
 use Rattle.cmh_disk3.specs.Folders.{MayBeMade, Segments}
 use Rattle.cmh_disk3.specs.Turns.{BeginsSegment}
-use Rattle.cmh_log3.specs.Files.{Held}
+use Rattle.cmh_station3.specs.Files.{Held}
 use Rattle.cmh_model3.specs.State.{State}
 use Rattle.cmh_peers3.specs.Links.{link_of}
 use Rattle.cmh_peers3.specs.declared.peer.Peer.{Peer}
@@ -13,7 +13,7 @@ use Rattle.cmh_segment3.specs.declared.base.Base.{Base}
 use Rattle.cmh_segment3.specs.declared.rows.Stamped.{Stamped}
 use Rattle.cmh_station3.specs.Journals.{IsOrigin}
 use Rattle.cmh_station3.specs.Starting.{NewSegment, first_bytes}
-use Rattle.cmh_turns3.specs.Links.{FitLinks}
+use Rattle.cmh_bases3.specs.FittingLinks.{FitLinks}
 use Rattle.cmh_node3.specs.Nodes.{IsExact, Node, epoch_of}
 use Rattle.cmh_node3.specs.declared.sealed.Sealed.TheVariants.{Disk}
 use Rattle.cmh_node3.specs.declared.turning.NotTurned.{NotTurned}

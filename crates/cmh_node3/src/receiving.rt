@@ -11,12 +11,11 @@ use crate::node::Node;
 use crate::sealed::Sealed;
 use crate::settling::{StepFault, fault_of, sealed_by_fault, settle};
 use cmh_controller3::{Outcome, Refusal as RuleRefusal};
-use cmh_hello3::{Acknowledgement, Answer, Hello, Mismatch, Refusal};
 use cmh_journaled::Refusal as StepRefusal;
-use cmh_log3::SegmentFile;
 use cmh_model3::{Event, Message, SiteId};
 use cmh_peers3::{Peer, acknowledge_at, claim_at, end_at, place_of, receive_at};
-use cmh_resume3::check_hello;
+use cmh_resume3::{Acknowledgement, Answer, Hello, Mismatch, Refusal, check_hello};
+use cmh_station3::SegmentFile;
 use std::alloc::{AllocError, Global};
 
 /// The answer to an event.

@@ -1,7 +1,7 @@
 //! Why a site has stopped for good.
 
-use cmh_hello3::Mismatch;
 use cmh_model3::SiteId;
+use cmh_resume3::Mismatch;
 
 /// Why a site takes no more steps and says no more to others, until it is started again.
 #[derive(Clone, Copy, Debug, PartialEq, Eq)]

@@ -6,10 +6,10 @@ ghost use Rattle.cmh_node3.specs.Nodes.{StaysExact};
 
 use crate::node::Node;
 use crate::sealed::Sealed;
-use cmh_hello3::Mismatch;
-use cmh_log3::SegmentFile;
 use cmh_model3::{Message, SiteId};
 use cmh_peers3::{Action, Happening, happen_at, next_at};
+use cmh_resume3::Mismatch;
+use cmh_station3::SegmentFile;
 
 impl<F: SegmentFile> Node<F> {
     /// Something happened on the link to the peer at this place: what is to be done about it. Where the two journals do not

@@ -10,9 +10,9 @@ use crate::node::Node;
 use crate::settling::{StepFault, fault_of, sealed_by_fault, settle};
 use cmh_controller3::{Outcome, Refusal as RuleRefusal};
 use cmh_journaled::Refusal;
-use cmh_log3::SegmentFile;
 use cmh_model3::Event;
 use cmh_peers3::{Peer, is_behind};
+use cmh_station3::SegmentFile;
 
 /// Why none of some events was taken: the first reason that holds.
 #[derive(Clone, Copy, Debug, PartialEq, Eq)]

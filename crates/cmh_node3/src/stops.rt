@@ -1,8 +1,8 @@
 //! At which stops the processes of a site were declared.
 
-use cmh_machine3::Beginning;
 use cmh_model3::{Entry, Event, Frame, Message, ProcId, Stamp};
 use cmh_segment3::Stamped;
+use cmh_station3::Beginning;
 use std::alloc::{AllocError, Global};
 
 /// How many ticks of a clock an epoch has.

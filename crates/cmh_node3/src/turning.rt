@@ -10,13 +10,12 @@ ghost use Rattle.cmh_segment3.specs.States.{stamp_of, state_in, turned_to};
 
 use crate::node::Node;
 use crate::sealed::Sealed;
+use cmh_bases3::{base_of, links_fit};
 use cmh_controller3::Controller;
 use cmh_disk3::{JournalFolder, NoFolder, NotBegun, begin_segment};
-use cmh_log3::SegmentFile;
 use cmh_peers3::{Peer, links_law, links_of};
 use cmh_segment3::{Base, Header, Stamped};
-use cmh_station3::{NewSegment, OpenFault};
-use cmh_turns3::{base_of, links_fit};
+use cmh_station3::{NewSegment, OpenFault, SegmentFile};
 use cmh_wire3::Epoch;
 use std::alloc::{AllocError, Global};
 

@@ -1,9 +1,9 @@
 -- A sender's end stands for the messages that it was given, whatever happens on its link.
 use Rattle.std.proofs.Common.{◌≡◌, ℕ, ◌≤◌, max, List, sym, subst, arith, inl, inr}
 use Rattle.cmh_model3.specs.declared.frame.Message.{Message}
-use Rattle.cmh_hello3.specs.declared.acknowledgement.Acknowledgement.{Acknowledgement}
-use Rattle.cmh_hello3.specs.declared.answer.Answer.{Answer}
-use Rattle.cmh_hello3.specs.declared.refusal.Mismatch.TheVariants.{MoreThanSent, OtherFrames, LessThanAcknowledged}
+use Rattle.cmh_resume3.specs.declared.acknowledgement.Acknowledgement.{Acknowledgement}
+use Rattle.cmh_resume3.specs.declared.answer.Answer.{Answer}
+use Rattle.cmh_resume3.specs.declared.refusal.Mismatch.TheVariants.{MoreThanSent, OtherFrames, LessThanAcknowledged}
 use Rattle.cmh_resume3.specs.Within.{IsWithin}
 use Rattle.cmh_resume3.specs.Sender.{HearsAcknowledgement, HearsAnswer, IsOpen, IsRunning, Sender, StandsSince, known_to, next_of, sent, with_state}
 use Rattle.cmh_resume3.specs.declared.sender.Heard.{Heard}

@@ -1,7 +1,7 @@
 -- What changes at one end of the links with one peer, where no other end changes.
 use Rattle.std.specs.Prelude.{◌≡◌, ◌≢◌, ◌⊎◌, ℕ, ◌<◌, ◌≤◌, Bool, true, false, List, slice_get, slice_index_or, slice_set, Option, None, Some}
 use Rattle.cmh_model3.specs.declared.frame.Message.{Message}
-use Rattle.cmh_hello3.specs.declared.acknowledgement.Acknowledgement.{Acknowledgement}
+use Rattle.cmh_resume3.specs.declared.acknowledgement.Acknowledgement.{Acknowledgement}
 use Rattle.cmh_resume3.specs.Receiver.{Receiver, rested, said, synced_of}
 use Rattle.cmh_resume3.specs.Sender.{GivesNext, Sender, StandsSince}
 use Rattle.cmh_peers3.specs.Happenings.{Does}

@@ -1,8 +1,8 @@
 -- What comes of what happens on the link to another site: each is what the contract of a call of the sender's end says.
 use Rattle.std.specs.Prelude.{◌≡◌, ◌⊎◌, ℕ}
-use Rattle.cmh_hello3.specs.declared.acknowledgement.Acknowledgement.{Acknowledgement}
-use Rattle.cmh_hello3.specs.declared.answer.Answer.{Answer}
-use Rattle.cmh_hello3.specs.declared.refusal.Refusal.{Refusal}
+use Rattle.cmh_resume3.specs.declared.acknowledgement.Acknowledgement.{Acknowledgement}
+use Rattle.cmh_resume3.specs.declared.answer.Answer.{Answer}
+use Rattle.cmh_resume3.specs.declared.refusal.Refusal.{Refusal}
 use Rattle.cmh_resume3.specs.Sender.{HearsAcknowledgement, HearsAnswer, IsAsked, IsDown, IsRunning, Sender, ended_state, pause_of, state_by, task_of, with_state}
 use Rattle.cmh_resume3.specs.declared.sender.Heard.{Heard}
 use Rattle.cmh_resume3.specs.declared.sender.Heard.TheVariants as heard

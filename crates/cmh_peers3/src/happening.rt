@@ -4,8 +4,7 @@ ghost use Rattle.std.specs.Prelude.{◌≡◌};
 ghost use Rattle.cmh_peers3.specs.Changes.{StandsStill};
 ghost use Rattle.cmh_peers3.specs.Happenings.{Does, DoesDial, DoesEnd, DoesHearAcknowledgement, DoesHearAnswer, DoesHearRefusal, DoesPass, action_of};
 
-use cmh_hello3::{Acknowledgement, Answer, Mismatch, Refusal};
-use cmh_resume3::{Heard, SenderEnd, State, Task};
+use cmh_resume3::{Acknowledgement, Answer, Heard, Mismatch, Refusal, SenderEnd, State, Task};
 use cmh_wire3::Epoch;
 
 /// What happened on the link to another site.

@@ -8,8 +8,8 @@ ghost use Rattle.cmh_resume3.specs.Receiver.{Claims};
 use crate::happening::{Action, Happening, happen};
 use crate::peer::Peer;
 use crate::taken::receive_all;
-use cmh_hello3::{Acknowledgement, Answer, Hello, Refusal};
 use cmh_model3::Message;
+use cmh_resume3::{Acknowledgement, Answer, Hello, Refusal};
 use cmh_wire3::Epoch;
 
 /// Tells the sender's end what happened, as `happen` does.

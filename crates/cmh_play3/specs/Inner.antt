@@ -2,3 +2,5 @@
 pub mod Fresh
 pub mod Shown
 pub mod Stepped
+pub mod Made
+pub mod Ends

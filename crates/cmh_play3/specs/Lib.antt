@@ -1,7 +1,9 @@
+pub mod Held
+pub mod Inner
+pub mod Kept
 pub mod Links
+pub mod Play
+pub mod PlayStates
+pub mod Plays
 pub mod Replies
 pub mod World
-pub mod Held
-pub mod PlayStates
-pub mod Play
-pub mod Inner

@@ -3,8 +3,8 @@ use Rattle.std.proofs.Common.{◌≡◌, ℕ, List, [], ◌∷◌, ◌++◌, sub
 use Rattle.cmh_epochs3.specs.Laws.{Chain, ChainsAreRuns, Epoch, World}
 use Rattle.cmh_frames.specs.Topology.{home_in}
 use Rattle.cmh_topology3.specs.Topology.{Topology, site_of, sites_of}
-use Rattle.cmh_parts3.specs.Turns.{TurnsLeadOn, turns_of}
-use Rattle.cmh_parts3.specs.Worlds.{world_of}
+use Rattle.cmh_history3.specs.Turns.{TurnsLeadOn, turns_of}
+use Rattle.cmh_history3.specs.Worlds.{world_of}
 use Rattle.cmh_restore3.specs.Laws.{RestoredFollowAll, RestoredHaveHistories, restored_of, with_turns}
 use Rattle.cmh_restore3.proofs.Worlds.{follow_same}
 

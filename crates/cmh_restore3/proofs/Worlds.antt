@@ -6,10 +6,10 @@ use Rattle.cmh_epochs3.specs.Laws.{World}
 use Rattle.cmh_topology3.specs.Topology.{Topology, sites_of}
 use Rattle.cmh_segment3.specs.declared.segment.Segment.{Segment}
 use Rattle.cmh_segment3.specs.States.{state_in}
-use Rattle.cmh_parts3.specs.Links.{between, links_of}
-use Rattle.cmh_parts3.specs.Set.{AreOfEpoch}
-use Rattle.cmh_parts3.specs.Turns.{Follow}
-use Rattle.cmh_parts3.specs.Worlds.{state_at, world_of}
+use Rattle.cmh_history3.specs.Between.{between, links_of}
+use Rattle.cmh_history3.specs.EpochSet.{AreOfEpoch}
+use Rattle.cmh_history3.specs.Turns.{Follow}
+use Rattle.cmh_history3.specs.Worlds.{state_at, world_of}
 use Rattle.cmh_restore3.specs.Laws.{IsOlder, IsSameWorld, restored_of}
 
 module _ (t : Topology) (epoch : ℕ) where

@@ -6,9 +6,9 @@ use Rattle.cmh_epochs3.specs.Laws.{Chain, Epoch, IsRunFrom, LeadsTo, World}
 use Rattle.cmh_topology3.specs.Topology.{Topology, site_of, sites_of}
 use Rattle.cmh_segment3.specs.declared.head.Head.{Head}
 use Rattle.cmh_segment3.specs.declared.segment.Segment.{Segment}
-use Rattle.cmh_parts3.specs.Set.{AreOfEpoch}
-use Rattle.cmh_parts3.specs.Turns.{Follow, IsEpoch, turns_of}
-use Rattle.cmh_parts3.specs.Worlds.{world_of}
+use Rattle.cmh_history3.specs.EpochSet.{AreOfEpoch}
+use Rattle.cmh_history3.specs.Turns.{Follow, IsEpoch, turns_of}
+use Rattle.cmh_history3.specs.Worlds.{world_of}
 use Rattle.cmh_history3.specs.Epochs.{standing}
 use Rattle.cmh_history3.specs.Journals.{IsJournal}
 use Rattle.cmh_restore3.specs.Restored.{StandsFor, restored}

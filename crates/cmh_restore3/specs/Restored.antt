@@ -6,8 +6,8 @@ use Rattle.cmh_segment3.specs.declared.head.Head.{Head}
 use Rattle.cmh_segment3.specs.declared.segment.Segment.{Segment}
 use Rattle.cmh_audit3.specs.Set.{fault_or}
 use Rattle.cmh_bases3.specs.Bases.{IsBaseOf}
-use Rattle.cmh_parts3.specs.Links.{AreAgreed, IsDisagreement}
-use Rattle.cmh_parts3.specs.Set.{IsEpochSet}
+use Rattle.cmh_history3.specs.Between.{AreAgreed, IsDisagreement}
+use Rattle.cmh_history3.specs.EpochSet.{IsEpochSet}
 use Rattle.cmh_restore3.specs.declared.checks.NotRestored.{NotRestored}
 use Rattle.cmh_restore3.specs.declared.checks.NotRestored.TheVariants.{OtherWorld, NotBegun, Set, Base, Link, Memory}
 

@@ -10,8 +10,8 @@ ghost use Rattle.cmh_restore3.specs.Restored.{AreOfOther, BeginLawfully, CanBeRe
 use cmh_audit3::{SetFault, check_world};
 use cmh_bases3::controller_of;
 use cmh_controller3::Refusal;
+use cmh_history3::{Link, disagreement};
 use cmh_model3::SiteId;
-use cmh_parts3::{Link, disagreement};
 use cmh_segment3::{Head, Header, Rows, Segment};
 use cmh_topology3::{Topology, World};
 use cmh_wire3::Epoch;

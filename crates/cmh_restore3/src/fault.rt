@@ -7,9 +7,9 @@ ghost use Rattle.cmh_restore3.specs.declared.fault.RestoreFault.TheVariants.{Mem
 use crate::checks::NotRestored;
 use cmh_audit3::SetFault;
 use cmh_console::{Fault, NoFile, TopologyFileFault, WriteFault};
+use cmh_history3::Link;
 use cmh_journal::{JournalFault, SetFault as OlderSetFault};
 use cmh_model3::SiteId;
-use cmh_parts3::Link;
 use cmh_topology3::TopologyFault;
 use std::alloc::{AllocError, AllocFailed};
 use std::fmt;

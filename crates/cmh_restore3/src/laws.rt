@@ -3,7 +3,7 @@
 ghost use Rattle.cmh_restore3.specs.Laws.{IsSameWorld, OneStands, RestoredFollowAll, RestoredHaveHistories};
 
 use cmh_epochs3::chain_law;
-use cmh_parts3::turn_law;
+use cmh_history3::turn_law;
 use cmh_topology3::Topology;
 
 /// A restored world goes on with the history of the older one, whose number alone is another.

@@ -4,8 +4,8 @@ use Rattle.std.proofs.lemmas.Bool.{true≢false}
 use Rattle.std.specs.List.{AllByRecursion}
 use Rattle.cmh_model3.specs.declared.frame.Message.{Message}
 use Rattle.cmh_runs.specs.Runs.{IsBeginningOf}
-use Rattle.cmh_hello3.specs.declared.acknowledgement.Acknowledgement.{Acknowledgement}
-use Rattle.cmh_hello3.specs.declared.answer.Answer.{Answer}
+use Rattle.cmh_resume3.specs.declared.acknowledgement.Acknowledgement.{Acknowledgement}
+use Rattle.cmh_resume3.specs.declared.answer.Answer.{Answer}
 use Rattle.cmh_resume3.specs.declared.sender.State.{State}
 use Rattle.cmh_resume3.specs.Link.{Line, with_frame}
 use Rattle.cmh_resume3.specs.Moments.{IsLeftOf}

@@ -4,9 +4,9 @@ use Rattle.std.proofs.lemmas.Bool.{cases_eq, true≢false}
 use Rattle.std.proofs.lemmas.List.{length-take-le}
 use Rattle.cmh_model3.specs.declared.frame.Message.{Message}
 use Rattle.cmh_runs.specs.Runs.{IsBeginningOf}
-use Rattle.cmh_hello3.specs.declared.acknowledgement.Acknowledgement.{Acknowledgement}
-use Rattle.cmh_hello3.specs.declared.answer.Answer.{Answer}
-use Rattle.cmh_hello3.specs.declared.refusal.Mismatch.TheVariants.{MoreThanSent, OtherFrames, LessThanAcknowledged}
+use Rattle.cmh_resume3.specs.declared.acknowledgement.Acknowledgement.{Acknowledgement}
+use Rattle.cmh_resume3.specs.declared.answer.Answer.{Answer}
+use Rattle.cmh_resume3.specs.declared.refusal.Mismatch.TheVariants.{MoreThanSent, OtherFrames, LessThanAcknowledged}
 use Rattle.cmh_resume3.specs.declared.sender.Heard.{Heard}
 use Rattle.cmh_resume3.specs.declared.sender.Heard.TheVariants.{Turn, GoOn, Refuse, Close}
 use Rattle.cmh_resume3.specs.declared.sender.State.{State}

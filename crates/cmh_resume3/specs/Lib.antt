@@ -1,6 +1,11 @@
-pub mod Sender
-pub mod Receiver
+pub mod Hello
+pub mod Inner
+pub mod Laws
 pub mod Link
 pub mod Moments
-pub mod Laws
+pub mod Numbers
+pub mod Receiver
+pub mod Sender
+pub mod SpellingLaws
+pub mod Stream
 pub mod Within

@@ -1,8 +1,8 @@
 -- A link as it is at a moment: two journals, the two ends, and the connections between them.
 use Rattle.std.specs.Prelude.{◌≡◌, ℕ, ◌+◌, Bool, true, false, List, [], ◌∷◌, ◌++◌, ◌==◌, if◌then◌else◌, Option, None}
 use Rattle.cmh_model3.specs.declared.frame.Message.{Message}
-use Rattle.cmh_hello3.specs.declared.acknowledgement.Acknowledgement.{Acknowledgement}
-use Rattle.cmh_hello3.specs.declared.answer.Answer.{Answer}
+use Rattle.cmh_resume3.specs.declared.acknowledgement.Acknowledgement.{Acknowledgement}
+use Rattle.cmh_resume3.specs.declared.answer.Answer.{Answer}
 use Rattle.cmh_resume3.specs.declared.sender.State.TheVariants.{Down}
 use Rattle.cmh_wire3.specs.Mark.{first_mark}
 use Rattle.cmh_resume3.specs.Receiver.{Receiver, opened}

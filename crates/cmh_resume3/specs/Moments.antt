@@ -4,9 +4,9 @@ use Rattle.cmh_model3.specs.declared.frame.Message.{Message}
 use Rattle.cmh_runs.specs.Runs.{IsBeginningOf}
 use Rattle.cmh_wire3.specs.Mark.{mark_of}
 use Rattle.cmh_wire3.specs.Wire.{spelled}
-use Rattle.cmh_hello3.specs.declared.acknowledgement.Acknowledgement.{Acknowledgement}
-use Rattle.cmh_hello3.specs.declared.answer.Answer.{Answer}
-use Rattle.cmh_hello3.specs.declared.refusal.Refusal.{Refusal}
+use Rattle.cmh_resume3.specs.declared.acknowledgement.Acknowledgement.{Acknowledgement}
+use Rattle.cmh_resume3.specs.declared.answer.Answer.{Answer}
+use Rattle.cmh_resume3.specs.declared.refusal.Refusal.{Refusal}
 use Rattle.cmh_resume3.specs.declared.sender.Heard.{Heard}
 use Rattle.cmh_resume3.specs.declared.sender.State.TheVariants.{Asked, Refused}
 use Rattle.cmh_resume3.specs.Link.{Line, Link, IsNewest, at_one, silent_line, with_frame}

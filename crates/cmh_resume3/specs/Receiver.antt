@@ -3,10 +3,10 @@ use Rattle.std.specs.Prelude.{◌≡◌, ◌≢◌, ℕ, ◌+◌, ◌-◌, Bool,
 use Rattle.cmh_model3.specs.declared.frame.Message.{Message}
 use Rattle.cmh_wire3.specs.Mark.{mark_on}
 use Rattle.cmh_wire3.specs.Wire.{spelling}
-use Rattle.cmh_hello3.specs.declared.answer.Answer.{Answer}
-use Rattle.cmh_hello3.specs.declared.hello.Hello.{Hello}
-use Rattle.cmh_hello3.specs.declared.refusal.Refusal.{Refusal}
-use Rattle.cmh_hello3.specs.declared.refusal.Refusal.TheVariants.{OtherWorld, NotThisSite, NoSuchSender}
+use Rattle.cmh_resume3.specs.declared.answer.Answer.{Answer}
+use Rattle.cmh_resume3.specs.declared.hello.Hello.{Hello}
+use Rattle.cmh_resume3.specs.declared.refusal.Refusal.{Refusal}
+use Rattle.cmh_resume3.specs.declared.refusal.Refusal.TheVariants.{OtherWorld, NotThisSite, NoSuchSender}
 use Rattle.cmh_resume3.specs.declared.receiver.Untaken.{Untaken}
 use Rattle.cmh_resume3.specs.declared.receiver.Untaken.TheVariants.{Stale, Full}
 

@@ -3,7 +3,10 @@
 ghost use Rattle.std.specs.Prelude.{◌≡◌, ◌≢◌, ◌+◌, ◌-◌, ◌^◌, ◌<◌, ◌≤◌, ◌⊎◌, ◌↔◌, Contains, true, false, Some, IsSome, is_some, IsTrue, OnOk, OnErr, IfOk, IfErr};
 ghost use Rattle.cmh_resume3.specs.Receiver.{Claims, IsFit, IsUnfit, IsUntaken, all_synced, closed_off, heard_at, opened, rested, said, synced_of, with_message};
 
-use cmh_hello3::{Acknowledgement, Answer, Hello, Refusal};
+use crate::acknowledgement::Acknowledgement;
+use crate::answer::Answer;
+use crate::hello::Hello;
+use crate::refusal::Refusal;
 use cmh_model3::{Message, SiteId};
 use cmh_topology3::World;
 use cmh_wire3::{Epoch, Mark, encode};

@@ -6,7 +6,9 @@ ghost use Rattle.cmh_wire3.specs.Wire.{spelled};
 ghost use Rattle.cmh_resume3.specs.Within.{IsWithin};
 ghost use Rattle.cmh_resume3.specs.Sender.{GivesNext, HearsAcknowledgement, HearsAnswer, IsAsked, IsDown, IsRunning, ended_state, fresh_sender, next_pause, noted_state, pause_of, sent, state_by, task_of, with_kept, with_state};
 
-use cmh_hello3::{Acknowledgement, Answer, Mismatch, Refusal};
+use crate::acknowledgement::Acknowledgement;
+use crate::answer::Answer;
+use crate::refusal::{Mismatch, Refusal};
 use cmh_model3::Message;
 use cmh_wire3::{Epoch, Mark, encode};
 use std::alloc::{AllocError, Global};

@@ -1,7 +1,7 @@
 -- How the links of a site stand, and how that reads.
 use Rattle.std.specs.Prelude.{ℕ, List, length, ◌++◌, codes, is_some, if◌then◌else◌}
 use Rattle.std.specs.Fmt.{decimal}
-use Rattle.cmh_hello3.specs.Numbers.{mismatch_number, refusal_number}
+use Rattle.cmh_resume3.specs.Numbers.{mismatch_number, refusal_number}
 use Rattle.cmh_resume3.specs.Receiver.{Receiver}
 use Rattle.cmh_resume3.specs.Sender.{Sender}
 use Rattle.cmh_resume3.specs.declared.sender.State.{State}

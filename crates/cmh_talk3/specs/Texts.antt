@@ -3,7 +3,7 @@ use Rattle.std.specs.Prelude.{ℕ, List, ◌++◌, codes, flat_map, Option, None
 use Rattle.std.specs.Fmt.{decimal}
 use Rattle.cmh_controller3.specs.Refusals as rules
 use Rattle.cmh_frames.specs.Texts.{processes_text}
-use Rattle.cmh_hello3.specs.Numbers.{mismatch_number}
+use Rattle.cmh_resume3.specs.Numbers.{mismatch_number}
 use Rattle.cmh_node3.specs.declared.sealed.Sealed.{Sealed}
 use Rattle.cmh_node3.specs.declared.sealed.Sealed.TheVariants.{Disk, Memory, Mismatch}
 use Rattle.cmh_talk3.specs.Links.{into_text, out_text, states_text}

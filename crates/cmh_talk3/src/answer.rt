@@ -10,10 +10,10 @@ use crate::deed::Question;
 use crate::link_state::{IntoState, LinkStates, OutState, into_state, out_state};
 use crate::reply::{Figures, Reply, Status};
 use cmh_controller3::{Controller, Refusal};
-use cmh_log3::SegmentFile;
 use cmh_model3::ProcId;
 use cmh_node3::Node;
 use cmh_peers3::Peer;
+use cmh_station3::SegmentFile;
 use std::alloc::{AllocError, Global};
 
 /// The answer to a question, by how the site stands. `Tail` and `Turn` are answered by whoever has the segments: here as a bad

@@ -1,9 +1,9 @@
 use Rattle.std.proofs.Common.{List, subst, sym}
 use Rattle.std.specs.List.{All}
 use Rattle.cmh_segment3.specs.declared.segment.Segment.{Segment}
-use Rattle.cmh_chain3.specs.Chains.{IsReadEpoch}
-use Rattle.cmh_chain3.specs.Findings.{Finds}
-use Rattle.cmh_parts3.specs.Set.{IsEpochSet}
+use Rattle.cmh_history3.specs.Chains.{IsReadEpoch}
+use Rattle.cmh_history3.specs.Findings.{Finds}
+use Rattle.cmh_history3.specs.EpochSet.{IsEpochSet}
 use Rattle.cmh_history3.proofs.Reading.{read_epochs}
 use Rattle.cmh_history3.proofs.part.audit_part.Goals as goal
 

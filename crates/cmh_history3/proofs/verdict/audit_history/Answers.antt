@@ -2,10 +2,10 @@ use Rattle.std.proofs.Common.{◌≡◌, List, subst, sym}
 use Rattle.std.specs.List.{All}
 use Rattle.std.specs.Prelude.{Some, slice_get}
 use Rattle.cmh_segment3.specs.declared.segment.Segment.{Segment}
-use Rattle.cmh_chain3.specs.Chains.{AreOneRun, IsReadEpoch}
-use Rattle.cmh_chain3.specs.Findings.{Finds, IsApart, IsRefused}
-use Rattle.cmh_chain3.specs.declared.chain.ChainVerdict.{ChainVerdict}
-use Rattle.cmh_parts3.specs.Set.{IsEpochSet}
+use Rattle.cmh_history3.specs.Chains.{AreOneRun, IsReadEpoch}
+use Rattle.cmh_history3.specs.Findings.{Finds, IsApart, IsRefused}
+use Rattle.cmh_history3.specs.declared.chain.ChainVerdict.{ChainVerdict}
+use Rattle.cmh_history3.specs.EpochSet.{IsEpochSet}
 use Rattle.cmh_history3.specs.Inner.Sets.{BeginWorld}
 use Rattle.cmh_history3.proofs.Reading.{one_history, read_epochs}
 use Rattle.cmh_history3.proofs.verdict.audit_history.Goals as goal

@@ -1,7 +1,7 @@
 use Rattle.std.proofs.Common.{subst, take_all}
 use Rattle.std.specs.List.{All}
 use Rattle.std.proofs.lemmas.List.Elements.{All-more}
-use Rattle.cmh_parts3.specs.Set.{IsEpochSet}
+use Rattle.cmh_history3.specs.EpochSet.{IsEpochSet}
 use Rattle.cmh_history3.proofs.verdict.check_epochs.Goals as goal
 
 pub loop-epoch-preserved : goal.loop-epoch-preserved

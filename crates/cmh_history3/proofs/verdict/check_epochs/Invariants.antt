@@ -1,6 +1,6 @@
 use Rattle.std.proofs.Common.{take}
 use Rattle.std.specs.List.{All}
-use Rattle.cmh_parts3.specs.Set.{IsEpochSet}
+use Rattle.cmh_history3.specs.EpochSet.{IsEpochSet}
 use Rattle.cmh_history3.proofs.verdict.check_epochs.Given as goal
 
 -- the epochs so far are such

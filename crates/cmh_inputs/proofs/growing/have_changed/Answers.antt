@@ -1,7 +1,8 @@
 use Rattle.std.proofs.Common.{ℕ, ◌<◌, List, [], length, Bor, Vec, sym, ap, subst, subst₂, ◌∙◌, arith}
 use Rattle.std.proofs.lemmas.List.{get_or-map, length-map}
 use Rattle.std.specs.Global.{Global}
-use Rattle.cmh_inputs.specs.Reading.{AreNoJournal, IsReadAt}
+use Rattle.cmh_inputs.specs.Inner.Faulty.{AreNoJournal}
+use Rattle.cmh_inputs.specs.Reading.{IsReadAt}
 use Rattle.cmh_inputs.proofs.growing.have_changed.Goals as goal
 
 pub returns-then-changed : goal.returns-then-changed

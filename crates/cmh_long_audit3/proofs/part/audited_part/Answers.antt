@@ -1,8 +1,8 @@
 use Rattle.std.proofs.Common.{List, subst}
 use Rattle.cmh_frames.specs.Rows.{Row}
 use Rattle.cmh_topology3.specs.Topology.{IsTopologyOf}
-use Rattle.cmh_chain3.specs.Findings.{Finds}
-use Rattle.cmh_chain3.specs.declared.chain.ChainVerdict.{ChainVerdict}
+use Rattle.cmh_history3.specs.Findings.{Finds}
+use Rattle.cmh_history3.specs.declared.chain.ChainVerdict.{ChainVerdict}
 use Rattle.cmh_long_audit3.proofs.Ranges.{part_bases}
 use Rattle.cmh_long_audit3.proofs.Zips.{says_topology}
 use Rattle.cmh_long_audit3.proofs.part.audited_part.Goals as goal

@@ -5,7 +5,7 @@ use Rattle.cmh_segment3.specs.Base.{IsBase}
 use Rattle.cmh_segment3.specs.declared.head.Head.{Head}
 use Rattle.cmh_segment3.specs.declared.segment.Segment.{Segment}
 use Rattle.cmh_audit3.specs.Set.{AreOfWorld}
-use Rattle.cmh_parts3.specs.Links.{AreAgreed}
+use Rattle.cmh_history3.specs.Between.{AreAgreed}
 use Rattle.cmh_restore3.specs.Restored.{AreOfOther, BeginLawfully, StandsFor, restored, restored_all}
 use Rattle.cmh_restore3.proofs.checks.restored_world.Goals as goal
 

@@ -1,8 +1,8 @@
 use Rattle.std.proofs.Common.{ℕ, ◌<◌, ◌≤◌, ap, ◌∙◌, subst}
-use Rattle.cmh_hello3.specs.Stream.{IsItemFront}
-use Rattle.cmh_hello3.specs.declared.item.Item.{Item}
-use Rattle.cmh_hello3.specs.declared.item.Item.TheVariants.{Note}
-use Rattle.cmh_hello3.specs.declared.item.ItemFront.TheVariants.{Whole}
+use Rattle.cmh_resume3.specs.Stream.{IsItemFront}
+use Rattle.cmh_resume3.specs.declared.item.Item.{Item}
+use Rattle.cmh_resume3.specs.declared.item.Item.TheVariants.{Note}
+use Rattle.cmh_resume3.specs.declared.item.ItemFront.TheVariants.{Whole}
 use Rattle.cmh_links3.specs.Connections.{Incoming}
 use Rattle.cmh_links3.proofs.Taking.{listens_later, listens_messages, listens_note, listens_refusal}
 use Rattle.cmh_links3.proofs.incoming.Incoming.hear_item.Goals as goal

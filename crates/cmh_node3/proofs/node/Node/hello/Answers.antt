@@ -1,7 +1,7 @@
 use Rattle.std.proofs.Common.{ℕ, ◌≡◌, ◌<◌, length, get_or, List, refl, ap, ◌∙◌, sym, subst}
 use Rattle.std.specs.Prelude.{Contains, None}
 use Rattle.std.proofs.lemmas.Option.{get_or_from_slice_get}
-use Rattle.cmh_hello3.specs.declared.hello.Hello.{Hello}
+use Rattle.cmh_resume3.specs.declared.hello.Hello.{Hello}
 use Rattle.cmh_resume3.specs.Receiver.{Claims, IsFit}
 use Rattle.cmh_peers3.specs.Peers.{IsPlaceOf}
 use Rattle.cmh_peers3.specs.declared.peer.Peer.{Peer}

@@ -1,5 +1,0 @@
-pub mod Rows
-pub mod Waiting
-pub mod Elsewhere
-pub mod Following
-pub mod Leading

@@ -1,3 +1,0 @@
--- This crate's own words. No contract of what it gives to its callers cites them.
-pub mod Rows
-pub mod Leading

@@ -1,4 +1,0 @@
-mod EntryLemmas
-mod SegmentLemmas
-mod KeepLemmas
-mod PlayLemmas

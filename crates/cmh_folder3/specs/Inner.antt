@@ -1,3 +1,0 @@
--- The words of the code alone. No contract of what it gives to its callers cites them.
-pub mod Made
-pub mod Ends

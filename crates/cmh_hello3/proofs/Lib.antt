@@ -1,4 +1,0 @@
-pub mod Answers
-pub mod Numbers
-pub mod Places
-pub mod Spellings

@@ -1,5 +1,0 @@
-pub mod Numbers
-pub mod Hello
-pub mod Stream
-pub mod Laws
-pub mod Inner

@@ -1,0 +1,5 @@
+use Rattle.cmh_history3.proofs.Rows.{pairs_decide}
+use Rattle.cmh_history3.proofs.states.are_same_pairs.Goals as goal
+
+pub returns : goal.returns
+returns c = pairs_decide c.args.one.now c.args.other.now c.eq.result c.eq.ensures

@@ -1,4 +1,0 @@
-pub mod Readings
-pub mod Kept
-pub mod TwoReads
-pub mod Inner

@@ -1,4 +1,0 @@
-pub mod Sites
-pub mod Machines
-pub mod Entries
-pub mod Inner

@@ -1,5 +1,0 @@
-pub mod Agreed
-pub mod Queueing
-pub mod Standing
-pub mod Ends
-pub mod Turning

@@ -1,6 +1,0 @@
-use Rattle.std.proofs.Common.{◌≡◌, drop}
-use Rattle.cmh_parts3.specs.Links.{got_from}
-use Rattle.cmh_parts3.proofs.links.got_from.Given as goal
-
-abbrev pub invariant-loop-link : goal.invariant-loop-link
-invariant-loop-link l = got_from (drop l.link-index l.links) l.site ≡ got_from l.links l.site

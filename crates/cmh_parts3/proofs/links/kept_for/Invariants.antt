@@ -1,6 +1,0 @@
-use Rattle.std.proofs.Common.{◌≡◌, drop}
-use Rattle.cmh_parts3.specs.Links.{kept_for}
-use Rattle.cmh_parts3.proofs.links.kept_for.Given as goal
-
-abbrev pub invariant-loop-link : goal.invariant-loop-link
-invariant-loop-link l = kept_for (drop l.link-index l.links) l.site ≡ kept_for l.links l.site
