@@ -12,7 +12,7 @@ use std::alloc::{AllocError, Global};
 use std::fmt;
 
 /// How a segment stands among those of all sites.
-#[derive(Clone, Copy, Debug, PartialEq, Eq)]
+#[derive(Clone, Copy)]
 pub enum State {
     /// Its site writes to it, or will.
     Newest,
@@ -35,7 +35,7 @@ impl fmt::Display for State {
 }
 
 /// What is said of a segment. Printed, it is the segment's line.
-#[derive(Clone, Copy, Debug, PartialEq, Eq)]
+#[derive(Clone, Copy)]
 pub struct SegmentLine {
     pub segment: Listed,
     pub state: State,

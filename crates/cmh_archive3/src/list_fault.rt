@@ -14,7 +14,7 @@ use cmh_topology3::TopologyFault;
 use std::alloc::{AllocError, AllocFailed};
 
 /// Why the segments of a world are not listed: the faults of an audit.
-#[derive(Clone, Copy, Debug, PartialEq, Eq)]
+#[derive(Clone, Copy)]
 pub enum ListFault {
     /// A file can't be read.
     File(FileFault),

@@ -13,7 +13,7 @@ use cmh_wire3::{Cursor, Mark};
 use std::alloc::Global;
 
 /// What is kept of a segment that was read.
-#[derive(Clone, Copy, Debug, PartialEq, Eq)]
+#[derive(Clone, Copy)]
 pub struct Summary {
     pub header: Header,
     /// How many entries it has.
@@ -27,14 +27,14 @@ pub struct Summary {
 }
 
 /// A segment that was read, and whether a record beside it says that an audit accepted it as it is.
-#[derive(Clone, Copy, Debug, PartialEq, Eq)]
+#[derive(Clone, Copy)]
 pub struct Listed {
     pub summary: Summary,
     pub is_audited: bool,
 }
 
 /// The segments in the folder of a site's journal.
-#[derive(Debug, Drop)]
+#[derive(Drop)]
 pub struct Folder {
     pub newest: Listed,
     /// Those before it, as far as they are there, the last one first.

@@ -14,7 +14,7 @@ use std::marker::Model;
 /// The pairs of an asker and a holder with an odd number of asks and replies so far.
 ///
 /// It grows up to the greatest asker's number, and does not shrink.
-#[derive(Debug, Drop)]
+#[derive(Drop)]
 pub struct OpenWaits {
     alloc: Global,
 

@@ -16,7 +16,7 @@ use std::collections::BTreeSet;
 use std::marker::Model;
 
 /// A cycle of waits: it begins and ends with the same process, and each member waits for the next.
-#[derive(Debug, Drop)]
+#[derive(Drop)]
 struct Cycle {
     members: Vec<ProcId>,
 }
@@ -44,7 +44,7 @@ impl Cycle {
 }
 
 /// What accepted journals come to: who waits for whom at the end, and who was declared deadlocked.
-#[derive(Debug, Drop)]
+#[derive(Drop)]
 pub struct Report {
     events: u64,
     waits: Vec<(ProcId, ProcId)>,

@@ -11,7 +11,7 @@ use std::alloc::{AllocError, Global};
 use std::marker::Model;
 
 /// Where the journals stop: the entries before the stops come from a run, and there is no run with more of them.
-#[derive(Debug, Drop)]
+#[derive(Drop)]
 pub struct Stops {
     rows: Vec<(SiteId, usize)>,
     tries: u64,

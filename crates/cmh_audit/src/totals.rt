@@ -22,7 +22,7 @@ use std::collections::BTreeSet;
 use std::marker::Model;
 
 /// What entries that were taken one after the other come to: enough for the report of an audit.
-#[derive(Debug, Drop)]
+#[derive(Drop)]
 pub struct Totals {
     waits: OpenWaits,
     declared: BTreeSet<ProcId>,

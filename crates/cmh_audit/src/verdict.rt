@@ -34,7 +34,7 @@ impl From<AllocError> for AuditMemory {
 }
 
 /// Whether the journals of all sites come from one run.
-#[derive(Debug, Drop)]
+#[derive(Drop)]
 pub enum Verdict {
     /// They do.
     Accepted(Report),

@@ -20,7 +20,7 @@ use cmh_topology3::Topology;
 use std::alloc::{AllocError, Global};
 
 /// What the entries of segments come to.
-#[derive(Debug, Drop)]
+#[derive(Drop)]
 pub struct Judged {
     /// The order of a run of the entries before the stops.
     pub order: Order,

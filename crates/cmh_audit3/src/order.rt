@@ -6,7 +6,7 @@ use cmh_model3::SiteId;
 use std::marker::Model;
 
 /// The site of each entry of a run, in the order of the run.
-#[derive(Debug, Drop)]
+#[derive(Drop)]
 pub struct Order {
     sites: Vec<SiteId>,
 }

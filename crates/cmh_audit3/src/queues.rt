@@ -11,7 +11,7 @@ use std::alloc::{AllocError, Global};
 use std::marker::Model;
 
 /// The entries of a site.
-#[derive(Debug, Drop)]
+#[derive(Drop)]
 struct Queue {
     /// The first one last, where it can be taken.
     entries: Vec<Entry>,
@@ -53,7 +53,7 @@ impl Queue {
 }
 
 /// The entries of each site that are not in a run yet.
-#[derive(Debug, Drop)]
+#[derive(Drop)]
 pub struct Queues {
     alloc: Global,
 

@@ -16,7 +16,7 @@ use std::alloc::{AllocError, Global};
 use std::marker::Model;
 
 /// Why a site stops at an entry.
-#[derive(Clone, Copy, Debug, PartialEq, Eq)]
+#[derive(Clone, Copy)]
 pub enum Reason {
     /// By the site's entries before it, its controller does not make it.
     Unlawful,
@@ -25,7 +25,7 @@ pub enum Reason {
 }
 
 /// Where a site stops.
-#[derive(Clone, Copy, Debug, PartialEq, Eq)]
+#[derive(Clone, Copy)]
 pub struct Stop {
     pub site: SiteId,
     /// The number of the entry in its segment, counted from 1.
@@ -34,7 +34,7 @@ pub struct Stop {
 }
 
 /// Where the segments stop: the entries before the stops come from a run, and there is no run with more of them.
-#[derive(Debug, Drop)]
+#[derive(Drop)]
 pub struct Stops {
     rows: Vec<Stop>,
 }

@@ -30,7 +30,7 @@ impl From<AllocError> for AuditMemory {
 }
 
 /// Whether the segments of all sites come from one run.
-#[derive(Debug, Drop)]
+#[derive(Drop)]
 pub enum Verdict {
     /// They do.
     Accepted {

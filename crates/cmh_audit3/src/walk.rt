@@ -14,7 +14,7 @@ use std::alloc::AllocError;
 use std::marker::Model;
 
 /// The entries of a segment that were not taken yet.
-#[derive(Debug, Drop)]
+#[derive(Drop)]
 pub struct SegmentWalk<'a> {
     left: &'a [Entry],
 }

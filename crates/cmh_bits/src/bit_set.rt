@@ -9,7 +9,7 @@ use std::alloc::{AllocError, Global};
 use std::marker::Model;
 
 /// Some of the numbers 0, 1, .. below 64 times the number of its words, which stays as it was made.
-#[derive(Debug, Drop)]
+#[derive(Drop)]
 pub struct BitSet {
     words: Vec<u64>,
 }

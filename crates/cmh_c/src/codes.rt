@@ -28,7 +28,7 @@ pub const OPEN: u32 = 23;
 pub const NOT_PREPARED: u32 = 27;
 
 /// Why nothing is opened or told, where no site or reader is asked.
-#[derive(Clone, Copy, Debug, PartialEq, Eq)]
+#[derive(Clone, Copy)]
 pub enum CallFault {
     /// The number of the edition is not 1 or 2.
     Edition,

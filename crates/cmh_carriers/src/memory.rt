@@ -7,7 +7,7 @@ use crate::carrier::{Incoming, IoFault, Outgoing};
 use std::alloc::Global;
 
 /// How many calls pass before all fail; with `None` each call passes.
-#[derive(Clone, Copy, Debug, PartialEq, Eq)]
+#[derive(Clone, Copy)]
 struct Fuse(Option<u64>);
 
 impl Fuse {
@@ -28,7 +28,7 @@ impl Fuse {
 }
 
 /// The receiving end of a connection whose bytes are known from the start.
-#[derive(Debug, Drop)]
+#[derive(Drop)]
 pub struct MemIncoming {
     bytes: Vec<u8>,
     at: usize,
@@ -92,7 +92,7 @@ impl Incoming for MemIncoming {
 }
 
 /// The sending end of a connection that keeps what it takes.
-#[derive(Debug, Drop)]
+#[derive(Drop)]
 pub struct MemOutgoing {
     bytes: Vec<u8>,
     piece: usize,

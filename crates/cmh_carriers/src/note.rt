@@ -8,7 +8,7 @@ use cmh_frames::SiteId;
 use std::fmt;
 
 /// What a site noticed.
-#[derive(Clone, Copy, Debug, PartialEq, Eq)]
+#[derive(Clone, Copy)]
 pub enum Note {
     /// A connection told the hello of a site whose link was in this state, and not new.
     RefusedHello(SiteId, LinkState),
@@ -69,7 +69,7 @@ impl fmt::Display for Note {
 }
 
 /// Which site makes a note.
-#[derive(Clone, Copy, Debug, PartialEq, Eq)]
+#[derive(Clone, Copy)]
 pub enum Origin {
     /// The only one of the program.
     Alone,
@@ -78,7 +78,7 @@ pub enum Origin {
 }
 
 /// A note as it is told.
-#[derive(Clone, Copy, Debug, PartialEq, Eq)]
+#[derive(Clone, Copy)]
 pub struct Noted {
     pub origin: Origin,
     pub note: Note,

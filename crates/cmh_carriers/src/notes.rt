@@ -24,7 +24,7 @@ pub trait Voice {
 }
 
 /// Tells nothing.
-#[derive(Clone, Copy, Debug, Drop)]
+#[derive(Clone, Copy, Drop)]
 pub struct NoVoice;
 
 impl Voice for NoVoice {

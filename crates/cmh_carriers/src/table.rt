@@ -32,7 +32,7 @@ pub enum LinkFault {
 }
 
 /// A link is new, then open, then closed; or new and then closed.
-#[derive(Clone, Copy, Debug, PartialEq, Eq)]
+#[derive(Clone, Copy, PartialEq, Eq)]
 pub enum LinkState {
     Fresh,
     Running,

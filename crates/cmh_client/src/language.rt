@@ -5,7 +5,7 @@ ghost use Rattle.std.specs.Prelude.{◌≡◌, true, IfOk};
 use std::alloc::AllocError;
 
 /// What a line means.
-#[derive(Debug, Drop)]
+#[derive(Drop)]
 pub enum Meaning<E, Q> {
     /// Nothing: it has no answer.
     Silence,

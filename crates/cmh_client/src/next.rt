@@ -12,7 +12,7 @@ use memchr::memchr;
 pub(crate) const MOST_HEARD: usize = 1 << 16;
 
 /// What a client said next.
-#[derive(Clone, Copy, Debug, PartialEq, Eq)]
+#[derive(Clone, Copy, PartialEq, Eq)]
 pub enum Next<'a> {
     /// A line, with its line feed.
     Line(&'a [u8]),

@@ -10,7 +10,7 @@ use crate::next::Next;
 use std::alloc::AllocError;
 
 /// What a client wants next.
-#[derive(Debug, Drop)]
+#[derive(Drop)]
 pub enum Wish<E, Q> {
     /// Its next line is an event. It stays the next one until it is taken.
     Event(E),

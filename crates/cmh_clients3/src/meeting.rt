@@ -6,7 +6,7 @@ use cmh_talk3::{OutState, out_state};
 use std::alloc::{AllocError, Global};
 
 /// What the two links with a site have shown.
-#[derive(Clone, Copy, Debug)]
+#[derive(Clone, Copy)]
 struct Met {
     /// The link to it was open: what it got from here are the first of the messages of this journal.
     out: bool,
@@ -18,7 +18,7 @@ struct Met {
 ///
 /// A journal that was put back from a backup lacks what the site sent and got since. So it is found by the links with those
 /// other sites before an event is taken that they could contradict.
-#[derive(Debug, Drop)]
+#[derive(Drop)]
 pub struct Meeting {
     /// One for each other site, in their order; none once all have answered.
     met: Vec<Met>,

@@ -5,7 +5,7 @@ use cmh_node3::Sealed;
 use std::fmt;
 
 /// What a site noticed.
-#[derive(Clone, Copy, Debug, PartialEq, Eq)]
+#[derive(Clone, Copy)]
 pub enum SiteNote {
     /// The link to a site is open, for the first time since this one was started.
     OutOpen(SiteId),

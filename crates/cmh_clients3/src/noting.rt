@@ -13,7 +13,7 @@ use std::alloc::{AllocError, Global};
 const MOST_WAITING: usize = 64;
 
 /// A link that was open since the site was started.
-#[derive(Clone, Copy, Debug, PartialEq, Eq)]
+#[derive(Clone, Copy, PartialEq, Eq)]
 enum Opened {
     Out(SiteId),
     Into(SiteId),

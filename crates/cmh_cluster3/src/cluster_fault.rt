@@ -10,7 +10,7 @@ use cmh_frames::TopologyFault;
 use std::alloc::AllocError;
 
 /// Why a cluster of edition 3 ends without an audit.
-#[derive(Clone, Copy, Debug, PartialEq, Eq)]
+#[derive(Clone, Copy)]
 pub enum ClusterFault3 {
     /// What the topology file holds is not the JSON of a topology of edition 3.
     Json,

@@ -14,7 +14,7 @@ use cmh_talk3::{Deed, Question, Said};
 use std::alloc::{AllocError, Global};
 
 /// A line of a cluster's script.
-#[derive(Debug, Drop)]
+#[derive(Drop)]
 pub enum ClusterLine {
     /// Nothing: it is empty or a comment.
     Silent,
@@ -31,7 +31,7 @@ pub enum ClusterLine {
 }
 
 /// What a line has done with a site, or asks of it.
-#[derive(Clone, Copy, Debug, PartialEq, Eq)]
+#[derive(Clone, Copy)]
 pub enum SiteOrder {
     /// The site stops at once, wherever it is.
     Kill,
@@ -46,7 +46,7 @@ pub enum SiteOrder {
 }
 
 /// What a line has done with a link.
-#[derive(Clone, Copy, Debug, PartialEq, Eq)]
+#[derive(Clone, Copy)]
 pub enum LinkOrder {
     /// Its connection ends, and none can be made.
     Cut,

@@ -17,7 +17,7 @@ const NOW: u64 = 0;
 const PIECE: usize = 100;
 
 /// What came of a turn of an end.
-#[derive(Clone, Copy, Debug, PartialEq, Eq)]
+#[derive(Clone, Copy)]
 pub(crate) enum Turn {
     /// It had nothing to do.
     Still,

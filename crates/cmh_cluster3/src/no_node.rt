@@ -10,7 +10,7 @@ use std::alloc::{AllocError, AllocFailed};
 use std::fmt;
 
 /// Why a site was not started on the folder of its journal. Printed, it is the fault's line, as `cmh serve` names it.
-#[derive(Clone, Copy, Debug, PartialEq, Eq)]
+#[derive(Clone, Copy)]
 pub enum NoNode {
     /// The folder can't be read or written, another program has it, or it has no segment.
     Disk,

@@ -9,7 +9,7 @@ use cmh_talk3::{EventReply, OutState, Reply};
 use std::fmt;
 
 /// What a cluster answers to a line.
-#[derive(Debug, Drop)]
+#[derive(Drop)]
 pub enum ClusterReply {
     /// A line that says nothing is not answered.
     Silent,
@@ -53,7 +53,7 @@ impl fmt::Display for ClusterReply {
 }
 
 /// A link that keeps messages, or was refused for good.
-#[derive(Clone, Copy, Debug, PartialEq, Eq)]
+#[derive(Clone, Copy)]
 pub struct KeptLink {
     pub from: SiteId,
     pub to: SiteId,

@@ -376,7 +376,7 @@ const SET_FAULTS: [SetFault; 4] = [
 ];
 
 /// What follows the words of each command.
-#[derive(Debug, Drop)]
+#[derive(Drop)]
 pub struct Help {
     pub play: String,
     pub site: String,

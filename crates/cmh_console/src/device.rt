@@ -14,7 +14,7 @@ use std::marker::Model;
 use std::{fmt, io};
 
 /// The writer failed.
-#[derive(Clone, Copy, Debug, PartialEq, Eq)]
+#[derive(Clone, Copy)]
 pub struct WriteFault;
 
 /// A reader that tells which bytes it has read ahead: reads give them without waiting.
@@ -35,7 +35,7 @@ impl Ahead for &[u8] {
 }
 
 /// How far the bytes went that were read at once.
-#[derive(Clone, Copy, Debug, PartialEq, Eq)]
+#[derive(Clone, Copy)]
 pub enum Piece {
     /// Through a line feed.
     Fed,
@@ -46,7 +46,7 @@ pub enum Piece {
 }
 
 /// Why no piece was taken.
-#[derive(Clone, Copy, Debug, PartialEq, Eq)]
+#[derive(Clone, Copy)]
 enum PieceFault {
     /// A signal came; the read is made again.
     Interrupted,
@@ -57,7 +57,7 @@ enum PieceFault {
 }
 
 /// A reader of a script, and whether a call of it has failed. Only a call that failed sets that.
-#[derive(Debug, Drop)]
+#[derive(Drop)]
 pub struct Input<R: BufRead> {
     inner: R,
     has_failed: bool,
@@ -219,7 +219,7 @@ fn feed_at(bytes: &[u8]) -> usize
 }
 
 /// A writer, whether a call of it has failed, and whether nothing was written since it was flushed.
-#[derive(Debug, Drop)]
+#[derive(Drop)]
 pub struct Output<W: Write> {
     inner: W,
     has_failed: bool,

@@ -9,14 +9,14 @@ use crate::lines::LineFault;
 use std::alloc::{AllocError, AllocFailed};
 
 /// Whether the next line is awaited.
-#[derive(Clone, Copy, Debug, PartialEq, Eq)]
+#[derive(Clone, Copy)]
 pub enum Flow {
     Awaits,
     Ends,
 }
 
 /// Why not all lines of an input were answered.
-#[derive(Clone, Copy, Debug, PartialEq, Eq)]
+#[derive(Clone, Copy)]
 pub enum DialogueFault {
     /// The input can't be read.
     Input,

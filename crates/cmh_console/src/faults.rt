@@ -13,7 +13,7 @@ use std::fmt;
 use std::io::Write;
 
 /// Why some command ends before its work is done. Printed, it is the fault's line.
-#[derive(Clone, Copy, Debug, PartialEq, Eq)]
+#[derive(Clone, Copy)]
 pub enum Fault {
     /// The topology file can't be read.
     TopologyFile,

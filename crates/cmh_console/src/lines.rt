@@ -13,7 +13,7 @@ use std::io::BufRead;
 pub const MAX_LINE: usize = 1024;
 
 /// What stands next in a script.
-#[derive(Clone, Copy, Debug, PartialEq, Eq)]
+#[derive(Clone, Copy)]
 pub enum NextLine<'a> {
     /// A line, without its end.
     Line(&'a [u8]),
@@ -36,7 +36,7 @@ impl NextLine<'_> {
 }
 
 /// Why no line could be read.
-#[derive(Clone, Copy, Debug, PartialEq, Eq)]
+#[derive(Clone, Copy)]
 pub enum LineFault {
     /// The reader failed, or the line has no end within 2^64 bytes.
     Input,

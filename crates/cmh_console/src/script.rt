@@ -12,7 +12,7 @@ use std::alloc::{AllocError, Global};
 use std::mem::replace;
 
 /// A line of a script.
-#[derive(Debug, Drop)]
+#[derive(Drop)]
 pub enum Line {
     /// An empty line or a comment, which has no answer.
     Silent,
@@ -24,7 +24,7 @@ pub enum Line {
 }
 
 /// A line that acts on the world.
-#[derive(Debug, Drop)]
+#[derive(Drop)]
 pub enum Command {
     /// An event for the controller of the process's home.
     Act { process: ProcId, event: Event },
@@ -37,7 +37,7 @@ pub enum Command {
 }
 
 /// The forms of lines, by their names.
-#[derive(Clone, Copy, Debug, PartialEq, Eq)]
+#[derive(Clone, Copy)]
 enum Form {
     Edition,
     Site,

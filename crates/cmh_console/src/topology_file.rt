@@ -12,14 +12,14 @@ use serde_json::{Error, Value};
 use std::alloc::{AllocFailed, Global};
 
 /// What a topology file says: the rows of a topology, which may be faulty.
-#[derive(Debug, Drop)]
+#[derive(Drop)]
 pub struct TopologyFile {
     pub edition: Edition,
     pub rows: Vec<SiteRow>,
 }
 
 /// Why a topology file can't be read.
-#[derive(Clone, Copy, Debug, PartialEq, Eq)]
+#[derive(Clone, Copy)]
 pub enum TopologyFileFault {
     /// It is no JSON, or not the JSON of a topology.
     Json,

@@ -13,7 +13,7 @@ use serde_json::Value;
 use std::alloc::Global;
 
 /// What a topology file of edition 3 says: the number of its world, and the rows of a topology, which may be faulty.
-#[derive(Debug, Drop)]
+#[derive(Drop)]
 pub struct TopologyFile3 {
     pub world: World,
     pub rows: Vec<SiteRow>,

@@ -13,7 +13,7 @@ const MAX_DIGITS: usize = 4;
 /// The words of a line that are left: what stands between its spaces.
 ///
 /// Where a call finds no number, it has taken the word, if one was left.
-#[derive(Debug, Drop)]
+#[derive(Drop)]
 pub struct Words<'a> {
     /// No space is first in it, so that it is empty where no word is left.
     rest: &'a [u8],

@@ -9,7 +9,7 @@ use std::alloc::{AllocError, Global};
 use std::marker::Model;
 
 /// A set of processes, in the order in which they came.
-#[derive(Debug, Drop)]
+#[derive(Drop)]
 pub struct ProcSet {
     processes: Vec<ProcId>,
 }

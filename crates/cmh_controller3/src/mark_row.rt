@@ -10,7 +10,7 @@ use std::alloc::{AllocError, Global};
 use std::marker::Model;
 
 /// That a probe of the origin's ask with this stamp went on at a process.
-#[derive(Clone, Copy, Debug)]
+#[derive(Clone, Copy)]
 pub struct Mark {
     pub origin: ProcId,
     pub stamp: Stamp,
@@ -19,7 +19,7 @@ pub struct Mark {
 /// The marks of a process, ascending by their origins.
 ///
 /// So it is as long as there are origins of its marks, and a copy of it can be put back at any time.
-#[derive(Debug, Drop)]
+#[derive(Drop)]
 pub struct MarkRow {
     marks: Vec<Mark>,
 }

@@ -13,7 +13,7 @@ use std::marker::Model;
 /// Of each process of the site and each origin the greatest stamp of a probe that went on at it: 0 where there was none.
 ///
 /// A call fails only when memory runs out, and then nothing has changed.
-#[derive(Debug, Drop)]
+#[derive(Drop)]
 pub struct MarkTable {
     /// At the numbers of the site's processes.
     rows: Vec<MarkRow>,

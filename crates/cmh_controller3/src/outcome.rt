@@ -3,7 +3,7 @@
 use cmh_model3::{Message, ProcId, Sendings, Stamp};
 
 /// That a process is deadlocked, and since when.
-#[derive(Clone, Copy, Debug, PartialEq, Eq)]
+#[derive(Clone, Copy, PartialEq, Eq)]
 pub struct Declaration {
     pub process: ProcId,
     /// The number of the stop at which the process lay on a cycle.
@@ -11,7 +11,7 @@ pub struct Declaration {
 }
 
 /// What a step sends and declares.
-#[derive(Debug, Drop)]
+#[derive(Drop)]
 pub struct Outcome {
     pub sent: Sendings<Message>,
     /// The process that was declared, where it was not before.

@@ -14,7 +14,7 @@ use std::mem;
 /// Pairs of processes: at the number of each process of the site those with which it is a pair, ascending.
 ///
 /// A call fails only when memory runs out, and then nothing has changed.
-#[derive(Debug, Drop)]
+#[derive(Drop)]
 pub struct PairTable {
     rows: Vec<ProcList>,
 }

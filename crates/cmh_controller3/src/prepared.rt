@@ -9,7 +9,7 @@ use std::alloc::{AllocError, Global};
 
 /// A step that a controller has prepared: its outcome is known and nothing of it can fail any longer. It waits to be
 /// carried out or taken back.
-#[derive(Debug, Drop)]
+#[derive(Drop)]
 pub struct Prepared {
     /// What the step sends and declares.
     pub outcome: Outcome,
@@ -17,7 +17,7 @@ pub struct Prepared {
 }
 
 /// What stood, before a step, at the places that its first half has written. Elsewhere it says nothing.
-#[derive(Debug, Drop)]
+#[derive(Drop)]
 pub(crate) struct Before {
     /// The clock of the site.
     pub clock: Stamp,

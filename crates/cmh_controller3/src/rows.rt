@@ -19,7 +19,7 @@ use cmh_waits3::{SiteWaits, WaitRow};
 use std::alloc::{AllocError, Global};
 
 /// What a process forgets when it becomes active.
-#[derive(Debug, Drop)]
+#[derive(Drop)]
 pub struct Forgotten {
     pub marks: MarkRow,
     pub declared: bool,
@@ -27,7 +27,7 @@ pub struct Forgotten {
 
 /// What stood, before the second half of a step, at the places that it writes: rows of one process, and the clock. A row
 /// that is not there was not changed.
-#[derive(Debug, Drop)]
+#[derive(Drop)]
 pub struct Rows {
     pub process: ProcId,
     pub clock: Stamp,

@@ -95,7 +95,7 @@ pub struct Here<'a> {
 }
 
 /// What a site sees for an ask: a deadlock, or else none, and then probes go out.
-#[derive(Debug, Drop)]
+#[derive(Drop)]
 pub struct Sight {
     pub deadlocked: bool,
     pub sent: Vec<(SiteId, Message)>,

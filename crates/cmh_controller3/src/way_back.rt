@@ -14,7 +14,7 @@ use std::alloc::{AllocError, Global};
 
 /// What a controller needs to go back to before a step that was carried out: what stood at the places that the step wrote.
 /// It holds rows of one process, and never a table.
-#[derive(Debug, Drop)]
+#[derive(Drop)]
 pub struct WayBack {
     /// What stood before the first half.
     pub(crate) before: Before,

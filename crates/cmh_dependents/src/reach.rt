@@ -17,7 +17,7 @@ use std::alloc::{AllocError, Global};
 /// What a member reaches by waits between members, itself among it, and whether it waits there for itself.
 ///
 /// It takes no memory: a member stands for itself by its number.
-#[derive(Clone, Copy, Debug, PartialEq, Eq)]
+#[derive(Clone, Copy)]
 pub struct Reach {
     /// The numbers of the members that are reached, as bits.
     pub places: u64,

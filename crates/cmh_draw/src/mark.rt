@@ -4,14 +4,14 @@ use cmh_frames::{Event, Frame, ProcId, SiteId};
 use cmh_model3::Stamp;
 
 /// A place in a picture: a column from the left and a row from the top, both from 0.
-#[derive(Clone, Copy, Debug)]
+#[derive(Clone, Copy)]
 pub struct Spot {
     pub column: u32,
     pub row: u32,
 }
 
 /// An entry of a site's journal by its number, from 1, and where it is drawn.
-#[derive(Clone, Copy, Debug)]
+#[derive(Clone, Copy)]
 pub struct EntrySpot {
     pub site: SiteId,
     pub number: usize,
@@ -19,7 +19,7 @@ pub struct EntrySpot {
 }
 
 /// One thing that is drawn.
-#[derive(Debug, Drop)]
+#[derive(Drop)]
 pub enum Mark {
     Site(Site),
     Process(Process),
@@ -37,7 +37,7 @@ pub enum Mark {
 
 /// A site: its place among those of the topology, from 0, and how long it is. In a picture of waits it is a box round so
 /// many processes, in a run a line of so many columns.
-#[derive(Clone, Copy, Debug)]
+#[derive(Clone, Copy)]
 pub struct Site {
     pub site: SiteId,
     pub place: u32,
@@ -45,7 +45,7 @@ pub struct Site {
 }
 
 /// A process at its site.
-#[derive(Clone, Copy, Debug)]
+#[derive(Clone, Copy)]
 pub struct Process {
     pub process: ProcId,
     pub site: SiteId,
@@ -54,7 +54,7 @@ pub struct Process {
 }
 
 /// A process waits for another; the wait may lie on the cycle of a declared process.
-#[derive(Clone, Copy, Debug)]
+#[derive(Clone, Copy)]
 pub struct Wait {
     pub asker: ProcId,
     pub holder: ProcId,
@@ -64,7 +64,7 @@ pub struct Wait {
 }
 
 /// What happened at a site.
-#[derive(Debug, Drop)]
+#[derive(Drop)]
 pub enum DrawnEvent {
     /// In editions 1 and 2.
     Older(Event),
@@ -73,7 +73,7 @@ pub enum DrawnEvent {
 }
 
 /// What one site sends to another.
-#[derive(Clone, Copy, Debug)]
+#[derive(Clone, Copy)]
 pub enum DrawnFrame {
     /// In editions 1 and 2.
     Older(Frame),
@@ -82,7 +82,7 @@ pub enum DrawnFrame {
 }
 
 /// A process that was declared.
-#[derive(Clone, Copy, Debug)]
+#[derive(Clone, Copy)]
 pub struct Declared {
     pub process: ProcId,
     /// The stop at which its cycle stood, in edition 3.
@@ -92,7 +92,7 @@ pub struct Declared {
 }
 
 /// What happened at a site, and who was declared then.
-#[derive(Debug, Drop)]
+#[derive(Drop)]
 pub struct EntryMark {
     pub at: EntrySpot,
     pub event: DrawnEvent,
@@ -101,7 +101,7 @@ pub struct EntryMark {
 
 /// A frame from the entry that sent it, with its place among all that this entry sent, from 0, to the entry that got it.
 /// Where none did it is lost, or waits on its link.
-#[derive(Clone, Copy, Debug)]
+#[derive(Clone, Copy)]
 pub struct Arrow {
     pub from: EntrySpot,
     pub place: usize,

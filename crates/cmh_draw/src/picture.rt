@@ -6,7 +6,7 @@ use crate::mark::Mark;
 use std::str::FromStr;
 
 /// What a picture is of.
-#[derive(Clone, Copy, Debug)]
+#[derive(Clone, Copy)]
 pub enum Kind {
     /// Who waits for whom at the end.
     Waits,
@@ -15,7 +15,7 @@ pub enum Kind {
 }
 
 /// The word names no kind of picture.
-#[derive(Clone, Copy, Debug, PartialEq, Eq)]
+#[derive(Clone, Copy)]
 pub struct NoKind;
 
 /// The words of a command line: `waits` and `run`.
@@ -34,7 +34,7 @@ impl FromStr for Kind {
 }
 
 /// What is drawn, and how many columns and rows it takes.
-#[derive(Debug, Drop)]
+#[derive(Drop)]
 pub struct Picture {
     pub kind: Kind,
     /// Whether processes may withdraw, as in edition 3: then the legend says how that looks.

@@ -10,7 +10,7 @@ use cmh_journal::{JournalFault, SetFault};
 use std::alloc::{AllocError, AllocFailed};
 
 /// Why an audit ends without a verdict, and why the journals are not drawn.
-#[derive(Clone, Copy, Debug, PartialEq, Eq)]
+#[derive(Clone, Copy)]
 pub enum AuditFault {
     /// What the topology file holds is not the JSON of a topology.
     Json,

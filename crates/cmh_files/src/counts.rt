@@ -10,7 +10,7 @@ use std::marker::Model;
 /// How many frames were counted of each site.
 ///
 /// It grows up to the greatest number of a site that was counted.
-#[derive(Debug, Drop)]
+#[derive(Drop)]
 pub struct Counts {
     /// Each at its site's number.
     counts: Vec<u64>,

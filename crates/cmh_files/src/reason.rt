@@ -8,7 +8,7 @@ use cmh_frames::{Frame, ProcId, SiteId};
 use std::fmt;
 
 /// Why a site can't take its next entry. The first of these that holds is given.
-#[derive(Clone, Copy, Debug, PartialEq, Eq)]
+#[derive(Clone, Copy)]
 pub enum Reason {
     /// The site's controller refuses the event.
     Refused(Refusal),

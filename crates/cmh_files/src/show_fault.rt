@@ -9,7 +9,7 @@ use cmh_journal::JournalFault;
 use std::alloc::AllocFailed;
 
 /// Why journals are not shown.
-#[derive(Clone, Copy, Debug, PartialEq, Eq)]
+#[derive(Clone, Copy)]
 pub enum ShowFault {
     /// What the file at this place in the command, from 1, holds is no journal.
     Journal(usize, JournalFault),

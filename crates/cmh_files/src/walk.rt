@@ -11,7 +11,7 @@ use cmh_journal::{Entries, StoredEntry, StoredJournal};
 use std::alloc::{AllocError, Global};
 
 /// A place after some of the first entries of a journal, and how many frames they sent to each site and got from it.
-#[derive(Debug, Drop)]
+#[derive(Drop)]
 pub struct Walk<'a> {
     pub site: SiteId,
     pub left: Entries<'a>,

@@ -11,7 +11,7 @@ use cmh_topology3::TopologyFault;
 use std::alloc::{AllocError, AllocFailed};
 
 /// Why an audit ends without a verdict.
-#[derive(Clone, Copy, Debug, PartialEq, Eq)]
+#[derive(Clone, Copy)]
 pub enum AuditFault {
     /// What the topology file holds is not the JSON of a topology of edition 3.
     Json,

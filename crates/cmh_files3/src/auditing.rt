@@ -24,7 +24,7 @@ use std::fmt;
 use std::io::Write;
 
 /// The journals of a command, in its order.
-#[derive(Debug, Drop)]
+#[derive(Drop)]
 struct Segments {
     segments: Vec<Segment>,
     /// The sites whose journal was cut off, ascending, and how many bytes stand after its last entry.
@@ -32,7 +32,7 @@ struct Segments {
 }
 
 /// The journals of all sites of a world.
-#[derive(Debug, Drop)]
+#[derive(Drop)]
 pub struct World {
     pub topology: Topology,
     pub segments: Vec<Segment>,
@@ -41,7 +41,7 @@ pub struct World {
 }
 
 /// What an audit finds.
-#[derive(Debug, Drop)]
+#[derive(Drop)]
 pub enum Finding {
     /// The journals come from a run, on which this is the report.
     Accepted(Report),
@@ -50,14 +50,14 @@ pub enum Finding {
 }
 
 /// What an audit finds, and more lines of it.
-#[derive(Debug, Drop)]
+#[derive(Drop)]
 pub struct Told {
     pub finding: Finding,
     pub lines: String,
 }
 
 /// What an audit comes to.
-#[derive(Debug, Drop)]
+#[derive(Drop)]
 pub struct Audited {
     pub world: Topology,
     /// The sites whose journal was cut off, ascending, and how many bytes stand after its last entry.

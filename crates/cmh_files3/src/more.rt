@@ -19,7 +19,7 @@ use std::alloc::{AllocError, Global};
 use std::fmt::Write;
 
 /// What an audit writes after its lines.
-#[derive(Clone, Copy, Debug, PartialEq, Eq)]
+#[derive(Clone, Copy)]
 pub enum More {
     Nothing,
     /// Where the segments come from no run, why each site stops.

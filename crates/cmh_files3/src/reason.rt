@@ -10,7 +10,7 @@ use cmh_segment3::Declaration;
 use std::fmt;
 
 /// Why a site can't take its next entry. The first of these that holds is given.
-#[derive(Clone, Copy, Debug, PartialEq, Eq)]
+#[derive(Clone, Copy)]
 pub enum Reason {
     /// The site's controller refuses the event.
     Refused(Refusal),

@@ -10,7 +10,7 @@ use std::marker::Model;
 /// How many entries of each site were taken.
 ///
 /// It grows up to the greatest number of a site that took one.
-#[derive(Debug, Drop)]
+#[derive(Drop)]
 pub struct Taken {
     /// Each at its site's number.
     counts: Vec<usize>,

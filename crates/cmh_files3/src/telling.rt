@@ -13,7 +13,7 @@ use std::alloc::Global;
 use std::io::Write;
 
 /// What an audit comes to, and more lines of it.
-#[derive(Debug, Drop)]
+#[derive(Drop)]
 struct AuditedMore {
     audited: Audited,
     lines: String,

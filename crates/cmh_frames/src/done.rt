@@ -7,7 +7,7 @@ use crate::ProcId;
 use std::fmt;
 
 /// What a step sent, in frames, and declared.
-#[derive(Clone, Copy, Debug, PartialEq, Eq)]
+#[derive(Clone, Copy)]
 pub struct Done {
     pub sent: usize,
     pub declared: Option<ProcId>,

@@ -7,7 +7,7 @@ ghost use Rattle.cmh_frames.specs.Edition as spec;
 use std::fmt;
 
 /// An edition of the rules and formats. All sites of a world are of one.
-#[derive(Clone, Copy, Debug, PartialEq, Eq, PartialOrd, Ord, Hash)]
+#[derive(Clone, Copy, PartialEq, Eq, PartialOrd, Ord, Hash)]
 pub enum Edition {
     /// Probe computations start where they are asked for.
     One,

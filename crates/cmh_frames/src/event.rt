@@ -8,7 +8,7 @@ use std::alloc::{AllocError, Global};
 use std::marker::Model;
 
 /// The processes that an ask names, in the order in which it names them.
-#[derive(Debug, Drop)]
+#[derive(Drop)]
 pub struct Targets {
     processes: Vec<ProcId>,
 }
@@ -59,7 +59,7 @@ pub fn is_ascending(processes: &[ProcId]) -> bool
 }
 
 /// What happens at a controller.
-#[derive(Debug, Drop)]
+#[derive(Drop)]
 pub enum Event {
     /// A process asks for what others hold, and waits for all of them.
     Ask { asker: ProcId, targets: Targets },

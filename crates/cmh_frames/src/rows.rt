@@ -19,7 +19,7 @@ use thiserror::Error;
 const WORDS: usize = 1024;
 
 /// A site and its processes, as they are given: any numbers, in any order.
-#[derive(Debug, Drop)]
+#[derive(Drop)]
 pub struct SiteRow {
     pub site: u16,
     pub processes: Vec<u16>,

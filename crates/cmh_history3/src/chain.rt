@@ -24,7 +24,7 @@ use cmh_wire3::Epoch;
 use std::alloc::Global;
 
 /// Whether epochs come one after the other.
-#[derive(Clone, Copy, Debug, PartialEq, Eq)]
+#[derive(Clone, Copy)]
 pub enum ChainVerdict {
     /// They do.
     Accepted,

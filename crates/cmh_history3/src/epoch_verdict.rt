@@ -18,7 +18,7 @@ use cmh_topology3::Topology;
 use std::alloc::Global;
 
 /// Whether the segments of an epoch come from a run from their bases.
-#[derive(Debug, Drop)]
+#[derive(Drop)]
 pub enum EpochVerdict {
     /// They do.
     Accepted {

@@ -20,7 +20,7 @@ use cmh_wire3::Epoch;
 use std::alloc::Global;
 
 /// What an audit of some epochs finds.
-#[derive(Debug, Drop)]
+#[derive(Drop)]
 pub struct Part {
     /// The epochs, in order. The last one is open, and has all that follows.
     pub epochs: Vec<Rows<Segment>>,

@@ -21,7 +21,7 @@ use std::alloc::{AllocError, Global};
 use thiserror::Error;
 
 /// Whether the epochs of journals come one after the other.
-#[derive(Clone, Copy, Debug, PartialEq, Eq)]
+#[derive(Clone, Copy)]
 pub enum HistoryVerdict {
     /// They do.
     Accepted,

@@ -7,7 +7,7 @@ use cmh_frames::{SiteId, SiteRow};
 use std::alloc::{AllocError, Global};
 
 /// The ports on which the sites listen.
-#[derive(Debug, Drop)]
+#[derive(Drop)]
 pub struct Ports {
     pairs: Vec<(SiteId, u16)>,
 }

@@ -18,7 +18,7 @@ pub struct Setting {
 }
 
 /// Why a topology file is not that of running sites.
-#[derive(Clone, Copy, Debug, PartialEq, Eq)]
+#[derive(Clone, Copy)]
 pub enum SettingFault {
     /// What the file holds is not the JSON of a topology with ports.
     Json,

@@ -10,7 +10,7 @@ use cmh_frames::TopologyFault;
 use std::alloc::{AllocError, AllocFailed};
 
 /// Why a site ends before it is told to, as `site` or as a service.
-#[derive(Clone, Copy, Debug, PartialEq, Eq)]
+#[derive(Clone, Copy)]
 pub enum SiteFault {
     /// What the topology file holds is not the JSON of a topology with ports.
     Json,

@@ -9,7 +9,7 @@ use cmh_station::{Declared, StationRefusal};
 use std::fmt;
 
 /// What is written for a line that running sites are given.
-#[derive(Debug, Drop)]
+#[derive(Drop)]
 pub enum SiteReply {
     /// Nothing: the line is empty or a comment.
     Silent,
@@ -29,7 +29,7 @@ pub enum SiteReply {
 }
 
 /// The states of the two links between a site and another one.
-#[derive(Clone, Copy, Debug, PartialEq, Eq)]
+#[derive(Clone, Copy)]
 pub struct LinkEnds {
     pub site: SiteId,
     /// Of the link to that site.
@@ -50,7 +50,7 @@ impl fmt::Display for LinkEnds {
 }
 
 /// A link that closed, as it is printed before a cluster's report.
-#[derive(Clone, Copy, Debug, PartialEq, Eq)]
+#[derive(Clone, Copy)]
 pub struct ClosedLink {
     pub from: SiteId,
     pub to: SiteId,

@@ -9,7 +9,7 @@ use cmh_console::{Line, Words, number, parse};
 use std::alloc::{AllocError, Global};
 
 /// What a line of one word wants of a running site.
-#[derive(Clone, Copy, Debug, PartialEq, Eq)]
+#[derive(Clone, Copy)]
 pub enum Order {
     /// The processes that it declared.
     Declared,
@@ -22,7 +22,7 @@ pub enum Order {
 }
 
 /// A line for one running site.
-#[derive(Debug, Drop)]
+#[derive(Drop)]
 pub enum SiteLine {
     Order(Order),
     /// What it says in every script. All but silence and events is a bad line here.
@@ -30,7 +30,7 @@ pub enum SiteLine {
 }
 
 /// A line for all sites of a running topology.
-#[derive(Debug, Drop)]
+#[derive(Drop)]
 pub enum ClusterLine {
     /// The processes that the site with this number declared.
     Declared(u16),

@@ -8,7 +8,7 @@ use cmh_console::Fault;
 use std::alloc::{AllocError, AllocFailed};
 
 /// Why a file that the command line names is not read.
-#[derive(Clone, Copy, Debug, PartialEq, Eq)]
+#[derive(Clone, Copy)]
 pub enum FileFault {
     /// The topology can't be read.
     Topology,

@@ -6,7 +6,7 @@ ghost use Rattle.cmh_inputs.specs.Stored.{IsOpenedAt, Stored, TakesUpTo};
 use std::alloc::AllocError;
 
 /// Why a file was not read.
-#[derive(Clone, Copy, Debug, PartialEq, Eq)]
+#[derive(Clone, Copy)]
 pub enum NotRead {
     /// There is none that can be read, or it is too long.
     Refused,

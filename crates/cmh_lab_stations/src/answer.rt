@@ -7,7 +7,7 @@ use std::fmt;
 const ROOM: usize = 1 << 16;
 
 /// Why a line has no answer of its own.
-#[derive(Clone, Copy, Debug, PartialEq, Eq)]
+#[derive(Clone, Copy)]
 pub enum Unanswered {
     /// It fits no call, or gives a call what it may not be given.
     BadLine,

@@ -13,7 +13,7 @@ pub trait Lab: Drop {
 }
 
 /// How a call is made.
-#[derive(Clone, Copy, Debug, PartialEq, Eq)]
+#[derive(Clone, Copy)]
 enum Manner {
     Once,
     /// Once more where memory was refused.

@@ -52,7 +52,7 @@ pub trait Handover {
 }
 
 /// How reading a connection ended.
-#[derive(Clone, Copy, Debug, PartialEq, Eq)]
+#[derive(Clone, Copy)]
 pub enum ReaderEnd {
     /// No good hello of an expected site was read.
     NoLink,

@@ -19,7 +19,7 @@ const MOST_GATHERED: usize = 4096;
 const LONGEST_FRAME: usize = 7;
 
 /// What a writing thread does next.
-#[derive(Clone, Copy, Debug, PartialEq, Eq)]
+#[derive(Clone, Copy, PartialEq, Eq)]
 pub enum Next {
     /// It writes a frame.
     Frame(Frame),

@@ -1,7 +1,7 @@
 //! What becomes of a connection.
 
 /// What becomes of a connection.
-#[derive(Clone, Copy, Debug, PartialEq, Eq)]
+#[derive(Clone, Copy)]
 pub enum Onward {
     /// It goes on.
     Open,

@@ -60,7 +60,7 @@ impl Model for Outgoing {
 }
 
 /// What came of taking what is next in what was heard.
-#[derive(Clone, Copy, Debug, PartialEq, Eq)]
+#[derive(Clone, Copy, PartialEq, Eq)]
 pub(crate) enum Next {
     /// It was taken.
     Taken,

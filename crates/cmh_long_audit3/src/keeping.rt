@@ -11,7 +11,7 @@ use std::fmt::Write;
 const NUMBERS: usize = 65_536;
 
 /// A base that does not say what the entries before it come to.
-#[derive(Clone, Copy, Debug, PartialEq, Eq)]
+#[derive(Clone, Copy)]
 pub struct Flaw {
     /// That with which it begins.
     pub epoch: Epoch,

@@ -21,7 +21,7 @@ use std::alloc::Global;
 use std::io::Write;
 
 /// Which epochs an audit reads.
-#[derive(Clone, Copy, Debug, PartialEq, Eq)]
+#[derive(Clone, Copy)]
 pub struct EpochRange {
     /// The first one, from whose bases it begins.
     pub first: Epoch,

@@ -5,7 +5,7 @@ use cmh_segment3::Segment;
 use cmh_wire3::Epoch;
 
 /// An entry of a site, by its segment. The head of a segment, which is the turn to it, is at 0.
-#[derive(Clone, Copy, Debug, PartialEq, Eq)]
+#[derive(Clone, Copy)]
 pub struct Place {
     /// That of the segment.
     pub epoch: Epoch,

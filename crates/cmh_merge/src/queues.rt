@@ -11,7 +11,7 @@ use std::collections::VecDeque;
 use std::marker::Model;
 
 /// The frames from one site to another, the oldest first.
-#[derive(Debug, Drop)]
+#[derive(Drop)]
 struct Queue<F> {
     frames: VecDeque<F>,
 }
@@ -63,7 +63,7 @@ impl<F: Copy + Drop> Queue<F> {
 }
 
 /// The queues of one sender, each at its receiver's number.
-#[derive(Debug, Drop)]
+#[derive(Drop)]
 struct Row<F> {
     queues: Vec<Queue<F>>,
 }
@@ -139,7 +139,7 @@ impl<F: Copy + Drop> Row<F> {
 /// The frames that were sent and not yet got, of each site to each other.
 ///
 /// It grows as sites send, up to the greatest numbers that were used, and does not shrink.
-#[derive(Debug, Drop)]
+#[derive(Drop)]
 pub struct Queues<F> {
     alloc: Global,
 

@@ -8,7 +8,7 @@ use cmh_runs::SiteId;
 use std::alloc::AllocError;
 
 /// What is told of the next entry of a journal.
-#[derive(Clone, Copy, Debug, PartialEq, Eq)]
+#[derive(Clone, Copy, PartialEq, Eq)]
 pub enum Next {
     /// There is none.
     End,

@@ -8,7 +8,7 @@ use std::alloc::{AllocError, Global};
 use std::marker::Model;
 
 /// The processes that an ask or a withdrawal names, in the order in which it names them.
-#[derive(Debug, Drop)]
+#[derive(Drop)]
 pub struct Targets {
     processes: Vec<ProcId>,
 }
@@ -52,7 +52,7 @@ impl Targets {
 }
 
 /// What happens at a controller.
-#[derive(Debug, Drop)]
+#[derive(Drop)]
 pub enum Event {
     /// A process asks for what others hold, and waits for all of them. A blocked one asks for more, or of nobody: then
     /// a computation starts for it once more.

@@ -4,7 +4,7 @@ use crate::Stamp;
 use cmh_runs::ProcId;
 
 /// What one site says to another of two processes: the first is at the site that sends, the second at the one that gets.
-#[derive(Clone, Copy, Debug, PartialEq, Eq)]
+#[derive(Clone, Copy, PartialEq, Eq)]
 pub enum Frame {
     /// The asker waits for the holder from now on.
     Request {
@@ -31,7 +31,7 @@ pub enum Frame {
 }
 
 /// A frame, and the clock of its sender after the step that sent it.
-#[derive(Clone, Copy, Debug, PartialEq, Eq)]
+#[derive(Clone, Copy, PartialEq, Eq)]
 pub struct Message {
     pub clock: Stamp,
     pub frame: Frame,

@@ -7,7 +7,7 @@ use std::fmt;
 use std::marker::Model;
 
 /// The stamp of an ask, and the clock of a site: the greatest stamp that it has heard of.
-#[derive(Clone, Copy, Debug, PartialEq, Eq, PartialOrd, Ord, Hash)]
+#[derive(Clone, Copy, PartialEq, Eq, PartialOrd, Ord, Hash)]
 pub struct Stamp {
     number: u64,
 }

@@ -22,7 +22,7 @@ use std::alloc::{AllocError, Global};
 type Answered = Result<Outcome, StepRefusal<RuleRefusal>>;
 
 /// A connection that has the claim of a link.
-#[derive(Clone, Copy, Debug, PartialEq, Eq)]
+#[derive(Clone, Copy)]
 pub struct Admitted {
     /// Where the link's sender stands among the peers.
     pub place: usize,
@@ -31,7 +31,7 @@ pub struct Admitted {
 }
 
 /// What became of messages that came.
-#[derive(Clone, Copy, Debug, PartialEq, Eq)]
+#[derive(Clone, Copy)]
 pub struct Taken {
     /// How many of them were accepted, from the first on. Where it is not all, the connection is closed.
     pub count: usize,
@@ -41,7 +41,7 @@ pub struct Taken {
 }
 
 /// Why messages that came were not taken: the first reason that holds. The connection is closed.
-#[derive(Clone, Copy, Debug, PartialEq, Eq)]
+#[derive(Clone, Copy)]
 pub enum NotTaken {
     /// The site has stopped for good.
     Sealed,

@@ -4,7 +4,7 @@ use cmh_model3::SiteId;
 use cmh_resume3::Mismatch;
 
 /// Why a site takes no more steps and says no more to others, until it is started again.
-#[derive(Clone, Copy, Debug, PartialEq, Eq)]
+#[derive(Clone, Copy)]
 pub enum Sealed {
     /// The journal could not be written, or not synced.
     Disk,

@@ -16,7 +16,7 @@ use cmh_peers3::{Peer, queue_all};
 use cmh_station3::{SegmentFile, Station};
 
 /// Why a call took no event, whatever the rules say of them.
-#[derive(Clone, Copy, Debug, PartialEq, Eq)]
+#[derive(Clone, Copy)]
 pub enum StepFault {
     /// Memory was refused, and nothing has changed.
     Memory,

@@ -15,7 +15,7 @@ use cmh_peers3::{Peer, is_behind};
 use cmh_station3::SegmentFile;
 
 /// Why none of some events was taken: the first reason that holds.
-#[derive(Clone, Copy, Debug, PartialEq, Eq)]
+#[derive(Clone, Copy)]
 pub enum NotStepped {
     /// The site has stopped for good.
     Sealed,

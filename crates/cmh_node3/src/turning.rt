@@ -21,7 +21,7 @@ use std::alloc::{AllocError, Global};
 
 /// Why a site does not begin an epoch: the first reason that holds, but that memory may be refused at any time. It goes on in its
 /// own epoch, unless it has stopped for good.
-#[derive(Clone, Copy, Debug, PartialEq, Eq)]
+#[derive(Clone, Copy)]
 pub enum NotTurned {
     /// The site has stopped for good.
     Sealed,

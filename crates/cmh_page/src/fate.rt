@@ -6,7 +6,7 @@ ghost use Rattle.cmh_page.specs.Moments.{fate_word};
 use std::fmt;
 
 /// What becomes of a probe that comes to a process. The first reason for which it is ignored counts.
-#[derive(Clone, Copy, Debug, PartialEq, Eq)]
+#[derive(Clone, Copy)]
 pub enum Fate {
     /// The process comes to know that the probe's origin depends on it.
     Acts,

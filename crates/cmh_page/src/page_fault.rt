@@ -14,7 +14,7 @@ use std::alloc::{AllocError, AllocFailed};
 use std::io::Write;
 
 /// Why no page is made.
-#[derive(Clone, Copy, Debug, PartialEq, Eq)]
+#[derive(Clone, Copy)]
 pub enum PageFault {
     /// The journals can't be audited, or the page can't be written.
     Audit(AuditFault),

@@ -10,7 +10,7 @@ use cmh_files3::AuditFault;
 use std::alloc::{AllocError, AllocFailed};
 
 /// Why no page is made.
-#[derive(Clone, Copy, Debug, PartialEq, Eq)]
+#[derive(Clone, Copy)]
 pub enum PageFault {
     /// The journals can't be audited, or the page can't be written.
     Audit(AuditFault),

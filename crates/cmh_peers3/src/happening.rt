@@ -8,7 +8,7 @@ use cmh_resume3::{Acknowledgement, Answer, Heard, Mismatch, Refusal, SenderEnd, 
 use cmh_wire3::Epoch;
 
 /// What happened on the link to another site.
-#[derive(Clone, Copy, Debug, PartialEq, Eq)]
+#[derive(Clone, Copy)]
 pub enum Happening {
     /// A connection was dialled.
     Dialled,
@@ -25,7 +25,7 @@ pub enum Happening {
 }
 
 /// What is to be done on the link to another site.
-#[derive(Clone, Copy, Debug, PartialEq, Eq)]
+#[derive(Clone, Copy)]
 pub enum Action {
     /// Nothing.
     Rest,

@@ -10,7 +10,7 @@ use cmh_resume3::{ReceiverEnd, SenderEnd};
 use std::alloc::{AllocError, Global};
 
 /// Another site, and the two ends here of the links with it: of the one to it, and of the one from it.
-#[derive(Debug, Drop)]
+#[derive(Drop)]
 pub struct Peer {
     pub site: SiteId,
     pub out: SenderEnd,

@@ -4,7 +4,7 @@ use crate::point::Point;
 use std::fmt;
 
 /// A quadratic curve from a point to another, drawn towards a third.
-#[derive(Clone, Copy, Debug)]
+#[derive(Clone, Copy)]
 pub struct Curve {
     start: Point,
     pull: Point,

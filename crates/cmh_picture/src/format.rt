@@ -5,7 +5,7 @@ ghost use Rattle.cmh_picture.specs.Formats.{IsFormatOf};
 use std::str::FromStr;
 
 /// How a picture is written.
-#[derive(Clone, Copy, Debug)]
+#[derive(Clone, Copy)]
 pub enum Format {
     /// As text for Graphviz.
     Dot,
@@ -14,7 +14,7 @@ pub enum Format {
 }
 
 /// The word names no format.
-#[derive(Clone, Copy, Debug, PartialEq, Eq)]
+#[derive(Clone, Copy)]
 pub struct NoFormat;
 
 /// The words of a command line: `dot` and `svg`.

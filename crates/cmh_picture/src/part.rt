@@ -6,7 +6,7 @@ ghost use Rattle.cmh_picture.specs.Parts as spec;
 use cmh_draw::{Arrow, Mark, Picture, Spot};
 
 /// The columns of a run that are drawn: from the first to the last, counted from 1.
-#[derive(Clone, Copy, Debug, PartialEq, Eq)]
+#[derive(Clone, Copy)]
 pub struct Part {
     pub first: u32,
     pub last: u32,

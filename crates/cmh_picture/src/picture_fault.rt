@@ -13,7 +13,7 @@ use std::alloc::{AllocError, AllocFailed};
 use std::io::Write;
 
 /// Why no picture is made.
-#[derive(Clone, Copy, Debug, PartialEq, Eq)]
+#[derive(Clone, Copy)]
 pub enum PictureFault {
     /// The journals can't be audited, or the picture can't be written.
     Audit(AuditFault),

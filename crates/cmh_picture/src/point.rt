@@ -3,7 +3,7 @@
 use std::fmt;
 
 /// So many points from the left and from the upper edge. Sums saturate.
-#[derive(Clone, Copy, Debug)]
+#[derive(Clone, Copy)]
 pub struct Point {
     pub x: i32,
     pub y: i32,

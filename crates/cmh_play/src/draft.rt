@@ -9,7 +9,7 @@ use std::alloc::{AllocError, Global};
 use std::marker::Model;
 
 /// The sites of a world that is not played yet, in the order in which they were named.
-#[derive(Debug, Drop)]
+#[derive(Drop)]
 pub struct Draft {
     alloc: Global,
     topology: Topology,

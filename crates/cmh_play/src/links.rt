@@ -9,14 +9,14 @@ use std::collections::BTreeSet;
 use std::marker::Model;
 
 /// The sites that a link goes from and to.
-#[derive(Clone, Copy, Debug, PartialEq, Eq, PartialOrd, Ord)]
+#[derive(Clone, Copy, PartialEq, Eq, PartialOrd, Ord)]
 struct Ends {
     from: SiteId,
     to: SiteId,
 }
 
 /// The links of a world, each with the frames under way on it. A link that was never used is open and empty.
-#[derive(Debug, Drop)]
+#[derive(Drop)]
 pub struct Links {
     under_way: cmh_world::Links,
 

@@ -9,7 +9,7 @@ use cmh_console::{Fault, LineFault, NoFile, WriteFault};
 use std::alloc::AllocError;
 
 /// Why a script is not played to its end, or its journals are not kept.
-#[derive(Clone, Copy, Debug, PartialEq, Eq)]
+#[derive(Clone, Copy)]
 pub enum PlayFault {
     /// The script can't be read.
     Input,

@@ -18,7 +18,7 @@ use std::marker::Model;
 
 /// A world that is played: the controllers of its sites, in the order of the topology, what is kept of their steps, and
 /// the links between the sites. Where no journals are wanted, a step takes no memory that lasts but for what waits.
-#[derive(Debug, Drop)]
+#[derive(Drop)]
 pub struct Playground {
     topology: Topology,
     controllers: Vec<Controller>,

@@ -10,7 +10,7 @@ use cmh_frames::{Done, Edition, Frame, TopologyFault};
 use std::fmt;
 
 /// What is written for a line of a script. A verdict is boxed, so that the reply to any other line is small.
-#[derive(Debug, Drop)]
+#[derive(Drop)]
 pub enum Reply {
     /// Nothing: the line is empty or a comment.
     Silent,

@@ -13,7 +13,7 @@ use cmh_journal::whole_law;
 use std::alloc::AllocError;
 
 /// Why a site took no step.
-#[derive(Clone, Copy, Debug, PartialEq, Eq)]
+#[derive(Clone, Copy)]
 pub enum Refused {
     /// The controller refused the event.
     Rule(Refusal),
@@ -22,7 +22,7 @@ pub enum Refused {
 }
 
 /// What came of an event.
-#[derive(Clone, Copy, Debug, PartialEq, Eq)]
+#[derive(Clone, Copy)]
 pub(crate) enum Step {
     Taken(Done),
     Refused(Refused),

@@ -10,7 +10,7 @@ use std::marker::Model;
 
 /// The sites of a world that is not played yet, in the order in which they were named. A world in memory has the number
 /// 0, since it meets no other.
-#[derive(Debug, Drop)]
+#[derive(Drop)]
 pub struct Draft {
     alloc: Global,
     topology: Topology,

@@ -10,7 +10,7 @@ use std::collections::BTreeSet;
 use std::marker::Model;
 
 /// The sites that a link goes from and to.
-#[derive(Clone, Copy, Debug, PartialEq, Eq, PartialOrd, Ord)]
+#[derive(Clone, Copy, PartialEq, Eq, PartialOrd, Ord)]
 struct Ends {
     from: SiteId,
     to: SiteId,
@@ -18,7 +18,7 @@ struct Ends {
 
 /// The links of a world, each with the messages under way on it. A link that was never used is open and empty. What is
 /// sent on a link that is cut stays under way for ever: nobody takes it off.
-#[derive(Debug, Drop)]
+#[derive(Drop)]
 pub struct Links {
     queues: Queues<Message>,
     cut: BTreeSet<Ends>,

@@ -24,7 +24,7 @@ use std::alloc::{AllocError, Global};
 
 /// A world that is played: the controllers of its sites, in the order of the topology, what happened to them, in one order,
 /// and the links between the sites. What an event sent is on the links alone, so that it takes memory as long as it waits.
-#[derive(Debug, Drop)]
+#[derive(Drop)]
 pub struct Playground {
     topology: Topology,
     controllers: Vec<Controller>,
@@ -39,7 +39,7 @@ pub struct Playground {
 }
 
 /// What came of an event.
-#[derive(Clone, Copy, Debug, PartialEq, Eq)]
+#[derive(Clone, Copy)]
 enum Step {
     Taken(Done),
     Refused(Refusal),

@@ -11,14 +11,14 @@ use cmh_topology3::TopologyFault;
 use std::fmt;
 
 /// How many messages a step sent, and whom it declared.
-#[derive(Clone, Copy, Debug, PartialEq, Eq)]
+#[derive(Clone, Copy)]
 pub struct Done {
     pub sent: usize,
     pub declared: Option<Declaration>,
 }
 
 /// What is written for a line of a script. A report is boxed, so that the reply to any other line is small.
-#[derive(Debug, Drop)]
+#[derive(Drop)]
 pub enum Reply {
     /// Nothing: the line is empty or a comment.
     Silent,

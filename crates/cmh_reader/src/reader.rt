@@ -13,7 +13,7 @@ use std::alloc::Global;
 use std::marker::Model;
 
 /// A reader of what one site sends on one link.
-#[derive(Debug, Drop)]
+#[derive(Drop)]
 pub struct FrameReader {
     alloc: Global,
     edition: Edition,

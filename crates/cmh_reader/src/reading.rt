@@ -11,7 +11,7 @@ use cmh_frames::{Edition, Frame, Front, HELLO_LEN, SiteId, Spelled, decode_front
 use std::alloc::{AllocError, Global};
 
 /// The frames that a piece made whole, and what the stream has come to after it.
-#[derive(Debug, Drop)]
+#[derive(Drop)]
 pub struct Progress {
     pub frames: Vec<Frame>,
     pub standing: Standing,

@@ -7,7 +7,7 @@ use crate::fault::ReadFault;
 use cmh_frames::{SiteId, Spelled};
 
 /// What a stream has come to.
-#[derive(Debug, Drop)]
+#[derive(Drop)]
 pub enum Standing {
     /// These bytes of a hello that isn't whole.
     Greeting(Spelled),

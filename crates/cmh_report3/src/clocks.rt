@@ -11,7 +11,7 @@ use std::alloc::{AllocError, Global};
 use std::marker::Model;
 
 /// The clock of each site, 0 at first.
-#[derive(Debug, Drop)]
+#[derive(Drop)]
 pub struct Clocks {
     /// At the site's number.
     clocks: Vec<Stamp>,

@@ -14,7 +14,7 @@ use cmh_model3::{Event, Message, ProcId, Stamp, WorldEvent};
 use std::alloc::{AllocError, Global};
 
 /// What became of a cycle of a stop.
-#[derive(Debug, Drop)]
+#[derive(Drop)]
 pub enum CycleNow {
     /// Its waits stand since: the shortest and of those the least of such cycles, from the process to itself.
     Stands(Vec<ProcId>),
@@ -29,7 +29,7 @@ pub enum CycleNow {
 }
 
 /// A process that is declared deadlocked, or was.
-#[derive(Debug, Drop)]
+#[derive(Drop)]
 pub struct Deadlock {
     pub process: ProcId,
     /// The stop at which it lay on a cycle.

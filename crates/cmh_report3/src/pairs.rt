@@ -14,7 +14,7 @@ use std::marker::Model;
 /// A set of pairs of processes.
 ///
 /// It grows up to the greatest number of a first process, and does not shrink.
-#[derive(Debug, Drop)]
+#[derive(Drop)]
 pub struct PairSet {
     alloc: Global,
 

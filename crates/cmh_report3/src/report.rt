@@ -24,7 +24,7 @@ use cmh_topology3::Topology;
 use std::alloc::{AllocError, Global};
 
 /// What the entries of a world come to. Printed, it is the lines of a report, the first of which is `accepted`.
-#[derive(Debug, Drop)]
+#[derive(Drop)]
 pub struct Report {
     /// How many entries there are.
     pub events: usize,

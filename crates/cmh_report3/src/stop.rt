@@ -15,7 +15,7 @@ use cmh_model3::{Event, Message, ProcId, Stamp, WorldEvent};
 use std::alloc::{AllocError, Global};
 
 /// A stop of a run.
-#[derive(Debug, Drop)]
+#[derive(Drop)]
 pub struct Stop {
     /// The waits that stood at the stop.
     pub waits: PairSet,

@@ -15,7 +15,7 @@ use std::alloc::{AllocError, AllocFailed};
 use std::fmt;
 
 /// Why a world is not restored.
-#[derive(Clone, Copy, Debug, PartialEq, Eq)]
+#[derive(Clone, Copy)]
 pub enum RestoreFault {
     /// What the topology file holds is not the JSON of a topology of edition 3.
     Json,
@@ -38,7 +38,7 @@ pub enum RestoreFault {
 }
 
 /// Which bases are wrong. Printed, it is the line that an audit has for them.
-#[derive(Clone, Copy, Debug, PartialEq, Eq)]
+#[derive(Clone, Copy)]
 pub enum WrongBases {
     /// That of this site is of no state.
     Of(SiteId),
@@ -58,7 +58,7 @@ impl fmt::Display for WrongBases {
 }
 
 /// What the command says of a fault.
-#[derive(Clone, Copy, Debug, PartialEq, Eq)]
+#[derive(Clone, Copy)]
 pub enum Told {
     /// A line on standard output.
     Wrong(WrongBases),

@@ -10,14 +10,14 @@ use byteorder::{BigEndian, ByteOrder};
 use cmh_wire3::{Cursor, Epoch};
 
 /// How many frames of a link the receiver has in its journal, all synced, and its epoch.
-#[derive(Clone, Copy, Debug, PartialEq, Eq)]
+#[derive(Clone, Copy)]
 pub struct Acknowledgement {
     pub count: u64,
     pub epoch: Epoch,
 }
 
 /// What bytes begin with that a sender gets after the answer.
-#[derive(Clone, Copy, Debug, PartialEq, Eq)]
+#[derive(Clone, Copy)]
 pub enum AcknowledgementFront {
     /// An acknowledgement: its 13 bytes.
     Whole(Acknowledgement),

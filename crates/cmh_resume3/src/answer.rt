@@ -12,7 +12,7 @@ use cmh_wire3::{Cursor, Mark, put_u64};
 use std::alloc::AllocError;
 
 /// How many frames of a link the receiver has in its journal, all synced, and their mark.
-#[derive(Clone, Copy, Debug, PartialEq, Eq)]
+#[derive(Clone, Copy)]
 pub struct Answer {
     /// The receiver, as it speaks to the sender.
     pub hello: Hello,
@@ -21,7 +21,7 @@ pub struct Answer {
 }
 
 /// What bytes begin with that a sender gets first.
-#[derive(Clone, Copy, Debug, PartialEq, Eq)]
+#[derive(Clone, Copy)]
 pub enum ReplyFront {
     /// An answer: its 44 bytes.
     Answered(Answer),

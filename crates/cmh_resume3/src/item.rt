@@ -11,7 +11,7 @@ use cmh_model3::Message;
 use cmh_wire3::{Cursor, Epoch, Front, decode_front};
 
 /// What a sender says on a link after the answer.
-#[derive(Clone, Copy, Debug, PartialEq, Eq)]
+#[derive(Clone, Copy)]
 pub enum Item {
     /// A message, which counts.
     Message(Message),
@@ -22,7 +22,7 @@ pub enum Item {
 }
 
 /// What bytes begin with that a receiver gets after the hello.
-#[derive(Clone, Copy, Debug, PartialEq, Eq)]
+#[derive(Clone, Copy)]
 pub enum ItemFront {
     /// An item, and how many bytes spell it.
     Whole(Item, usize),

@@ -13,7 +13,7 @@ use cmh_wire3::{Epoch, Mark, encode};
 use std::marker::Model;
 
 /// Why a message is not taken.
-#[derive(Clone, Copy, Debug, PartialEq, Eq)]
+#[derive(Clone, Copy)]
 pub enum Untaken {
     /// It came on a connection that has not the claim: that connection is closed.
     Stale,
@@ -29,7 +29,7 @@ const SILENCE: u64 = 30_000;
 
 /// The receiver's end of a link: how many of its messages are in the journal, and the one connection whose messages are
 /// taken. Connections have numbers that the caller gives them, and times are milliseconds.
-#[derive(Debug, Drop)]
+#[derive(Drop)]
 pub struct ReceiverEnd {
     got: u64,
     mark: Mark,

@@ -6,7 +6,7 @@ ghost use Rattle.cmh_resume3.specs.declared.refusal.Mismatch.{Mismatch as Mismat
 ghost use Rattle.cmh_resume3.specs.declared.refusal.Refusal.{Refusal as RefusalType};
 
 /// Why a receiver does not take a sender's frames.
-#[derive(Clone, Copy, Debug, PartialEq, Eq)]
+#[derive(Clone, Copy)]
 pub enum Refusal {
     /// The hello is one of another edition.
     OtherEdition,
@@ -23,7 +23,7 @@ pub enum Refusal {
 }
 
 /// What a sender finds in an answer or an acknowledgement that can't be where both journals have all that was synced.
-#[derive(Clone, Copy, Debug, PartialEq, Eq)]
+#[derive(Clone, Copy)]
 pub enum Mismatch {
     /// The receiver got more than was sent: the sender's journal lacks frames.
     MoreThanSent,

@@ -16,7 +16,7 @@ use std::collections::VecDeque;
 use std::marker::Model;
 
 /// How the connection of a sender's end stands. Times are milliseconds.
-#[derive(Clone, Copy, Debug, PartialEq, Eq)]
+#[derive(Clone, Copy)]
 pub enum State {
     /// There is none. The next dial is due when the pause since then is over.
     Down {
@@ -44,7 +44,7 @@ pub enum State {
 }
 
 /// What is to be done about something that was heard.
-#[derive(Clone, Copy, Debug, PartialEq, Eq)]
+#[derive(Clone, Copy)]
 pub enum Heard {
     /// The site turns to the epoch that was said, and then this is heard again.
     Turn,
@@ -57,7 +57,7 @@ pub enum Heard {
 }
 
 /// What is to be done at a time.
-#[derive(Clone, Copy, Debug, PartialEq, Eq)]
+#[derive(Clone, Copy)]
 pub enum Task {
     Rest,
     /// A connection is dialled, and the hello written.
@@ -85,7 +85,7 @@ const SILENCE: u64 = 5_000;
 /// The sender's end of a link: the messages that the receiver is not known to have synced, and how the connection stands.
 ///
 /// It is given only messages that are synced.
-#[derive(Debug, Drop)]
+#[derive(Drop)]
 pub struct SenderEnd {
     acked: u64,
     mark: Mark,
@@ -106,7 +106,7 @@ impl Model for SenderEnd {
 }
 
 /// Why a message is not queued.
-#[derive(Clone, Copy, Debug, PartialEq, Eq)]
+#[derive(Clone, Copy)]
 pub enum Unqueued {
     /// No more messages can be counted.
     Full,

@@ -11,7 +11,7 @@ use cmh_waits::LocalWaits;
 use std::alloc::{AllocError, Global};
 
 /// What the receipt of a probe comes to.
-#[derive(Debug, Drop)]
+#[derive(Drop)]
 pub enum ProbeVerdict {
     /// The probe does not act: its receiver is active, owes the sender nothing, or is known to depend on the origin.
     Ignored,

@@ -11,7 +11,7 @@ use cmh_waits::LocalWaits;
 use std::alloc::{AllocError, Global};
 
 /// What the start of a probe computation for a process comes to.
-#[derive(Debug, Drop)]
+#[derive(Drop)]
 pub enum StartVerdict {
     /// The process depends on itself by waits inside the site.
     Declared,

@@ -13,7 +13,7 @@ use cmh_model3::{Event, ProcId, SiteId, Targets};
 use std::alloc::{AllocError, Global};
 
 /// A line of a script.
-#[derive(Debug, Drop)]
+#[derive(Drop)]
 pub enum Line {
     /// An empty line or a comment, which has no answer.
     Silent,
@@ -26,7 +26,7 @@ pub enum Line {
 }
 
 /// A line that acts on the world.
-#[derive(Debug, Drop)]
+#[derive(Drop)]
 pub enum Command {
     /// An event for the controller of the process's home. A `start` is an ask of nobody.
     Act { process: ProcId, event: Event },
@@ -41,7 +41,7 @@ pub enum Command {
 }
 
 /// The forms of lines, by their names.
-#[derive(Clone, Copy, Debug, PartialEq, Eq)]
+#[derive(Clone, Copy)]
 enum Form {
     Edition,
     Site,

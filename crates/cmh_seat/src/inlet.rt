@@ -15,7 +15,7 @@ use std::marker::Model;
 pub const FRAME_LEFT: usize = 6;
 
 /// Why an inlet gives no frames.
-#[derive(Clone, Copy, Debug, PartialEq, Eq)]
+#[derive(Clone, Copy)]
 pub enum InletFault {
     /// What was lent may be shorter than the frames: it has fewer bytes than the piece and six. The piece was not looked
     /// at.

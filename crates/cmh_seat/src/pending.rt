@@ -3,7 +3,7 @@
 use cmh_frames::Entry;
 
 /// A step that the controller has prepared, and that waits to be kept or dropped.
-#[derive(Debug, Drop)]
+#[derive(Drop)]
 pub(crate) struct Pending {
     pub(crate) entry: Entry,
     /// Whether it is the receipt of a probe that acted.

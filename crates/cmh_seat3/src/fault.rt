@@ -3,7 +3,7 @@
 use cmh_controller3::Refusal;
 
 /// Why a seat takes no step, or answers no question. The first reason that holds is given, in this order.
-#[derive(Clone, Copy, Debug, PartialEq, Eq)]
+#[derive(Clone, Copy)]
 pub enum SeatFault {
     /// An entry is prepared, and waits to be kept or dropped.
     Prepared,

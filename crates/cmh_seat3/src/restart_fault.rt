@@ -9,7 +9,7 @@ use std::alloc::AllocError;
 
 /// Why no site is opened on the bytes of a journal, or nothing is told of its links. The first reason that holds is given,
 /// but that memory may be refused at any time.
-#[derive(Clone, Copy, Debug, PartialEq, Eq)]
+#[derive(Clone, Copy)]
 pub enum RestartFault {
     /// No whole head of a segment with its mark begins the bytes.
     NoSegment,

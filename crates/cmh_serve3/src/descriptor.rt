@@ -7,7 +7,7 @@ use mio::{Interest, Registry, Token};
 /// as of a file, none ever waits.
 ///
 /// A write goes on without waiting where it has at most as many bytes as a pipe takes at once, 4,096.
-#[derive(Debug, Drop)]
+#[derive(Drop)]
 pub(crate) struct Descriptor {
     number: i32,
     token: Token,

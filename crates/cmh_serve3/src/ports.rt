@@ -6,7 +6,7 @@ use serde_json::Value;
 use std::alloc::{AllocError, Global};
 
 /// The ports of 127.0.0.1 on which the sites listen for one another.
-#[derive(Debug, Drop)]
+#[derive(Drop)]
 pub(crate) struct Ports {
     pairs: Vec<(SiteId, u16)>,
 }

@@ -13,7 +13,7 @@ use std::fmt;
 use std::io::Write;
 
 /// Why a site of edition 3 does not run, or runs no more. Printed, it is the fault's line.
-#[derive(Clone, Copy, Debug, PartialEq, Eq)]
+#[derive(Clone, Copy)]
 pub enum ServeFault {
     /// What the topology file holds is not the JSON of a topology of edition 3 with ports.
     Json,

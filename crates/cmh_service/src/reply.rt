@@ -9,7 +9,7 @@ use cmh_station::StationRefusal;
 use std::fmt;
 
 /// What is sent for an event: its outcome, or why it was refused.
-#[derive(Clone, Copy, Debug, PartialEq, Eq)]
+#[derive(Clone, Copy)]
 pub enum EventReply {
     /// The step sent so many frames.
     Taken { sent: usize },
@@ -46,7 +46,7 @@ impl fmt::Display for EventReply {
 }
 
 /// What is sent for another line of a client.
-#[derive(Debug, Drop)]
+#[derive(Drop)]
 pub enum Reply {
     /// What a site answers to the same line.
     Site(SiteReply),
@@ -60,7 +60,7 @@ pub enum Reply {
 }
 
 /// The figures of a running site.
-#[derive(Clone, Copy, Debug, PartialEq, Eq)]
+#[derive(Clone, Copy)]
 pub struct Status {
     /// The entries of its journal.
     pub entries: usize,

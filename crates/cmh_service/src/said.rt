@@ -11,7 +11,7 @@ use cmh_host::{Order, SiteLine, parse_for_site};
 use std::alloc::{AllocError, Global};
 
 /// What a line of a client says.
-#[derive(Debug, Drop)]
+#[derive(Drop)]
 pub enum Said {
     Event(Line),
     /// The processes that the site declared.

@@ -11,7 +11,7 @@ use cmh_host::{SettingFault, SiteFault};
 use std::alloc::{AllocError, AllocFailed};
 
 /// Why a service ends.
-#[derive(Clone, Copy, Debug, PartialEq, Eq)]
+#[derive(Clone, Copy)]
 pub enum ServiceFault {
     /// What the topology file holds is not the JSON of a topology with ports.
     Json,
@@ -30,7 +30,7 @@ pub enum ServiceFault {
 }
 
 /// What a service that has its topology runs short of.
-#[derive(Clone, Copy, Debug, PartialEq, Eq)]
+#[derive(Clone, Copy)]
 pub(crate) enum Shortage {
     /// It can't listen for its clients, or can't wait for them any more.
     Listen,

@@ -10,7 +10,7 @@ use std::marker::Model;
 pub(crate) const MOST: usize = 64;
 
 /// A list of at most 64 processes, in the order in which they were declared.
-#[derive(Debug, Drop)]
+#[derive(Drop)]
 pub struct Declared {
     processes: [ProcId; MOST],
     count: usize,

@@ -83,7 +83,7 @@ where
 }
 
 /// How a cluster ended, besides what it wrote.
-#[derive(Clone, Copy, Debug, PartialEq, Eq)]
+#[derive(Clone, Copy)]
 pub struct ClusterEnd {
     /// The status of the program.
     pub status: u8,

@@ -10,7 +10,7 @@ use cmh_host::SettingFault;
 use std::alloc::{AllocError, AllocFailed};
 
 /// Why a cluster ends without an audit.
-#[derive(Clone, Copy, Debug, PartialEq, Eq)]
+#[derive(Clone, Copy)]
 pub enum ClusterFault {
     /// What the topology file holds is not the JSON of a topology with ports.
     Json,

@@ -13,7 +13,7 @@ use std::alloc::Global;
 use std::fmt;
 
 /// More descriptors are needed than the process may have. Printed, it is the line that names it.
-#[derive(Clone, Copy, Debug, PartialEq, Eq)]
+#[derive(Clone, Copy)]
 pub struct Shortage {
     pub needed: u64,
     pub allowed: u64,

@@ -14,7 +14,7 @@ use std::time::Duration;
 const MOST_SILENT_SECONDS: u64 = 10;
 
 /// The frames that came on a link, by the first entries of the receiver's journal. The count stops at its greatest number.
-#[derive(Clone, Copy, Debug, PartialEq, Eq)]
+#[derive(Clone, Copy)]
 pub struct Receipts {
     /// The sender.
     from: SiteId,
@@ -47,7 +47,7 @@ impl Receipts {
 
 /// The frames that were sent on a link, by the first entries of the sender's journal. The count stops at its greatest
 /// number.
-#[derive(Clone, Copy, Debug, PartialEq, Eq)]
+#[derive(Clone, Copy)]
 pub struct Sendings {
     /// The receiver.
     to: SiteId,
@@ -135,7 +135,7 @@ fn frames_for(frames: &[(SiteId, Frame)], site: SiteId) -> u64
 }
 
 /// A look at the journals of all sites, one after the other, for the frames that they got.
-#[derive(Debug, Drop)]
+#[derive(Drop)]
 pub struct ReceiptLook {
     /// How many journals were looked at.
     places: usize,
@@ -152,7 +152,7 @@ impl ReceiptLook {
 
 /// A look at the journals of all sites for the frames that they sent. It comes after one for the frames that they got, so
 /// that each of those is counted among the frames that were sent.
-#[derive(Debug, Drop)]
+#[derive(Drop)]
 pub struct SendingLook {
     /// In how many journals receipts were counted before.
     received: usize,
@@ -174,7 +174,7 @@ impl SendingLook {
 }
 
 /// The frames that went from each site to each other, as far as the journals were looked at. A site is known by its place.
-#[derive(Debug, Drop)]
+#[derive(Drop)]
 pub struct Tally {
     /// By the places of the receiver and the sender.
     received: Vec<Vec<Receipts>>,

@@ -3,7 +3,7 @@
 use cmh_model3::{Event, ProcId};
 
 /// Something to be done by the site, which is answered once it is done.
-#[derive(Debug, Drop)]
+#[derive(Drop)]
 pub enum Deed {
     /// An event of a process. A `start` is an ask of nobody.
     Event(Event),
@@ -12,7 +12,7 @@ pub enum Deed {
 }
 
 /// Something to be told by the site.
-#[derive(Clone, Copy, Debug, PartialEq, Eq)]
+#[derive(Clone, Copy)]
 pub enum Question {
     /// The processes that are declared now.
     Declared,

@@ -9,7 +9,7 @@ use cmh_resume3::{ReceiverEnd, SenderEnd, State};
 use std::fmt;
 
 /// How the link to another site stands.
-#[derive(Clone, Copy, Debug, PartialEq, Eq)]
+#[derive(Clone, Copy, PartialEq, Eq)]
 pub enum OutState {
     /// Messages are written.
     Open,
@@ -20,7 +20,7 @@ pub enum OutState {
 }
 
 /// How the link from another site stands.
-#[derive(Clone, Copy, Debug, PartialEq, Eq)]
+#[derive(Clone, Copy, PartialEq, Eq)]
 pub enum IntoState {
     /// A connection has the claim.
     Open,
@@ -31,7 +31,7 @@ pub enum IntoState {
 }
 
 /// How the two links with another site stand.
-#[derive(Clone, Copy, Debug, PartialEq, Eq)]
+#[derive(Clone, Copy)]
 pub struct LinkStates {
     pub site: SiteId,
     /// The link to that site.

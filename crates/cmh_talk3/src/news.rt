@@ -8,7 +8,7 @@ use cmh_model3::{ProcId, SiteId, Stamp};
 use std::fmt;
 
 /// A piece of news.
-#[derive(Clone, Copy, Debug, PartialEq, Eq)]
+#[derive(Clone, Copy, PartialEq, Eq)]
 pub enum News {
     /// A process is declared deadlocked. Its cycle stood at this stop.
     Declared { process: ProcId, stop: Stamp },

@@ -13,7 +13,7 @@ use cmh_wire3::Epoch;
 use std::fmt;
 
 /// What is sent for a deed.
-#[derive(Clone, Copy, Debug, PartialEq, Eq)]
+#[derive(Clone, Copy)]
 pub enum EventReply {
     /// The step sent so many messages.
     Taken {
@@ -46,7 +46,7 @@ impl fmt::Display for EventReply {
 }
 
 /// What is sent for a question.
-#[derive(Debug, Drop)]
+#[derive(Drop)]
 pub enum Reply {
     /// The line fits nothing.
     BadLine,
@@ -70,14 +70,14 @@ pub enum Reply {
 }
 
 /// What is known of a running site beside its node.
-#[derive(Clone, Copy, Debug, PartialEq, Eq)]
+#[derive(Clone, Copy)]
 pub struct Figures {
     /// How many clients it has.
     pub clients: usize,
 }
 
 /// The figures of a running site.
-#[derive(Clone, Copy, Debug, PartialEq, Eq)]
+#[derive(Clone, Copy)]
 pub struct Status {
     /// The entries of its journal.
     pub entries: usize,

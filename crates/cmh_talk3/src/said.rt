@@ -14,7 +14,7 @@ use cmh_script3::{Command, Line};
 use std::alloc::{AllocError, Global};
 
 /// What a line of a client says.
-#[derive(Debug, Drop)]
+#[derive(Drop)]
 pub enum Said {
     /// Nothing: it is empty or a comment.
     Silent,
@@ -25,7 +25,7 @@ pub enum Said {
 }
 
 /// The lines of one word.
-#[derive(Clone, Copy, Debug, PartialEq, Eq)]
+#[derive(Clone, Copy)]
 enum Word {
     Declared,
     Links,

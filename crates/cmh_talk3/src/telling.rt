@@ -19,7 +19,7 @@ use std::alloc::{AllocError, Global};
 type Answered = Result<Outcome, Refusal<RuleRefusal>>;
 
 /// A process that has given up its wait for another one of another site, whose site has not answered yet.
-#[derive(Clone, Copy, Debug, PartialEq, Eq)]
+#[derive(Clone, Copy)]
 pub struct LeftPair {
     pub asker: ProcId,
     pub holder: ProcId,

@@ -18,7 +18,7 @@ use std::alloc::{AllocError, Global};
 use std::marker::Model;
 
 /// A site with its processes, ascending.
-#[derive(Debug, Drop)]
+#[derive(Drop)]
 struct Row {
     site: SiteId,
     members: Vec<ProcId>,
@@ -33,7 +33,7 @@ impl Model for Row {
 }
 
 /// The number of a world, and its sites with their processes: at most 64 sites, 256 processes at each, and 4,096 in all.
-#[derive(Debug, Drop)]
+#[derive(Drop)]
 pub struct Topology {
     world: World,
 

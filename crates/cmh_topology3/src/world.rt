@@ -9,7 +9,7 @@ use std::marker::Model;
 use std::str::FromStr;
 
 /// The number of a world: 16 bytes, drawn at random, so that sites and journals of different runs never meet.
-#[derive(Clone, Copy, Debug, PartialEq, Eq)]
+#[derive(Clone, Copy, PartialEq, Eq)]
 pub struct World {
     number: [u8; World::LEN],
 }
@@ -58,7 +58,7 @@ impl fmt::Display for World {
 }
 
 /// The text is not one of 32 hexadecimal digits.
-#[derive(Clone, Copy, Debug, PartialEq, Eq)]
+#[derive(Clone, Copy)]
 pub struct NoWorld;
 
 /// From 32 hexadecimal digits, in either case.

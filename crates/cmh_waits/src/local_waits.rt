@@ -26,7 +26,7 @@ use std::mem::replace;
 /// a site are those that the topology puts there, ascending; all others are at other sites. Waits between members are
 /// rows of bits, those for other sites are lists, and what is owed to other sites are sets of bits. A call fails only
 /// when memory runs out, and then nothing has changed.
-#[derive(Debug, Drop)]
+#[derive(Drop)]
 pub struct LocalWaits {
     alloc: Global,
     /// A member's place here is its number in the rows.

@@ -12,7 +12,7 @@ use std::marker::Model;
 const NOWHERE: u8 = 255;
 
 /// The members of a site, each at its place.
-#[derive(Debug, Drop)]
+#[derive(Drop)]
 pub struct MemberTable {
     processes: Vec<ProcId>,
     /// At the number of each member its place.

@@ -18,7 +18,7 @@ use std::marker::Model;
 ///
 /// It grows up to the greatest number since it was cleared. A call fails only when memory runs out, and then nothing has
 /// changed.
-#[derive(Debug, Drop)]
+#[derive(Drop)]
 pub struct ProcBits {
     /// The bit k % 64 of the word k / 64 stands for the process number k.
     words: Vec<u64>,

@@ -9,7 +9,7 @@ use std::alloc::{AllocError, Global};
 use std::marker::Model;
 
 /// The processes of a site, each at its place: how many stand before it.
-#[derive(Debug, Drop)]
+#[derive(Drop)]
 pub struct MemberTable {
     processes: Vec<ProcId>,
     /// At the number of each of them its place. At other numbers stands a place too, where another process stands.

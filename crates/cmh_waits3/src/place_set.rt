@@ -4,7 +4,7 @@ ghost use Rattle.std.specs.Prelude.{◌≡◌, ℕ, ◌/◌, ◌%◌, ◌<◌, �
 ghost use Rattle.cmh_waits3.specs.Inner.Steps.{has_place, is_set};
 
 /// Some of the places 0 to 255. It takes no memory.
-#[derive(Clone, Copy, Debug)]
+#[derive(Clone, Copy)]
 pub struct PlaceSet {
     words: [u64; 4],
 }

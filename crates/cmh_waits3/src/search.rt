@@ -13,7 +13,7 @@ use cmh_model3::{ProcId, Stamp};
 use std::alloc::{AllocError, Global};
 
 /// What a site finds when it looks along the waits that count for an ask.
-#[derive(Debug, Drop)]
+#[derive(Drop)]
 pub enum Finding {
     /// The process that asked is on a cycle.
     Deadlock,

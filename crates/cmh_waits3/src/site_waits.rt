@@ -25,7 +25,7 @@ use std::marker::Model;
 ///
 /// A process is blocked where it waits for some process, and else active. A site has 256 processes at most; its waits have no
 /// limit here. A call fails only when memory runs out, and then nothing has changed.
-#[derive(Debug, Drop)]
+#[derive(Drop)]
 pub struct SiteWaits {
     members: MemberTable,
     /// At the place of each process its waits.

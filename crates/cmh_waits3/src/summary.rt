@@ -14,7 +14,7 @@ use crate::wait::{Wait, is_no_younger};
 use cmh_model3::{ProcId, Stamp};
 
 /// What a search needs of the waits of one process, so that it mostly need not look at each.
-#[derive(Clone, Copy, Debug)]
+#[derive(Clone, Copy)]
 pub struct Summary {
     /// The places of the processes of the site that it waits for.
     pub here: PlaceSet,

@@ -6,7 +6,7 @@ ghost use Rattle.cmh_model3.specs.Lists.{is_before};
 use cmh_model3::{ProcId, Stamp};
 
 /// That a process waits for another, and since which ask of it.
-#[derive(Clone, Copy, Debug, PartialEq, Eq)]
+#[derive(Clone, Copy)]
 pub struct Wait {
     /// The process that is waited for.
     pub target: ProcId,

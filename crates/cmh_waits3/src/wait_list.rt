@@ -16,7 +16,7 @@ use std::marker::Model;
 /// The waits of one process, ascending by the processes that are waited for.
 ///
 /// A call fails only when memory runs out, and then nothing has changed.
-#[derive(Debug, Drop)]
+#[derive(Drop)]
 pub struct WaitList {
     waits: Vec<Wait>,
 }

@@ -8,7 +8,7 @@ use std::marker::Model;
 
 /// A copy of the waits of a process, and the room that putting it back takes. It can be put back at each site, whatever else
 /// has changed there.
-#[derive(Debug, Drop)]
+#[derive(Drop)]
 pub struct WaitRow {
     pub(crate) waits: WaitList,
     /// The same once more: the list of those of them that are for processes of other sites is made of it.

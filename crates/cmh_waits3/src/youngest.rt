@@ -7,7 +7,7 @@ use crate::wait::is_no_younger;
 use cmh_model3::{ProcId, Stamp};
 
 /// An ask such that no wait of the site is younger.
-#[derive(Clone, Copy, Debug)]
+#[derive(Clone, Copy)]
 pub struct Youngest {
     pub stamp: Stamp,
     pub asker: ProcId,

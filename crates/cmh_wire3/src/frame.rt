@@ -10,7 +10,7 @@ use cmh_model3::{Frame, Message, ProcId, Stamp};
 use std::marker::Model;
 
 /// What bytes begin with.
-#[derive(Clone, Copy, Debug, PartialEq, Eq)]
+#[derive(Clone, Copy)]
 pub enum Front {
     /// A message, and how many bytes spell it.
     Whole(Message, usize),
@@ -62,7 +62,7 @@ fn is_short(bytes: &[u8]) -> bool
 }
 
 /// The bytes of a message: no more than 23.
-#[derive(Debug, Drop)]
+#[derive(Drop)]
 pub struct Spelled {
     bytes: [u8; PROBE_LEN],
     len: usize,

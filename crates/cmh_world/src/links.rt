@@ -10,7 +10,7 @@ use std::collections::VecDeque;
 use std::marker::Model;
 
 /// The frames from one site to another, the oldest first.
-#[derive(Debug, Drop)]
+#[derive(Drop)]
 struct Queue {
     frames: VecDeque<Frame>,
 }
@@ -82,7 +82,7 @@ impl Queue {
 }
 
 /// The queues of one sender, each at its receiver's number.
-#[derive(Debug, Drop)]
+#[derive(Drop)]
 struct Row {
     queues: Vec<Queue>,
 }
@@ -182,7 +182,7 @@ impl Row {
 /// The frames that were sent and not yet got, of each site to each other.
 ///
 /// It grows as sites send, up to the greatest numbers that were used, and does not shrink.
-#[derive(Debug, Drop)]
+#[derive(Drop)]
 pub struct Links {
     alloc: Global,
 
