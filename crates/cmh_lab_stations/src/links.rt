@@ -8,7 +8,7 @@ use crate::carriers::Taking;
 use crate::hands::Frames;
 use crate::making::word;
 use crate::object::{Object, Objects, topology};
-use crate::reading::{edition, number, senders};
+use crate::reading::{edition, named, number, senders};
 use cmh_carriers::{Incoming, MemIncoming, Outgoing};
 use cmh_console::Words;
 use cmh_frames::{Edition, SiteId};
@@ -63,6 +63,22 @@ fn put_state(state: Option<LinkState>, answer: &mut Answer) -> Result<(), Unansw
     }
 }
 
+/// A call of links.
+#[derive(Clone, Copy)]
+enum Verb {
+    Claim,
+    Open,
+    In,
+    Out,
+}
+
+const VERBS: [(&str, Verb); 4] = [
+    ("claim", Verb::Claim),
+    ("open", Verb::Open),
+    ("in", Verb::In),
+    ("out", Verb::Out),
+];
+
 /// `claim`, `open`, `in` and `out` with a site; `close in` and `close out` with a site and a fault.
 pub fn call_links<R: Wait>(
     rt: &R,
@@ -76,19 +92,19 @@ pub fn call_links<R: Wait>(
     let site = words.site().ok_or(Unanswered::BadLine)?;
     if closes {
         let fault = fault_of(number(words)?)?;
-        match str::from_utf8(what) {
-            Ok("in") => links.lock(rt).close_in(site, fault),
-            Ok("out") => links.lock(rt).close_out(site, fault),
+        match named(&VERBS, what) {
+            Some(Verb::In) => links.lock(rt).close_in(site, fault),
+            Some(Verb::Out) => links.lock(rt).close_out(site, fault),
             _ => return Err(Unanswered::BadLine),
         }
         return answer.word("ok");
     }
-    match str::from_utf8(what) {
-        Ok("claim") => answer.word(links.lock(rt).claim(site)),
-        Ok("open") => answer.word(links.lock(rt).open_out(site)),
-        Ok("in") => put_state(links.lock(rt).state_in(site), answer),
-        Ok("out") => put_state(links.lock(rt).state_out(site), answer),
-        _ => Err(Unanswered::BadLine),
+    match named(&VERBS, what) {
+        Some(Verb::Claim) => answer.word(links.lock(rt).claim(site)),
+        Some(Verb::Open) => answer.word(links.lock(rt).open_out(site)),
+        Some(Verb::In) => put_state(links.lock(rt).state_in(site), answer),
+        Some(Verb::Out) => put_state(links.lock(rt).state_out(site), answer),
+        None => Err(Unanswered::BadLine),
     }
 }
 

@@ -29,6 +29,7 @@ use crate::answer::{Answer, Unanswered};
 use crate::lab::{Lab, run_lab};
 use crate::making::word;
 use crate::object::{Object, Objects};
+use crate::reading::named;
 use cmh_console::{Input, Output, Words};
 use std::alloc::Global;
 use std::io::{BufReader, BufWriter};
@@ -39,6 +40,46 @@ use std::{env, io};
 
 /// How many times more a call that takes no memory is made.
 const ROUNDS: u32 = 100;
+
+/// A call whose line does not begin with the name of an object.
+#[derive(Clone, Copy)]
+enum Verb {
+    Forget,
+    Topology,
+    Station,
+    Core,
+    Bytes,
+    Audit,
+    Incoming,
+    Outgoing,
+    Hands,
+    Frames,
+    Links,
+    Reader,
+    Writer,
+    Note,
+    Meter,
+    Refusal,
+}
+
+const VERBS: [(&str, Verb); 16] = [
+    ("forget", Verb::Forget),
+    ("topology", Verb::Topology),
+    ("station", Verb::Station),
+    ("core", Verb::Core),
+    ("bytes", Verb::Bytes),
+    ("audit", Verb::Audit),
+    ("incoming", Verb::Incoming),
+    ("outgoing", Verb::Outgoing),
+    ("hands", Verb::Hands),
+    ("frames", Verb::Frames),
+    ("links", Verb::Links),
+    ("reader", Verb::Reader),
+    ("writer", Verb::Writer),
+    ("note", Verb::Note),
+    ("meter", Verb::Meter),
+    ("refusal", Verb::Refusal),
+];
 
 /// The calls of this laboratory, over the objects that lines have named.
 #[derive(Drop)]
@@ -51,28 +92,30 @@ struct Stations<R: Wait + Copy + Drop> {
 impl<R: Wait + Copy + Drop> Lab for Stations<R> {
     fn call(&mut self, words: &mut Words<'_>, answer: &mut Answer) -> Result<(), Unanswered> {
         let first = word(words)?;
-        let (alloc, objects) = (self.alloc, &mut self.objects);
-        match str::from_utf8(first) {
-            Ok("forget") => {
+        let Some(verb) = named(&VERBS, first) else {
+            return self.call_object(first, words, answer);
+        };
+        let (rt, alloc, objects) = (self.rt, self.alloc, &mut self.objects);
+        match verb {
+            Verb::Forget => {
                 objects.clear();
                 answer.word("ok")
             }
-            Ok("topology") => making::make_topology(alloc, objects, words, answer),
-            Ok("station") => making::make_station(self.rt, alloc, objects, words, answer),
-            Ok("core") => making::make_core(alloc, objects, words, answer),
-            Ok("bytes") => making::make_bytes(alloc, objects, words, answer),
-            Ok("audit") => auditing::audit_sinks(alloc, objects, words, answer),
-            Ok("incoming") => carriers::make_incoming(alloc, objects, words, answer),
-            Ok("outgoing") => carriers::make_outgoing(alloc, objects, words, answer),
-            Ok("hands") => hands::make_hands(alloc, objects, words, answer),
-            Ok("frames") => hands::make_frames(alloc, objects, words, answer),
-            Ok("links") => links::make_links(alloc, objects, words, answer),
-            Ok("reader") => links::read_link(self.rt, alloc, objects, words, answer),
-            Ok("writer") => links::write_link(self.rt, objects, words, answer),
-            Ok("note") => noting::tell_note(words, answer),
-            Ok("meter") => noting::make_meter(objects, words, answer),
-            Ok("refusal") => telling::tell_refusal(words, answer),
-            _ => self.call_object(first, words, answer),
+            Verb::Topology => making::make_topology(alloc, objects, words, answer),
+            Verb::Station => making::make_station(rt, alloc, objects, words, answer),
+            Verb::Core => making::make_core(alloc, objects, words, answer),
+            Verb::Bytes => making::make_bytes(alloc, objects, words, answer),
+            Verb::Audit => auditing::audit_sinks(alloc, objects, words, answer),
+            Verb::Incoming => carriers::make_incoming(alloc, objects, words, answer),
+            Verb::Outgoing => carriers::make_outgoing(alloc, objects, words, answer),
+            Verb::Hands => hands::make_hands(alloc, objects, words, answer),
+            Verb::Frames => hands::make_frames(alloc, objects, words, answer),
+            Verb::Links => links::make_links(alloc, objects, words, answer),
+            Verb::Reader => links::read_link(rt, alloc, objects, words, answer),
+            Verb::Writer => links::write_link(rt, objects, words, answer),
+            Verb::Note => noting::tell_note(words, answer),
+            Verb::Meter => noting::make_meter(objects, words, answer),
+            Verb::Refusal => telling::tell_refusal(words, answer),
         }
     }
 }

@@ -4,7 +4,7 @@ use crate::answer::{Answer, Unanswered};
 use crate::links::{fault_of, state_of};
 use crate::making::word;
 use crate::object::{Object, Objects};
-use crate::reading::number;
+use crate::reading::{named, number};
 use cmh_carriers::{Meter, Note, Noted, Origin};
 use cmh_console::Words;
 use cmh_frames::SiteId;
@@ -14,18 +14,15 @@ fn site(words: &mut Words<'_>) -> Result<SiteId, Unanswered> {
     words.site().ok_or(Unanswered::BadLine)
 }
 
-/// The note that a word alone says.
-fn plain_note(word: &[u8]) -> Option<Note> {
-    match word {
-        b"strange" => Some(Note::StrangeHello),
-        b"silent" => Some(Note::NoHello),
-        b"full" => Some(Note::TurnedAway),
-        b"deaf" => Some(Note::AcceptingEnded),
-        b"thread" => Some(Note::NoThread),
-        b"sealed" => Some(Note::Sealed),
-        _ => None,
-    }
-}
+/// The notes that a word alone says.
+const PLAIN_NOTES: [(&str, Note); 6] = [
+    ("strange", Note::StrangeHello),
+    ("silent", Note::NoHello),
+    ("full", Note::TurnedAway),
+    ("deaf", Note::AcceptingEnded),
+    ("thread", Note::NoThread),
+    ("sealed", Note::Sealed),
+];
 
 /// The note that a word and a number say.
 fn counted_note(word: &[u8], count: u64) -> Option<Note> {
@@ -49,7 +46,7 @@ fn site_note(word: &[u8], site: SiteId, words: &mut Words<'_>) -> Result<Option<
 
 fn note_of(words: &mut Words<'_>) -> Result<Note, Unanswered> {
     let word = word(words)?;
-    if let Some(note) = plain_note(word) {
+    if let Some(note) = named(&PLAIN_NOTES, word) {
         return Ok(note);
     }
     let note = match word {
@@ -86,21 +83,36 @@ pub fn make_meter<R: Wait + Copy + Drop>(
     answer.word("ok")
 }
 
+/// A call of a meter.
+#[derive(Clone, Copy)]
+enum Verb {
+    Admit,
+    Turn,
+    Leave,
+    Left,
+}
+
+const VERBS: [(&str, Verb); 4] = [
+    ("admit", Verb::Admit),
+    ("turn", Verb::Turn),
+    ("leave", Verb::Leave),
+    ("left", Verb::Left),
+];
+
 /// `admit`: whether one more is told; `turn SECOND`: how many were left out in the second before; `leave COUNT`; `left`.
 pub fn call_meter(
     meter: &mut Meter,
     words: &mut Words<'_>,
     answer: &mut Answer,
 ) -> Result<(), Unanswered> {
-    let call = word(words)?;
-    match str::from_utf8(call) {
-        Ok("admit") => answer.word(meter.admit()),
-        Ok("turn") => answer.word(meter.turn(number(words)?)),
-        Ok("leave") => {
+    let verb = named(&VERBS, word(words)?).ok_or(Unanswered::BadLine)?;
+    match verb {
+        Verb::Admit => answer.word(meter.admit()),
+        Verb::Turn => answer.word(meter.turn(number(words)?)),
+        Verb::Leave => {
             meter.leave_out(number(words)?);
             answer.word("ok")
         }
-        Ok("left") => answer.word(meter.left_out()),
-        _ => Err(Unanswered::BadLine),
+        Verb::Left => answer.word(meter.left_out()),
     }
 }

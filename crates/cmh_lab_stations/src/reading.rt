@@ -7,6 +7,16 @@ use cmh_console::Words;
 use cmh_frames::{Edition, Event, Frame, Probe, ProcId, Reply, Request, SiteId, SiteRow, Targets};
 use std::alloc::Global;
 
+/// What a word names in a table of words. The prover takes a table sooner than a `match` over texts.
+pub fn named<C: Copy>(table: &[(&str, C)], word: &[u8]) -> Option<C> {
+    for (name, meaning) in table {
+        if name.as_bytes() == word {
+            return Some(*meaning);
+        }
+    }
+    None
+}
+
 /// The value of a digit.
 fn digit(byte: u8, radix: u32) -> Option<u8>
     requires { (2 ≤ radix) × (radix ≤ 36) }

@@ -9,6 +9,7 @@ use crate::disk::Disk;
 use crate::left::Left;
 use crate::object::Object;
 use crate::questions::question;
+use crate::reading::named;
 use crate::shared::share;
 use crate::stepping::{Stepping, Steps, call_stepping, look};
 use crate::taps::take_from;
@@ -19,6 +20,22 @@ use cmh_station::{BoardReader, KeptBoard, LinkTap, Station, StationRefusal, Told
 use std::alloc::Global;
 use std::marker::Model;
 use std::sync::Wait;
+
+/// A call of a station alone.
+#[derive(Clone, Copy)]
+enum Verb {
+    Tell,
+    Learn,
+    Read,
+    Taps,
+}
+
+const VERBS: [(&str, Verb); 4] = [
+    ("tell", Verb::Tell),
+    ("learn", Verb::Learn),
+    ("read", Verb::Read),
+    ("taps", Verb::Taps),
+];
 
 pub type Kept<R> = Station<Disk, KeptBoard<R>>;
 
@@ -223,7 +240,7 @@ impl<R: Wait + Copy + Drop> Opened<R> {
         call_stepping(alloc, self, first, words, answer)
     }
 
-    /// A call that leaves the station where it is.
+    /// A call that leaves the station where it is: `tell`, `learn NUMBER`, `read NUMBER`, `taps`, or another one.
     fn call(
         &mut self,
         alloc: Global,
@@ -231,12 +248,12 @@ impl<R: Wait + Copy + Drop> Opened<R> {
         words: &mut Words<'_>,
         answer: &mut Answer,
     ) -> Result<(), Unanswered> {
-        match str::from_utf8(first) {
-            Ok("tell") => self.tell(answer),
-            Ok("learn") => self.learn(words, answer),
-            Ok("read") => self.read(words, answer),
-            Ok("taps") => self.put_taps(answer),
-            _ => self.look_or_step(alloc, first, words, answer),
+        match named(&VERBS, first) {
+            Some(Verb::Tell) => self.tell(answer),
+            Some(Verb::Learn) => self.learn(words, answer),
+            Some(Verb::Read) => self.read(words, answer),
+            Some(Verb::Taps) => self.put_taps(answer),
+            None => self.look_or_step(alloc, first, words, answer),
         }
     }
 }

@@ -5,7 +5,7 @@ ghost use Rattle.cmh_station.specs.Journaled.{batch_limit};
 
 use crate::answer::{Answer, Unanswered};
 use crate::disk::Disk;
-use crate::reading::{event, size};
+use crate::reading::{event, named, size};
 use crate::telling::{put_entries, put_step, put_steps};
 use cmh_console::{Words, number};
 use cmh_frames::{Entry, Event, Frame, Outcome, ProcId, SiteId, Targets};
@@ -58,14 +58,12 @@ fn events(alloc: Global, words: &mut Words<'_>) -> Result<Vec<Event>, Unanswered
         let Some(first) = words.next_word() else {
             break;
         };
-        match str::from_utf8(first) {
-            Ok("/") => {}
-            Ok("ask") => {
-                let asker = words.process().ok_or(Unanswered::BadLine)?;
-                let targets = targets(alloc, words)?;
-                events.push(Event::Ask { asker, targets })?;
-            }
-            _ => events.push(event(alloc, first, words)?)?,
+        if first == b"ask".as_slice() {
+            let asker = words.process().ok_or(Unanswered::BadLine)?;
+            let targets = targets(alloc, words)?;
+            events.push(Event::Ask { asker, targets })?;
+        } else if first != b"/".as_slice() {
+            events.push(event(alloc, first, words)?)?;
         }
     }
     Ok(events)
@@ -106,6 +104,24 @@ fn step_times<T: Stepping>(
     answer.word(taken)
 }
 
+/// A call that is no event.
+#[derive(Clone, Copy)]
+enum Verb {
+    All,
+    Until,
+    Times,
+    Release,
+    Take,
+}
+
+const VERBS: [(&str, Verb); 5] = [
+    ("all", Verb::All),
+    ("until", Verb::Until),
+    ("times", Verb::Times),
+    ("release", Verb::Release),
+    ("take", Verb::Take),
+];
+
 /// `all EVENT / EVENT ..`, `until EVENT / EVENT ..`, `times COUNT EVENT / EVENT ..`, `release`, `take SITE`, or an
 /// event.
 pub fn call_stepping<T: Stepping>(
@@ -115,21 +131,25 @@ pub fn call_stepping<T: Stepping>(
     words: &mut Words<'_>,
     answer: &mut Answer,
 ) -> Result<(), Unanswered> {
-    match str::from_utf8(first) {
-        Ok("all") => {
+    let Some(verb) = named(&VERBS, first) else {
+        let event = event(alloc, first, words)?;
+        return put_step(&stepping.step(&event), answer);
+    };
+    match verb {
+        Verb::All => {
             let events = events(alloc, words)?;
             put_steps(&steps(stepping, &events, false)?, answer)
         }
-        Ok("until") => {
+        Verb::Until => {
             let events = events(alloc, words)?;
             put_steps(&steps(stepping, &events, true)?, answer)
         }
-        Ok("times") => step_times(alloc, stepping, words, answer),
-        Ok("release") => {
+        Verb::Times => step_times(alloc, stepping, words, answer),
+        Verb::Release => {
             stepping.release();
             answer.word("ok")
         }
-        Ok("take") => {
+        Verb::Take => {
             let site = words.site().ok_or(Unanswered::BadLine)?;
             match stepping.take(site) {
                 None => answer.word("no link"),
@@ -137,12 +157,26 @@ pub fn call_stepping<T: Stepping>(
                 Some(Some(frame)) => answer.word(frame),
             }
         }
-        _ => {
-            let event = event(alloc, first, words)?;
-            put_step(&stepping.step(&event), answer)
-        }
     }
 }
+
+/// What `look` shows.
+#[derive(Clone, Copy)]
+enum Shown {
+    Journal,
+    Entries,
+    Sealed,
+    Bytes,
+    Faults,
+}
+
+const SHOWN: [(&str, Shown); 5] = [
+    ("journal", Shown::Journal),
+    ("entries", Shown::Entries),
+    ("sealed", Shown::Sealed),
+    ("bytes", Shown::Bytes),
+    ("faults", Shown::Faults),
+];
 
 /// `journal`, `entries`, `sealed`, `bytes` and `faults`; answers whether it was one of these.
 pub fn look(
@@ -152,13 +186,15 @@ pub fn look(
     first: &[u8],
     answer: &mut Answer,
 ) -> Result<bool, Unanswered> {
-    match str::from_utf8(first) {
-        Ok("journal") => put_entries(entries, answer)?,
-        Ok("entries") => answer.word(entries.len())?,
-        Ok("sealed") => answer.word(sealed)?,
-        Ok("bytes") => answer.bytes(disk.bytes())?,
-        Ok("faults") => answer.word(disk.faults())?,
-        _ => return Ok(false),
+    let Some(shown) = named(&SHOWN, first) else {
+        return Ok(false);
+    };
+    match shown {
+        Shown::Journal => put_entries(entries, answer)?,
+        Shown::Entries => answer.word(entries.len())?,
+        Shown::Sealed => answer.word(sealed)?,
+        Shown::Bytes => answer.bytes(disk.bytes())?,
+        Shown::Faults => answer.word(disk.faults())?,
     }
     Ok(true)
 }
