@@ -4,7 +4,7 @@ ghost use Rattle.std.specs.Prelude.{Some};
 ghost use Rattle.cmh_cluster3.specs.Replies.{fault_text};
 
 use cmh_disk3::{NoFolder, NoSite};
-use cmh_peers3::Unmet;
+use cmh_node3::Unmet;
 use cmh_station3::OpenFault;
 use std::alloc::{AllocError, AllocFailed};
 use std::fmt;

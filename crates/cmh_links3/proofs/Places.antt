@@ -6,10 +6,10 @@ use Rattle.cmh_model3.specs.declared.frame.Message.{Message}
 use Rattle.cmh_station3.specs.Files.{Held}
 use Rattle.cmh_resume3.specs.Receiver.{Receiver}
 use Rattle.cmh_resume3.specs.Sender.{Sender}
-use Rattle.cmh_peers3.specs.Changes.{ChangesInto, ChangesOut}
-use Rattle.cmh_peers3.specs.declared.happening.Action.{Action}
-use Rattle.cmh_peers3.specs.declared.happening.Happening.{Happening}
-use Rattle.cmh_peers3.specs.declared.peer.Peer.{Peer}
+use Rattle.cmh_node3.specs.PeerChanges.{ChangesInto, ChangesOut}
+use Rattle.cmh_node3.specs.declared.happening.Action.{Action}
+use Rattle.cmh_node3.specs.declared.happening.Happening.{Happening}
+use Rattle.cmh_node3.specs.declared.peer.Peer.{Peer}
 use Rattle.cmh_node3.specs.Nodes.{Node}
 use Rattle.cmh_node3.specs.Steps.{GivenSo, Takes}
 use Rattle.cmh_node3.specs.declared.receiving.Taken.{Taken}

@@ -14,11 +14,11 @@ use Rattle.cmh_resume3.specs.declared.hello.Hello.{Hello}
 use Rattle.cmh_resume3.specs.declared.refusal.Refusal.{Refusal}
 use Rattle.cmh_resume3.specs.declared.refusal.Refusal.TheVariants.{Closed, Sealed}
 use Rattle.cmh_resume3.specs.declared.item.Item.TheVariants as item
-use Rattle.cmh_peers3.specs.declared.happening.Action.{Action}
-use Rattle.cmh_peers3.specs.declared.happening.Action.TheVariants as act
-use Rattle.cmh_peers3.specs.declared.happening.Happening.{Happening}
-use Rattle.cmh_peers3.specs.declared.happening.Happening.TheVariants.{Dialled, Answered, Refused, Acknowledged, Ended, Passed}
-use Rattle.cmh_peers3.specs.declared.peer.Peer.{Peer}
+use Rattle.cmh_node3.specs.declared.happening.Action.{Action}
+use Rattle.cmh_node3.specs.declared.happening.Action.TheVariants as act
+use Rattle.cmh_node3.specs.declared.happening.Happening.{Happening}
+use Rattle.cmh_node3.specs.declared.happening.Happening.TheVariants.{Dialled, Answered, Refused, Acknowledged, Ended, Passed}
+use Rattle.cmh_node3.specs.declared.peer.Peer.{Peer}
 use Rattle.cmh_node3.specs.Changes.{Gives, Happens}
 use Rattle.cmh_node3.specs.Nodes.{AtPlace, Node, epoch_of}
 use Rattle.cmh_links3.specs.Connections.{Outgoing}

@@ -6,8 +6,7 @@ ghost use Rattle.cmh_links3.specs.Speaking.{IsOfPeer};
 ghost use Rattle.cmh_node3.specs.Nodes.{AtPlace};
 
 use cmh_model3::Message;
-use cmh_node3::Node;
-use cmh_peers3::place_of;
+use cmh_node3::{Node, place_of};
 use cmh_resume3::{
     AcknowledgementFront, Hello, HelloFront, Item, ItemFront, ReplyFront, decode_acknowledgement,
     decode_hello, decode_item, decode_reply,

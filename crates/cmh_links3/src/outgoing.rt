@@ -1,8 +1,8 @@
 //! The connection that a site dials.
 
 ghost use Rattle.std.specs.Prelude.{◌≡◌, ◌≤◌, ◌<◌, ◌⊎◌, length, false, true, IfSome, OnErr, OnOk};
-ghost use Rattle.cmh_peers3.specs.declared.happening.Action.TheVariants.{Dial};
-ghost use Rattle.cmh_peers3.specs.declared.happening.Happening.TheVariants.{Passed};
+ghost use Rattle.cmh_node3.specs.declared.happening.Action.TheVariants.{Dial};
+ghost use Rattle.cmh_node3.specs.declared.happening.Happening.TheVariants.{Passed};
 ghost use Rattle.cmh_resume3.specs.Hello.{IsReplyFront};
 ghost use Rattle.cmh_resume3.specs.Stream.{item_spelling};
 ghost use Rattle.cmh_resume3.specs.declared.item.Item.TheVariants as ItemType;
@@ -15,8 +15,7 @@ ghost use Rattle.cmh_links3.specs.Speaking.{HearsAnswer, HearsStranger, SaidIfRo
 use crate::ahead::{epoch_of_acknowledgement, epoch_of_answer, is_of_peer, later_than};
 use crate::onward::Onward;
 use crate::unread::Unread;
-use cmh_node3::Node;
-use cmh_peers3::{Action, Happening};
+use cmh_node3::{Action, Happening, Node};
 use cmh_resume3::{
     Acknowledgement, AcknowledgementFront, Answer, Hello, Refusal, ReplyFront,
     decode_acknowledgement, decode_reply, spell_mismatch, spell_note,

@@ -12,9 +12,9 @@ use Rattle.cmh_segment3.specs.declared.links.LinkState.{LinkState}
 use Rattle.cmh_segment3.specs.Base.{IsLinkRow, link_place}
 use Rattle.cmh_segment3.specs.Rows.{AreRows}
 use Rattle.cmh_station3.specs.declared.beginning.Beginning.{Beginning}
-use Rattle.cmh_peers3.specs.Links.{link_at, met_from}
-use Rattle.cmh_peers3.specs.Peers.{IsGiven, IsGivenPart, others as others_but}
-use Rattle.cmh_peers3.specs.declared.peer.Peer.{Peer}
+use Rattle.cmh_node3.specs.Links.{link_at, met_from}
+use Rattle.cmh_node3.specs.Peers.{IsGiven, IsGivenPart, others as others_but}
+use Rattle.cmh_node3.specs.declared.peer.Peer.{Peer}
 use Rattle.cmh_node3.specs.Nodes.{Fits, HasStory, IsExact}
 use Rattle.cmh_node3.specs.Steps.{BeginsAs, GivenSo, Station}
 use Rattle.cmh_node3.specs.declared.sealed.Sealed.{Sealed}

@@ -16,14 +16,14 @@ use Rattle.cmh_controller3.specs.Controller.{Controller, state_of}
 use Rattle.cmh_segment3.specs.declared.base.Base.{Base}
 use Rattle.cmh_station3.specs.Journals.{IsOrigin, Origin, steps_of}
 use Rattle.cmh_station3.specs.Starting.{IsStart, NewSegment, Starts}
-use Rattle.cmh_peers3.specs.Links.{PeersComeBack, at_rest, link_at, link_of, met_from, site_of}
-use Rattle.cmh_peers3.specs.declared.peer.Peer.{Peer}
+use Rattle.cmh_node3.specs.Links.{PeersComeBack, at_rest, link_at, link_of, met_from, site_of}
+use Rattle.cmh_node3.specs.declared.peer.Peer.{Peer}
 use Rattle.cmh_node3.specs.Nodes.{Fits, HasStory, IsExact, Node, epoch_of}
 use Rattle.cmh_node3.specs.Steps.{Station}
 use Rattle.cmh_node3.specs.Turns.{IsNext, IsNextBase}
 use Rattle.cmh_node3.specs.declared.sealed.Sealed.{Sealed}
 use Rattle.cmh_node3.specs.declared.sealed.Sealed.TheVariants.{Disk}
-use Rattle.cmh_node3.proofs.Places.{Seals, seals_new, when_sealed}
+use Rattle.cmh_node3.proofs.OtherPlaces.{Seals, seals_new, when_sealed}
 
 -- ---- the peers' own links
 

@@ -20,15 +20,15 @@ use Rattle.cmh_resume3.specs.Sender.{Sender}
 use Rattle.cmh_segment3.specs.declared.links.LinkState.{LinkState}
 use Rattle.cmh_segment3.specs.declared.links.Outgoing.{Outgoing}
 use Rattle.cmh_station3.specs.declared.beginning.Beginning.{Beginning}
-use Rattle.cmh_peers3.proofs.Counting.{got_received, mark_received, synced_received}
-use Rattle.cmh_peers3.specs.Links.{got_since, link_at}
-use Rattle.cmh_peers3.specs.Peers.{WasGiven, received}
-use Rattle.cmh_peers3.specs.declared.peer.Peer.{Peer}
+use Rattle.cmh_node3.proofs.Counting.{got_received, mark_received, synced_received}
+use Rattle.cmh_node3.specs.Links.{got_since, link_at}
+use Rattle.cmh_node3.specs.Peers.{WasGiven, received}
+use Rattle.cmh_node3.specs.declared.peer.Peer.{Peer}
 use Rattle.cmh_node3.specs.Nodes.{Fits, HasStory, IsExact, Node, StandsBehind, base_links}
 use Rattle.cmh_node3.specs.Steps.{GivenSo, Station}
 use Rattle.cmh_node3.specs.declared.sealed.Sealed.{Sealed}
 use Rattle.cmh_node3.specs.declared.sealed.Sealed.TheVariants.{Disk, Memory, Mismatch}
-use Rattle.cmh_node3.proofs.Places.{apart}
+use Rattle.cmh_node3.proofs.OtherPlaces.{apart}
 
 -- ---- one peer
 

@@ -1,7 +1,11 @@
-pub mod Others
-pub mod Places
-pub mod Growing
 pub mod Answered
 pub mod Beginning
-pub mod Taking
+pub mod Counting
 pub mod Epochs
+pub mod Giving
+pub mod Growing
+pub mod Linking
+pub mod OtherPlaces
+pub mod Others
+pub mod Standing
+pub mod Taking

@@ -19,9 +19,9 @@ use Rattle.std.proofs.lemmas.List.{get_or_default}
 use Rattle.std.proofs.lemmas.Option.{get_or_from_slice_get}
 use Rattle.cmh_runs.proofs.Beginnings.{beginning_take, length-beginning}
 use Rattle.cmh_resume3.specs.Receiver.{Receiver}
-use Rattle.cmh_peers3.specs.Changes.{ChangesInto, IsReceived}
-use Rattle.cmh_peers3.specs.Peers.{keeps_many, received}
-use Rattle.cmh_peers3.specs.declared.peer.Peer.{Peer}
+use Rattle.cmh_node3.specs.PeerChanges.{ChangesInto, IsReceived}
+use Rattle.cmh_node3.specs.Peers.{keeps_many, received}
+use Rattle.cmh_node3.specs.declared.peer.Peer.{Peer}
 use Rattle.cmh_node3.specs.Nodes.{HasStory, IsExact, Node}
 use Rattle.cmh_node3.specs.Steps.{FailsSo, GivenSo, IsOwn, Station, StepsAll, IsClaimant, Takes, accepted, entries_made, fault_of, got_event, is_ask, is_unlawful, sealed_by_fault}
 use Rattle.cmh_node3.specs.declared.receiving.Taken.{Taken}

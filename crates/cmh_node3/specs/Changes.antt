@@ -8,11 +8,11 @@ use Rattle.cmh_resume3.specs.declared.refusal.Mismatch.TheVariants.{LessThanAckn
 use Rattle.cmh_resume3.specs.declared.refusal.Refusal.{Refusal}
 use Rattle.cmh_resume3.specs.declared.refusal.Refusal.TheVariants as refusal
 use Rattle.cmh_resume3.specs.Receiver.{Claims, IsFit, IsUnfit}
-use Rattle.cmh_peers3.specs.Changes.{Acknowledges, ChangesInto, ChangesOut, DoesSafely, EndsAt, GivesSafely}
-use Rattle.cmh_peers3.specs.declared.happening.Action.{Action}
-use Rattle.cmh_peers3.specs.declared.happening.Action.TheVariants.{Refuse}
-use Rattle.cmh_peers3.specs.declared.happening.Happening.{Happening}
-use Rattle.cmh_peers3.specs.declared.peer.Peer.{Peer}
+use Rattle.cmh_node3.specs.PeerChanges.{Acknowledges, ChangesInto, ChangesOut, DoesSafely, EndsAt, GivesSafely}
+use Rattle.cmh_node3.specs.declared.happening.Action.{Action}
+use Rattle.cmh_node3.specs.declared.happening.Action.TheVariants.{Refuse}
+use Rattle.cmh_node3.specs.declared.happening.Happening.{Happening}
+use Rattle.cmh_node3.specs.declared.peer.Peer.{Peer}
 use Rattle.cmh_node3.specs.Nodes.{AtPlace, Node, epoch_of}
 use Rattle.cmh_node3.specs.declared.receiving.Admitted.{Admitted}
 use Rattle.cmh_node3.specs.declared.sealed.Sealed.{Sealed}

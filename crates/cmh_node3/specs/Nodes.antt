@@ -16,8 +16,8 @@ use Rattle.cmh_station3.specs.declared.beginning.Beginning.{Beginning}
 use Rattle.cmh_station3.specs.Files.{Held}
 use Rattle.cmh_station3.specs.Logs.{SegmentLog, log_meaning}
 use Rattle.cmh_resume3.specs.Sender.{Sender, StandsSince}
-use Rattle.cmh_peers3.specs.Links.{got_since, link_at}
-use Rattle.cmh_peers3.specs.declared.peer.Peer.{Peer}
+use Rattle.cmh_node3.specs.Links.{got_since, link_at}
+use Rattle.cmh_node3.specs.declared.peer.Peer.{Peer}
 use Rattle.cmh_node3.specs.declared.sealed.Sealed.{Sealed}
 use Rattle.cmh_node3.specs.declared.sealed.Sealed.TheVariants.{Memory}
 

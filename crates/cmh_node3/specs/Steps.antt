@@ -21,10 +21,10 @@ use Rattle.cmh_station3.specs.declared.beginning.Beginning.{Beginning}
 use Rattle.cmh_station3.specs.Files.{Held}
 use Rattle.cmh_station3.specs.Logs.{SegmentLog, log_meaning}
 use Rattle.cmh_topology3.specs.Topology.{Topology, sites_of}
-use Rattle.cmh_peers3.specs.Peers.{AtEach, IsGiven, IsGivenPart, keeps_many, others}
-use Rattle.cmh_peers3.specs.Links.{met_from}
-use Rattle.cmh_peers3.specs.Changes.{ChangesInto, IsReceived}
-use Rattle.cmh_peers3.specs.declared.peer.Peer.{Peer}
+use Rattle.cmh_node3.specs.Peers.{AtEach, IsGiven, IsGivenPart, keeps_many, others}
+use Rattle.cmh_node3.specs.Links.{met_from}
+use Rattle.cmh_node3.specs.PeerChanges.{ChangesInto, IsReceived}
+use Rattle.cmh_node3.specs.declared.peer.Peer.{Peer}
 use Rattle.cmh_node3.specs.Nodes.{IsExact, Node, StaysExact}
 use Rattle.cmh_node3.specs.declared.receiving.NotTaken.{NotTaken}
 use Rattle.cmh_node3.specs.declared.receiving.NotTaken.TheVariants as taking

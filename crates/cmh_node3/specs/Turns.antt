@@ -6,8 +6,8 @@ use Rattle.cmh_disk3.specs.Folders.{MayBeMade, Segments}
 use Rattle.cmh_disk3.specs.Turns.{BeginsSegment}
 use Rattle.cmh_station3.specs.Files.{Held}
 use Rattle.cmh_model3.specs.State.{State}
-use Rattle.cmh_peers3.specs.Links.{link_of}
-use Rattle.cmh_peers3.specs.declared.peer.Peer.{Peer}
+use Rattle.cmh_node3.specs.Links.{link_of}
+use Rattle.cmh_node3.specs.declared.peer.Peer.{Peer}
 use Rattle.cmh_segment3.specs.States.{base_of, stamp_of, state_in, turned_to}
 use Rattle.cmh_segment3.specs.declared.base.Base.{Base}
 use Rattle.cmh_segment3.specs.declared.rows.Stamped.{Stamped}

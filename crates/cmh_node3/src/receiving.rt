@@ -8,12 +8,13 @@ ghost use Rattle.cmh_node3.specs.Steps as spec;
 ghost use Rattle.cmh_node3.specs.Steps.{IsClaimant, NotTakes, Takes, accepted, got_event};
 
 use crate::node::Node;
+use crate::peer::{Peer, place_of};
+use crate::places::{acknowledge_at, claim_at, end_at, receive_at};
 use crate::sealed::Sealed;
 use crate::settling::{StepFault, fault_of, sealed_by_fault, settle};
 use cmh_controller3::{Outcome, Refusal as RuleRefusal};
 use cmh_journaled::Refusal as StepRefusal;
 use cmh_model3::{Event, Message, SiteId};
-use cmh_peers3::{Peer, acknowledge_at, claim_at, end_at, place_of, receive_at};
 use cmh_resume3::{Acknowledgement, Answer, Hello, Mismatch, Refusal, check_hello};
 use cmh_station3::SegmentFile;
 use std::alloc::{AllocError, Global};

@@ -4,10 +4,11 @@ ghost use Rattle.std.specs.Prelude.{◌≡◌, ◌≢◌, ◌<◌, length, None}
 ghost use Rattle.cmh_node3.specs.Changes.{Gives, Happens, sealed_by};
 ghost use Rattle.cmh_node3.specs.Nodes.{StaysExact};
 
+use crate::happening::{Action, Happening};
 use crate::node::Node;
+use crate::places::{happen_at, next_at};
 use crate::sealed::Sealed;
 use cmh_model3::{Message, SiteId};
-use cmh_peers3::{Action, Happening, happen_at, next_at};
 use cmh_resume3::Mismatch;
 use cmh_station3::SegmentFile;
 

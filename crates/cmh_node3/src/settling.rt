@@ -8,11 +8,12 @@ ghost use Rattle.cmh_node3.specs.Nodes.{HasStory};
 ghost use Rattle.cmh_node3.specs.Steps as spec;
 ghost use Rattle.cmh_node3.specs.Steps.{GivenSo};
 
+use crate::given::queue_all;
+use crate::peer::Peer;
 use crate::sealed::Sealed;
 use cmh_controller3::Refusal as RuleRefusal;
 use cmh_journaled::{Handed, Refusal};
 use cmh_model3::{Entry, Event, Message};
-use cmh_peers3::{Peer, queue_all};
 use cmh_station3::{SegmentFile, Station};
 
 /// Why a call took no event, whatever the rules say of them.

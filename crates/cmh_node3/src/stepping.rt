@@ -2,16 +2,16 @@
 
 ghost use Rattle.std.specs.Prelude.{◌≡◌, ◌&&◌, IfErr, IfOk};
 ghost use Rattle.std.specs.List.{AllByRecursion, list_any};
-ghost use Rattle.cmh_peers3.specs.Peers.{keeps_many};
+ghost use Rattle.cmh_node3.specs.Peers.{keeps_many};
 ghost use Rattle.cmh_node3.specs.Steps as spec;
 ghost use Rattle.cmh_node3.specs.Steps.{IsOwn, NotSteps, StepsAll};
 
 use crate::node::Node;
+use crate::peer::{Peer, is_behind};
 use crate::settling::{StepFault, fault_of, sealed_by_fault, settle};
 use cmh_controller3::{Outcome, Refusal as RuleRefusal};
 use cmh_journaled::Refusal;
 use cmh_model3::Event;
-use cmh_peers3::{Peer, is_behind};
 use cmh_station3::SegmentFile;
 
 /// Why none of some events was taken: the first reason that holds.

@@ -3,17 +3,18 @@
 ghost use Rattle.std.specs.Prelude.{◌≡◌, ℕ, map, IfErr, IfOk};
 ghost use Rattle.cmh_controller3.specs.Controller.{state_of};
 ghost use Rattle.cmh_node3.specs.Turns.{HasTurned, IsNext, IsNotReady, IsUnbased, NotTurns};
-ghost use Rattle.cmh_peers3.specs.Links.{link_of};
+ghost use Rattle.cmh_node3.specs.Links.{link_of};
 ghost use Rattle.cmh_segment3.specs.Base.{IsBase};
 ghost use Rattle.cmh_segment3.specs.States as spec;
 ghost use Rattle.cmh_segment3.specs.States.{stamp_of, state_in, turned_to};
 
+use crate::links::{links_law, links_of};
 use crate::node::Node;
+use crate::peer::Peer;
 use crate::sealed::Sealed;
 use cmh_bases3::{base_of, links_fit};
 use cmh_controller3::Controller;
 use cmh_disk3::{JournalFolder, NoFolder, NotBegun, begin_segment};
-use cmh_peers3::{Peer, links_law, links_of};
 use cmh_segment3::{Base, Header, Stamped};
 use cmh_station3::{NewSegment, OpenFault, SegmentFile};
 use cmh_wire3::Epoch;

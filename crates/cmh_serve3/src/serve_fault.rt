@@ -6,7 +6,7 @@ ghost use Rattle.cmh_console.specs.Status.{IsStatus};
 use cmh_console::{Output, TopologyFileFault};
 use cmh_disk3::{NoFolder, NoSite};
 use cmh_frames::TopologyFault;
-use cmh_peers3::Unmet;
+use cmh_node3::Unmet;
 use cmh_station3::{NotOpened, OpenFault};
 use std::alloc::{AllocError, AllocFailed};
 use std::fmt;

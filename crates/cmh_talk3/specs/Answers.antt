@@ -11,7 +11,7 @@ use Rattle.cmh_model3.specs.Lists.{in_list}
 use Rattle.cmh_node3.specs.Nodes.{Node}
 use Rattle.cmh_node3.specs.declared.sealed.Sealed.{Sealed}
 use Rattle.cmh_node3.specs.declared.stepping.NotStepped.{NotStepped}
-use Rattle.cmh_peers3.specs.declared.peer.Peer.{Peer}
+use Rattle.cmh_node3.specs.declared.peer.Peer.{Peer}
 use Rattle.cmh_talk3.specs.Links.{into_state, out_state, states_of}
 use Rattle.cmh_talk3.specs.Numbers.{reply_of, reply_of_none, reply_while_waiting}
 use Rattle.cmh_talk3.specs.Texts.{event_text, reply_text}

@@ -6,7 +6,7 @@ use Rattle.cmh_resume3.specs.Receiver.{Receiver}
 use Rattle.cmh_resume3.specs.Sender.{Sender}
 use Rattle.cmh_resume3.specs.declared.sender.State.{State}
 use Rattle.cmh_resume3.specs.declared.sender.State.TheVariants as state
-use Rattle.cmh_peers3.specs.declared.peer.Peer.{Peer}
+use Rattle.cmh_node3.specs.declared.peer.Peer.{Peer}
 use Rattle.cmh_talk3.specs.declared.link_state.IntoState.{IntoState}
 use Rattle.cmh_talk3.specs.declared.link_state.IntoState.TheVariants as into
 use Rattle.cmh_talk3.specs.declared.link_state.LinkStates.{LinkStates}

@@ -11,8 +11,7 @@ use crate::link_state::{IntoState, LinkStates, OutState, into_state, out_state};
 use crate::reply::{Figures, Reply, Status};
 use cmh_controller3::{Controller, Refusal};
 use cmh_model3::ProcId;
-use cmh_node3::Node;
-use cmh_peers3::Peer;
+use cmh_node3::{Node, Peer};
 use cmh_station3::SegmentFile;
 use std::alloc::{AllocError, Global};
 

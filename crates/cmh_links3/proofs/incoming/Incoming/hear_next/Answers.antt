@@ -1,5 +1,5 @@
 use Rattle.std.proofs.Common.{sym, ◌∙◌, ap, List, length, arith}
-use Rattle.cmh_peers3.specs.declared.peer.Peer.{Peer}
+use Rattle.cmh_node3.specs.declared.peer.Peer.{Peer}
 use Rattle.cmh_links3.proofs.Taking.{hears_there}
 use Rattle.cmh_links3.proofs.incoming.Incoming.hear_next.Goals as goal
 

@@ -1,5 +1,5 @@
 use Rattle.cmh_node3.specs.Nodes.{Node, kept_last}
-use Rattle.cmh_node3.proofs.Places.{said_exact}
+use Rattle.cmh_node3.proofs.OtherPlaces.{said_exact}
 use Rattle.cmh_node3.proofs.node.Node.acknowledge.Goals as goal
 
 pub invariant_of-self : goal.invariant_of-self

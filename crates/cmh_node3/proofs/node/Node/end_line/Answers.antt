@@ -1,6 +1,6 @@
-use Rattle.cmh_peers3.specs.Changes.{EndsAt}
+use Rattle.cmh_node3.specs.PeerChanges.{EndsAt}
 use Rattle.cmh_node3.specs.Nodes.{Node, kept_last}
-use Rattle.cmh_node3.proofs.Places.{ends_same, into_exact}
+use Rattle.cmh_node3.proofs.OtherPlaces.{ends_same, into_exact}
 use Rattle.cmh_node3.proofs.node.Node.end_line.Goals as goal
 
 pub invariant_of-self : goal.invariant_of-self

@@ -1,10 +1,10 @@
 use Rattle.std.proofs.Common.{ℕ, refl, sym, ap, subst, ◌∙◌}
 use Rattle.std.proofs.lemmas.Option.{get_or_from_slice_get}
-use Rattle.cmh_peers3.specs.Changes.{ChangesOut, DoesSafely}
-use Rattle.cmh_peers3.specs.declared.peer.Peer.{Peer}
+use Rattle.cmh_node3.specs.PeerChanges.{ChangesOut, DoesSafely}
+use Rattle.cmh_node3.specs.declared.peer.Peer.{Peer}
 use Rattle.cmh_node3.specs.Changes.{sealed_by}
 use Rattle.cmh_node3.specs.Nodes.{Node, epoch_of, kept_last}
-use Rattle.cmh_node3.proofs.Places.{out_exact, seals_after}
+use Rattle.cmh_node3.proofs.OtherPlaces.{out_exact, seals_after}
 use Rattle.cmh_node3.proofs.node.Node.happen.Goals as goal
 
 pub invariant_of-self : goal.invariant_of-self

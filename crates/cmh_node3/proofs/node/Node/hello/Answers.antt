@@ -3,10 +3,10 @@ use Rattle.std.specs.Prelude.{Contains, None}
 use Rattle.std.proofs.lemmas.Option.{get_or_from_slice_get}
 use Rattle.cmh_resume3.specs.declared.hello.Hello.{Hello}
 use Rattle.cmh_resume3.specs.Receiver.{Claims, IsFit}
-use Rattle.cmh_peers3.specs.Peers.{IsPlaceOf}
-use Rattle.cmh_peers3.specs.declared.peer.Peer.{Peer}
+use Rattle.cmh_node3.specs.Peers.{IsPlaceOf}
+use Rattle.cmh_node3.specs.declared.peer.Peer.{Peer}
 use Rattle.cmh_node3.specs.Nodes.{IsExact, Node, epoch_of, kept_last}
-use Rattle.cmh_node3.proofs.Places.{claims_same, into_exact, none_missed}
+use Rattle.cmh_node3.proofs.OtherPlaces.{claims_same, into_exact, none_missed}
 use Rattle.cmh_node3.proofs.node.Node.hello.Goals as goal
 
 abbrev hello_of : List ℕ → ℕ → ℕ → ℕ → Hello

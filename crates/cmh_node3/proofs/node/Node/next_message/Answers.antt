@@ -1,6 +1,6 @@
-use Rattle.cmh_peers3.specs.Changes.{GivesSafely}
+use Rattle.cmh_node3.specs.PeerChanges.{GivesSafely}
 use Rattle.cmh_node3.specs.Nodes.{Node, kept_last}
-use Rattle.cmh_node3.proofs.Places.{out_exact, seals_same}
+use Rattle.cmh_node3.proofs.OtherPlaces.{out_exact, seals_same}
 use Rattle.cmh_node3.proofs.node.Node.next_message.Goals as goal
 
 pub invariant_of-self : goal.invariant_of-self

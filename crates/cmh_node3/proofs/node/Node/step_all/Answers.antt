@@ -1,7 +1,7 @@
 use Rattle.std.proofs.Common.{◌≡◌, ◌&&◌, false, List, ◌++◌, sym, ap, ◌∙◌}
 use Rattle.std.specs.List.{list_any}
-use Rattle.cmh_peers3.specs.Peers.{keeps_many}
-use Rattle.cmh_peers3.specs.declared.peer.Peer.{Peer}
+use Rattle.cmh_node3.specs.Peers.{keeps_many}
+use Rattle.cmh_node3.specs.declared.peer.Peer.{Peer}
 use Rattle.cmh_node3.specs.Nodes.{Node, kept_last}
 use Rattle.cmh_node3.specs.Steps.{entries_made, is_ask}
 use Rattle.cmh_node3.proofs.Taking.{exact_failed, failed_by, steps_all}

@@ -1,7 +1,7 @@
 use Rattle.std.proofs.Common.{◌≡◌, ◌<◌, List, length, map, Some, sym, ap, ◌∙◌, subst}
 use Rattle.std.specs.List.{list_any}
 use Rattle.cmh_model3.specs.declared.event.Event.{Event}
-use Rattle.cmh_peers3.specs.declared.peer.Peer.{Peer}
+use Rattle.cmh_node3.specs.declared.peer.Peer.{Peer}
 use Rattle.cmh_node3.specs.Nodes.{Node, kept_last}
 use Rattle.cmh_node3.specs.Steps.{FailsSo, IsClaimant, accepted, got_event, is_unlawful}
 use Rattle.cmh_node3.proofs.Taking.{can_count, exact_failed, failed_by, takes_by}

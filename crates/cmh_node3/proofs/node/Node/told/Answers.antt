@@ -1,7 +1,7 @@
 use Rattle.std.proofs.Common.{Option, subst, sym}
 use Rattle.cmh_node3.specs.declared.sealed.Sealed.{Sealed}
 use Rattle.cmh_node3.specs.Nodes.{Node, kept_last}
-use Rattle.cmh_node3.proofs.Places.{Seals, seals_told, when_sealed}
+use Rattle.cmh_node3.proofs.OtherPlaces.{Seals, seals_told, when_sealed}
 use Rattle.cmh_node3.proofs.node.Node.told.Goals as goal
 
 pub invariant_of-self : goal.invariant_of-self

@@ -1,4 +1,0 @@
-pub mod Giving
-pub mod Counting
-pub mod Linking
-pub mod Standing

@@ -1,4 +1,0 @@
-pub mod Peers
-pub mod Links
-pub mod Happenings
-pub mod Changes
