@@ -1,4 +1,4 @@
-//! The command line: its commands and their arguments.
+//! The command line: its commands and their arguments, as tables.
 
 use crate::help::Help;
 use clap::{Arg, ArgAction, Command, Error, value_parser};
@@ -84,6 +84,395 @@ pub const EDITION_THREE: &str = "3";
 
 const EDITIONS: &[&str] = &[EDITION_THREE];
 
+/// What an argument takes.
+#[derive(Clone, Copy)]
+enum Takes {
+    /// Nothing: the option is there or not.
+    Nothing,
+    /// A text, which the usage calls so.
+    Text(&'static str),
+    /// One of these words.
+    Word(&'static [&'static str]),
+    /// A number from one to another, which the usage calls so.
+    Number(&'static str, i64, i64),
+    /// The same of larger numbers, from one to the greatest.
+    Count(&'static str, i64),
+    /// The files behind the options, one at least.
+    Files,
+}
+
+/// An argument of a command.
+#[derive(Clone, Copy)]
+struct Argument {
+    name: &'static str,
+    takes: Takes,
+    is_required: bool,
+    default: Option<&'static str>,
+    /// The options with which it can't be given.
+    conflicts: &'static [&'static str],
+    help: &'static str,
+}
+
+/// A command, but for the long help.
+struct CommandRow {
+    name: &'static str,
+    about: &'static str,
+    arguments: &'static [Argument],
+}
+
+/// An option that may be left out, and takes nothing.
+const FLAG: Argument = Argument {
+    name: "",
+    takes: Takes::Nothing,
+    is_required: false,
+    default: None,
+    conflicts: &[],
+    help: "",
+};
+
+/// An argument that has to be there.
+const REQUIRED: Argument = Argument {
+    is_required: true,
+    ..FLAG
+};
+
+/// The files behind the options.
+const FILES: Argument = Argument {
+    name: JOURNALS,
+    takes: Takes::Files,
+    ..REQUIRED
+};
+
+const TOPOLOGY_FILE: Argument = Argument {
+    name: TOPOLOGY,
+    takes: Takes::Text("FILE"),
+    help: "The JSON file that names the sites and their processes",
+    ..REQUIRED
+};
+
+const SITE_NUMBER: Argument = Argument {
+    name: SITE,
+    takes: Takes::Number("NUMBER", 1, 9999),
+    help: "The number of the site, 1 to 9999",
+    ..REQUIRED
+};
+
+const JOURNAL_FILE: Argument = Argument {
+    name: JOURNAL,
+    takes: Takes::Text("FILE"),
+    help: "The journal that it writes; a file that stands there and isn't empty is kept as FILE.1, FILE.2 and so on. Of edition 3 the folder of its journal",
+    ..REQUIRED
+};
+
+/// How a site of edition 3 begins.
+const NEW_JOURNAL: Argument = Argument {
+    name: NEW,
+    help: "Of edition 3: begins a new journal in a folder that has none; without it the site goes on with the journal there",
+    ..FLAG
+};
+
+/// Whether a site of edition 3 takes no event before it has met the other sites.
+const PEERS_FIRST: Argument = Argument {
+    name: WAIT_FOR_PEERS,
+    help: "Of edition 3: refuses events until each link has answered, for a journal that was put back from a backup",
+    ..FLAG
+};
+
+const SECONDS: Takes = Takes::Number("SECONDS", 0, 3600);
+
+const BACKLOG_LIMIT: Argument = Argument {
+    name: BACKLOG,
+    takes: Takes::Number("MEGABYTES", 1, 65535),
+    default: Some("64"),
+    help: "How much may wait for a site that reads nothing, before its link is closed; 1 to 65535",
+    ..FLAG
+};
+
+const NOTES_TOLD: Argument = Argument {
+    name: NOTES,
+    help: "Tells on standard error what a site notices by itself, as a link that closes",
+    ..FLAG
+};
+
+/// Of every command that has faults. Where standard error is a terminal, it is as if it were given.
+const EXPLAINED: Argument = Argument {
+    name: EXPLAIN,
+    help: "Explains a fault in a second line on standard error, as at a terminal",
+    ..FLAG
+};
+
+const PLAY_ROW: CommandRow = CommandRow {
+    name: PLAY,
+    about: "Plays a script from standard input on a world of sites in memory, and answers each line",
+    arguments: &[
+        // The edition of a script, where it is not one of those that a line of it names.
+        Argument {
+            name: EDITION,
+            takes: Takes::Word(EDITIONS),
+            conflicts: &[PAGE],
+            help: "Plays a script of edition 3, in which processes may withdraw",
+            ..FLAG
+        },
+        Argument {
+            name: JOURNALS,
+            takes: Takes::Text("DIR"),
+            help: "A folder, which has to be there, for the journals site-N.cmhj; of edition 3 for the folders site-N",
+            ..FLAG
+        },
+        Argument {
+            name: PAGE,
+            takes: Takes::Text("FILE"),
+            conflicts: &[JOURNALS],
+            help: "A page, made at the script's end, that steps through the run in a browser",
+            ..FLAG
+        },
+        EXPLAINED,
+    ],
+};
+
+const PLAY_USAGE: &str = "cmh play < FILE [--edition 3] [--journals DIR | --page FILE] [--explain]";
+
+const SITE_ROW: CommandRow = CommandRow {
+    name: SITE,
+    about: "Runs one site: answers lines from standard input, talks to the other sites over 127.0.0.1, and keeps a journal",
+    arguments: &[
+        TOPOLOGY_FILE,
+        SITE_NUMBER,
+        JOURNAL_FILE,
+        NEW_JOURNAL,
+        PEERS_FIRST,
+        Argument {
+            name: PATIENCE,
+            takes: SECONDS,
+            default: Some("0"),
+            help: "How long `connect` tries sites again that don't listen yet, for all together; 0 to 3600",
+            ..FLAG
+        },
+        BACKLOG_LIMIT,
+        NOTES_TOLD,
+        EXPLAINED,
+    ],
+};
+
+const SERVE_ROW: CommandRow = CommandRow {
+    name: SERVE,
+    about: "Runs one site for clients, each a connection to a port of 127.0.0.1 that sends lines and gets their answers",
+    arguments: &[
+        TOPOLOGY_FILE,
+        SITE_NUMBER,
+        JOURNAL_FILE,
+        NEW_JOURNAL,
+        PEERS_FIRST,
+        Argument {
+            name: PORT,
+            takes: Takes::Number("PORT", 1, 65535),
+            help: "The port of 127.0.0.1 on which clients connect, 1 to 65535",
+            ..REQUIRED
+        },
+        Argument {
+            name: PATIENCE,
+            takes: SECONDS,
+            default: Some("30"),
+            help: "How long sites are tried again that don't listen yet, for all together; 0 to 3600",
+            ..FLAG
+        },
+        BACKLOG_LIMIT,
+        Argument {
+            name: QUIET,
+            help: "Tells no notes on standard error",
+            ..FLAG
+        },
+        // A service of editions 1 and 2 tells notes unless it is quiet.
+        Argument {
+            name: NOTES,
+            help: "Of edition 3: tells on standard error what the site notices by itself, as a link that is refused",
+            ..FLAG
+        },
+        EXPLAINED,
+    ],
+};
+
+const CLUSTER_ROW: CommandRow = CommandRow {
+    name: CLUSTER,
+    about: "Runs all sites as threads over 127.0.0.1, waits after each line until all frames have come, and audits the journals",
+    arguments: &[
+        TOPOLOGY_FILE,
+        Argument {
+            name: SCRIPT,
+            takes: Takes::Text("FILE"),
+            help: "The lines that the sites are given",
+            ..REQUIRED
+        },
+        Argument {
+            name: OUT,
+            takes: Takes::Text("DIR"),
+            help: "The folder for the journals site-N.cmhj, which has to be there; journals of the run before are replaced",
+            ..REQUIRED
+        },
+        Argument {
+            name: STRICT,
+            help: "Starts no site where the open files don't suffice for all, and fails where a link can't be opened",
+            ..FLAG
+        },
+        NOTES_TOLD,
+        EXPLAINED,
+    ],
+};
+
+const AUDIT_ROW: CommandRow = CommandRow {
+    name: AUDIT,
+    about: "Tells whether the journals of all sites come from one run, and who waits and is deadlocked at its end",
+    arguments: &[
+        TOPOLOGY_FILE,
+        Argument {
+            name: WHY,
+            help: "Tells, where the journals are refused, why each site stops",
+            ..FLAG
+        },
+        Argument {
+            name: RUN,
+            conflicts: &[WHY],
+            help: "Lists, where the journals are accepted, one run that they come from",
+            ..FLAG
+        },
+        Argument {
+            name: DECLARATIONS,
+            conflicts: &[WHY, RUN],
+            help: "Tells, where the journals of edition 3 are accepted, what became of each declaration's cycle",
+            ..FLAG
+        },
+        // An audit of some epochs tells the report alone.
+        Argument {
+            name: FROM,
+            takes: Takes::Count("EPOCH", 0),
+            conflicts: &[WHY, RUN, DECLARATIONS],
+            help: "Audits journals of edition 3 from this epoch on, from the bases with which it begins",
+            ..FLAG
+        },
+        Argument {
+            name: EPOCH,
+            takes: Takes::Count("EPOCH", 0),
+            conflicts: &[WHY, RUN, DECLARATIONS, FROM],
+            help: "Audits this epoch alone of journals of edition 3, to the bases of the next one",
+            ..FLAG
+        },
+        Argument {
+            name: RECORD,
+            help: "Keeps, where journals of edition 3 are accepted, a record beside each segment whose epoch all sites have ended",
+            ..FLAG
+        },
+        EXPLAINED,
+        Argument {
+            help: "The journal files of all sites, or their folders of edition 3, in any order",
+            ..FILES
+        },
+    ],
+};
+
+const SHOW_ROW: CommandRow = CommandRow {
+    name: SHOW,
+    about: "Prints the entries of journals, one a line, in the words of scripts",
+    arguments: &[
+        EXPLAINED,
+        Argument {
+            help: "The journal files, or folders of edition 3, which are shown in this order",
+            ..FILES
+        },
+    ],
+};
+
+const DRAW_ROW: CommandRow = CommandRow {
+    name: DRAW,
+    about: "Draws the journals of all sites: who waits for whom at their end, or what happened",
+    arguments: &[
+        TOPOLOGY_FILE,
+        Argument {
+            name: KIND,
+            takes: Takes::Word(KINDS),
+            default: Some("waits"),
+            help: "Who waits for whom at the end, or the run with its frames",
+            ..FLAG
+        },
+        Argument {
+            name: FORMAT,
+            takes: Takes::Word(FORMATS),
+            default: Some("svg"),
+            help: "A picture that a browser opens, or text for Graphviz",
+            ..FLAG
+        },
+        Argument {
+            name: FROM,
+            takes: Takes::Count("COLUMN", 1),
+            conflicts: &[PAGE],
+            help: "The first column of a run that is drawn, counted from 1",
+            ..FLAG
+        },
+        Argument {
+            name: TO,
+            takes: Takes::Count("COLUMN", 1),
+            conflicts: &[PAGE],
+            help: "The last column of a run that is drawn",
+            ..FLAG
+        },
+        Argument {
+            name: PAGE,
+            conflicts: &[KIND, FORMAT],
+            help: "A page that steps through the run in a browser, in place of a picture",
+            ..FLAG
+        },
+        EXPLAINED,
+        Argument {
+            help: "The journal files of all sites, in any order",
+            ..FILES
+        },
+    ],
+};
+
+const NEW_WORLD_ROW: CommandRow = CommandRow {
+    name: NEW_WORLD,
+    about: "Prints the number of a new world, drawn at random, for the topology file of edition 3",
+    arguments: &[EXPLAINED],
+};
+
+const SEGMENTS_ROW: CommandRow = CommandRow {
+    name: SEGMENTS,
+    about: "Lists the segments of all journals of edition 3, and which of them may be archived",
+    arguments: &[
+        TOPOLOGY_FILE,
+        EXPLAINED,
+        Argument {
+            help: "The folders of the journals of all sites, in any order",
+            ..FILES
+        },
+    ],
+};
+
+const RESTORE_ROW: CommandRow = CommandRow {
+    name: RESTORE,
+    about: "Sets all sites of edition 3 back together to where they began an epoch, as a world with another number",
+    arguments: &[
+        TOPOLOGY_FILE,
+        // None begins the first one with a base.
+        Argument {
+            name: EPOCH,
+            takes: Takes::Count("EPOCH", 1),
+            help: "The epoch to whose beginning the sites are set back, 1 or later",
+            ..REQUIRED
+        },
+        Argument {
+            name: TO,
+            takes: Takes::Text("DIR"),
+            help: "The folder, which has to be there, for the folders site-N of the new journals",
+            ..REQUIRED
+        },
+        EXPLAINED,
+        Argument {
+            help: "The folders of the older journals of all sites, in any order",
+            ..FILES
+        },
+    ],
+};
+
 /// The command line.
 pub fn command<'a>(alloc: Global, help: &'a Help) -> Result<Command<'a>, Error> {
     let cmh = Command::new(alloc, "cmh")
@@ -93,537 +482,68 @@ pub fn command<'a>(alloc: Global, help: &'a Help) -> Result<Command<'a>, Error> 
              journals. Without a command it plays a script.",
         )
         .after_help(Help::COMMANDS);
-    let cmh = with(cmh, play_command(alloc, help))?;
-    let cmh = with(cmh, site_command(alloc, help))?;
-    let cmh = with(cmh, serve_command(alloc, help))?;
-    let cmh = with(cmh, cluster_command(alloc, help))?;
-    let cmh = with(cmh, audit_command(alloc, help))?;
-    let cmh = with(cmh, show_command(alloc, help))?;
-    let cmh = with(cmh, draw_command(alloc, help))?;
-    let cmh = with(cmh, new_world_command(alloc))?;
-    let cmh = with(cmh, segments_command(alloc))?;
-    let cmh = with(cmh, restore_command(alloc))?;
+    let play = command_of(alloc, &PLAY_ROW, help.play.as_str())?.override_usage(PLAY_USAGE);
+    let mut cmh = cmh.subcommand(play)?;
+    for (row, help) in [
+        (&SITE_ROW, help.site.as_str()),
+        (&SERVE_ROW, help.serve.as_str()),
+        (&CLUSTER_ROW, help.cluster.as_str()),
+        (&AUDIT_ROW, help.audit.as_str()),
+        (&SHOW_ROW, help.show.as_str()),
+        (&DRAW_ROW, help.draw.as_str()),
+        (&NEW_WORLD_ROW, Help::NEW_WORLD),
+        (&SEGMENTS_ROW, Help::SEGMENTS),
+        (&RESTORE_ROW, Help::RESTORE),
+    ] {
+        cmh = cmh.subcommand(command_of(alloc, row, help)?)?;
+    }
     Ok(cmh)
 }
 
-/// The command line with one command more, if that could be made.
-fn with<'a>(line: Command<'a>, command: Result<Command<'a>, Error>) -> Result<Command<'a>, Error> {
-    let line = line.subcommand(command?)?;
-    Ok(line)
-}
-
-fn play_command<'a>(alloc: Global, help: &'a Help) -> Result<Command<'a>, Error> {
-    let page = page_file_arg(alloc)?;
-    let edition = edition_arg(alloc)?;
-    let args = Vec::from_array(
-        alloc,
-        [edition, folder_arg(alloc), page, explain_arg(alloc)],
-    )?;
-    let play = Command::new(alloc, PLAY)
-        .about(
-            "Plays a script from standard input on a world of sites in memory, and answers each line",
-        )
-        .override_usage("cmh play < FILE [--edition 3] [--journals DIR | --page FILE] [--explain]")
-        .after_help(help.play.as_str())
-        .args(args)?;
-    Ok(play)
-}
-
-fn show_command<'a>(alloc: Global, help: &'a Help) -> Result<Command<'a>, Error> {
-    let args = Vec::from_array(
-        alloc,
-        [
-            explain_arg(alloc),
-            journals_arg(alloc).help(
-                "The journal files, or folders of edition 3, which are shown in this order",
-            ),
-        ],
-    )?;
-    let show = Command::new(alloc, SHOW)
-        .about("Prints the entries of journals, one a line, in the words of scripts")
-        .after_help(help.show.as_str())
-        .args(args)?;
-    Ok(show)
-}
-
-fn audit_command<'a>(alloc: Global, help: &'a Help) -> Result<Command<'a>, Error> {
-    let run = run_arg(alloc)?;
-    let declarations = declarations_arg(alloc)?;
-    let from = first_epoch_arg(alloc)?;
-    let epoch = epoch_arg(alloc)?;
-    let args = Vec::from_array(
-        alloc,
-        [
-            topology_arg(alloc),
-            why_arg(alloc),
-            run,
-            declarations,
-            from,
-            epoch,
-            record_arg(alloc),
-            explain_arg(alloc),
-            journals_arg(alloc).help(
-                "The journal files of all sites, or their folders of edition 3, in any order",
-            ),
-        ],
-    )?;
-    let audit = Command::new(alloc, AUDIT)
-        .about(
-            "Tells whether the journals of all sites come from one run, and who waits and is deadlocked at its end",
-        )
-        .after_help(help.audit.as_str())
-        .args(args)?;
-    Ok(audit)
-}
-
-fn draw_command<'a>(alloc: Global, help: &'a Help) -> Result<Command<'a>, Error> {
-    let page = page_arg(alloc)?;
-    let from = column_arg(alloc, FROM)?;
-    let to = column_arg(alloc, TO)?;
-    let args = Vec::from_array(
-        alloc,
-        [
-            topology_arg(alloc),
-            kind_arg(alloc),
-            format_arg(alloc),
-            from.help("The first column of a run that is drawn, counted from 1"),
-            to.help("The last column of a run that is drawn"),
-            page,
-            explain_arg(alloc),
-            journals_arg(alloc).help("The journal files of all sites, in any order"),
-        ],
-    )?;
-    let draw = Command::new(alloc, DRAW)
-        .about("Draws the journals of all sites: who waits for whom at their end, or what happened")
-        .after_help(help.draw.as_str())
-        .args(args)?;
-    Ok(draw)
-}
-
-fn site_command<'a>(alloc: Global, help: &'a Help) -> Result<Command<'a>, Error> {
-    let args = Vec::from_array(
-        alloc,
-        [
-            topology_arg(alloc),
-            site_arg(alloc),
-            journal_arg(alloc),
-            new_arg(alloc),
-            wait_for_peers_arg(alloc),
-            site_patience_arg(alloc),
-            backlog_arg(alloc),
-            notes_arg(alloc),
-            explain_arg(alloc),
-        ],
-    )?;
-    let command = Command::new(alloc, SITE)
-        .about(
-            "Runs one site: answers lines from standard input, talks to the other sites over 127.0.0.1, and keeps a journal",
-        )
-        .after_help(help.site.as_str())
+/// A command with its arguments, and the long help behind them.
+fn command_of<'a>(alloc: Global, row: &CommandRow, help: &'a str) -> Result<Command<'a>, Error> {
+    let mut args = Vec::new(alloc);
+    for argument in row.arguments {
+        args.push(arg_of(alloc, argument)?)?;
+    }
+    let command = Command::new(alloc, row.name)
+        .about(row.about)
+        .after_help(help)
         .args(args)?;
     Ok(command)
 }
 
-fn serve_command<'a>(alloc: Global, help: &'a Help) -> Result<Command<'a>, Error> {
-    let args = Vec::from_array(
-        alloc,
-        [
-            topology_arg(alloc),
-            site_arg(alloc),
-            journal_arg(alloc),
-            new_arg(alloc),
-            wait_for_peers_arg(alloc),
-            port_arg(alloc),
-            serve_patience_arg(alloc),
-            backlog_arg(alloc),
-            quiet_arg(alloc),
-            serve_notes_arg(alloc),
-            explain_arg(alloc),
-        ],
-    )?;
-    let command = Command::new(alloc, SERVE)
-        .about(
-            "Runs one site for clients, each a connection to a port of 127.0.0.1 that sends lines and gets their answers",
-        )
-        .after_help(help.serve.as_str())
-        .args(args)?;
-    Ok(command)
+fn arg_of<'a>(alloc: Global, argument: &Argument) -> Result<Arg<'a>, Error> {
+    let mut arg = arg_taking(alloc, argument)
+        .help(argument.help)
+        .required(argument.is_required);
+    if let Some(default) = argument.default {
+        arg = arg.default_value(default);
+    }
+    for other in argument.conflicts {
+        arg = arg.conflicts_with(*other)?;
+    }
+    Ok(arg)
 }
 
-fn cluster_command<'a>(alloc: Global, help: &'a Help) -> Result<Command<'a>, Error> {
-    let args = Vec::from_array(
-        alloc,
-        [
-            topology_arg(alloc),
-            script_arg(alloc),
-            out_arg(alloc),
-            strict_arg(alloc),
-            notes_arg(alloc),
-            explain_arg(alloc),
-        ],
-    )?;
-    let command = Command::new(alloc, CLUSTER)
-        .about(
-            "Runs all sites as threads over 127.0.0.1, waits after each line until all frames have come, and audits the journals",
-        )
-        .after_help(help.cluster.as_str())
-        .args(args)?;
-    Ok(command)
-}
-
-fn new_world_command<'a>(alloc: Global) -> Result<Command<'a>, Error> {
-    let command = Command::new(alloc, NEW_WORLD)
-        .about(
-            "Prints the number of a new world, drawn at random, for the topology file of edition 3",
-        )
-        .after_help(Help::NEW_WORLD)
-        .arg(explain_arg(alloc))?;
-    Ok(command)
-}
-
-fn segments_command<'a>(alloc: Global) -> Result<Command<'a>, Error> {
-    let args = Vec::from_array(
-        alloc,
-        [
-            topology_arg(alloc),
-            explain_arg(alloc),
-            journals_arg(alloc).help("The folders of the journals of all sites, in any order"),
-        ],
-    )?;
-    let command = Command::new(alloc, SEGMENTS)
-        .about("Lists the segments of all journals of edition 3, and which of them may be archived")
-        .after_help(Help::SEGMENTS)
-        .args(args)?;
-    Ok(command)
-}
-
-fn restore_command<'a>(alloc: Global) -> Result<Command<'a>, Error> {
-    let folder = path_arg(alloc, TO, "DIR").help(
-        "The folder, which has to be there, for the folders site-N of the new journals",
-    );
-    let args = Vec::from_array(
-        alloc,
-        [
-            topology_arg(alloc),
-            restored_epoch_arg(alloc),
-            folder,
-            explain_arg(alloc),
-            journals_arg(alloc).help(
-                "The folders of the older journals of all sites, in any order",
-            ),
-        ],
-    )?;
-    let command = Command::new(alloc, RESTORE)
-        .about(
-            "Sets all sites of edition 3 back together to where they began an epoch, as a world with another number",
-        )
-        .after_help(Help::RESTORE)
-        .args(args)?;
-    Ok(command)
-}
-
-fn topology_arg<'a>(alloc: Global) -> Arg<'a> {
-    path_arg(alloc, TOPOLOGY, "FILE").help("The JSON file that names the sites and their processes")
-}
-
-fn site_arg<'a>(alloc: Global) -> Arg<'a> {
-    Arg::new(alloc, SITE)
-        .long(SITE)
-        .value_name("NUMBER")
-        .help("The number of the site, 1 to 9999")
-        .required(true)
-        .value_parser(value_parser!(u16).range(1..=9999))
-        .action(ArgAction::Set)
-}
-
-fn journal_arg<'a>(alloc: Global) -> Arg<'a> {
-    path_arg(alloc, JOURNAL, "FILE").help(
-        "The journal that it writes; a file that stands there and isn't empty is kept as FILE.1, FILE.2 and so on. Of edition 3 the folder of its journal",
-    )
-}
-
-fn why_arg<'a>(alloc: Global) -> Arg<'a> {
-    flag(
-        alloc,
-        WHY,
-        "Tells, where the journals are refused, why each site stops",
-    )
-}
-
-fn run_arg<'a>(alloc: Global) -> Result<Arg<'a>, Error> {
-    let run = flag(
-        alloc,
-        RUN,
-        "Lists, where the journals are accepted, one run that they come from",
-    )
-    .conflicts_with(WHY)?;
-    Ok(run)
-}
-
-fn declarations_arg<'a>(alloc: Global) -> Result<Arg<'a>, Error> {
-    let declarations = flag(
-        alloc,
-        DECLARATIONS,
-        "Tells, where the journals of edition 3 are accepted, what became of each declaration's cycle",
-    )
-    .conflicts_with(WHY)?
-    .conflicts_with(RUN)?;
-    Ok(declarations)
-}
-
-/// From which epoch on journals of edition 3 are audited.
-fn first_epoch_arg<'a>(alloc: Global) -> Result<Arg<'a>, Error> {
-    let from = epoch_option(alloc, FROM)?.help(
-        "Audits journals of edition 3 from this epoch on, from the bases with which it begins",
-    );
-    Ok(from)
-}
-
-/// The one epoch that is audited.
-fn epoch_arg<'a>(alloc: Global) -> Result<Arg<'a>, Error> {
-    let epoch = epoch_option(alloc, EPOCH)?
-        .help("Audits this epoch alone of journals of edition 3, to the bases of the next one")
-        .conflicts_with(FROM)?;
-    Ok(epoch)
-}
-
-/// An epoch of an audit, which tells the report alone then.
-fn epoch_option<'a>(alloc: Global, name: &'a str) -> Result<Arg<'a>, Error> {
-    let option = Arg::new(alloc, name)
-        .long(name)
-        .value_name("EPOCH")
-        .value_parser(value_parser!(u32).range(0..=4_294_967_295))
-        .action(ArgAction::Set)
-        .conflicts_with(WHY)?
-        .conflicts_with(RUN)?
-        .conflicts_with(DECLARATIONS)?;
-    Ok(option)
-}
-
-/// Whether records of what is audited are kept.
-fn record_arg<'a>(alloc: Global) -> Arg<'a> {
-    flag(
-        alloc,
-        RECORD,
-        "Keeps, where journals of edition 3 are accepted, a record beside each segment whose epoch all sites have ended",
-    )
-}
-
-/// The epoch that the sites of a restored world begin. None begins the first one with a base.
-fn restored_epoch_arg<'a>(alloc: Global) -> Arg<'a> {
-    Arg::new(alloc, EPOCH)
-        .long(EPOCH)
-        .value_name("EPOCH")
-        .help("The epoch to whose beginning the sites are set back, 1 or later")
-        .required(true)
-        .value_parser(value_parser!(u32).range(1..=4_294_967_295))
-        .action(ArgAction::Set)
-}
-
-/// The folder of a script that is played.
-fn folder_arg<'a>(alloc: Global) -> Arg<'a> {
-    Arg::new(alloc, JOURNALS)
-        .long(JOURNALS)
-        .value_name("DIR")
-        .help(
-            "A folder, which has to be there, for the journals site-N.cmhj; of edition 3 for the folders site-N",
-        )
-        .action(ArgAction::Set)
-}
-
-fn kind_arg<'a>(alloc: Global) -> Arg<'a> {
-    word_arg(alloc, KIND, KINDS).default_value("waits").help(
-        "Who waits for whom at the end, or the run with its frames",
-    )
-}
-
-fn format_arg<'a>(alloc: Global) -> Arg<'a> {
-    word_arg(alloc, FORMAT, FORMATS)
-        .default_value("svg")
-        .help("A picture that a browser opens, or text for Graphviz")
-}
-
-/// A column of a picture. A page has none.
-fn column_arg<'a>(alloc: Global, name: &'a str) -> Result<Arg<'a>, Error> {
-    let column = Arg::new(alloc, name)
-        .long(name)
-        .value_name("COLUMN")
-        .value_parser(value_parser!(u32).range(1..=4_294_967_295))
-        .action(ArgAction::Set)
-        .conflicts_with(PAGE)?;
-    Ok(column)
-}
-
-/// Whether a page is made in place of a picture.
-fn page_arg<'a>(alloc: Global) -> Result<Arg<'a>, Error> {
-    let page = flag(
-        alloc,
-        PAGE,
-        "A page that steps through the run in a browser, in place of a picture",
-    )
-    .conflicts_with(KIND)?
-    .conflicts_with(FORMAT)?;
-    Ok(page)
-}
-
-/// The page of a script that is played.
-fn page_file_arg<'a>(alloc: Global) -> Result<Arg<'a>, Error> {
-    let page = Arg::new(alloc, PAGE)
-        .long(PAGE)
-        .value_name("FILE")
-        .help("A page, made at the script's end, that steps through the run in a browser")
-        .action(ArgAction::Set)
-        .conflicts_with(JOURNALS)?;
-    Ok(page)
-}
-
-/// The edition of a script, where it is not one of those that a line of it names.
-fn edition_arg<'a>(alloc: Global) -> Result<Arg<'a>, Error> {
-    let edition = word_arg(alloc, EDITION, EDITIONS)
-        .help("Plays a script of edition 3, in which processes may withdraw")
-        .conflicts_with(PAGE)?;
-    Ok(edition)
-}
-
-fn port_arg<'a>(alloc: Global) -> Arg<'a> {
-    Arg::new(alloc, PORT)
-        .long(PORT)
-        .value_name("PORT")
-        .help("The port of 127.0.0.1 on which clients connect, 1 to 65535")
-        .required(true)
-        .value_parser(value_parser!(u16).range(1..=65535))
-        .action(ArgAction::Set)
-}
-
-fn quiet_arg<'a>(alloc: Global) -> Arg<'a> {
-    flag(alloc, QUIET, "Tells no notes on standard error")
-}
-
-/// How a site of edition 3 begins.
-fn new_arg<'a>(alloc: Global) -> Arg<'a> {
-    flag(
-        alloc,
-        NEW,
-        "Of edition 3: begins a new journal in a folder that has none; without it the site goes on with the journal there",
-    )
-}
-
-/// Whether a site of edition 3 takes no event before it has met the other sites.
-fn wait_for_peers_arg<'a>(alloc: Global) -> Arg<'a> {
-    flag(
-        alloc,
-        WAIT_FOR_PEERS,
-        "Of edition 3: refuses events until each link has answered, for a journal that was put back from a backup",
-    )
-}
-
-fn script_arg<'a>(alloc: Global) -> Arg<'a> {
-    path_arg(alloc, SCRIPT, "FILE").help("The lines that the sites are given")
-}
-
-fn out_arg<'a>(alloc: Global) -> Arg<'a> {
-    path_arg(alloc, OUT, "DIR").help(
-        "The folder for the journals site-N.cmhj, which has to be there; journals of the run before are replaced",
-    )
-}
-
-fn site_patience_arg<'a>(alloc: Global) -> Arg<'a> {
-    patience_arg(alloc)
-        .help(
-            "How long `connect` tries sites again that don't listen yet, for all together; 0 to 3600",
-        )
-        .default_value("0")
-}
-
-fn serve_patience_arg<'a>(alloc: Global) -> Arg<'a> {
-    patience_arg(alloc)
-        .help("How long sites are tried again that don't listen yet, for all together; 0 to 3600")
-        .default_value("30")
-}
-
-fn patience_arg<'a>(alloc: Global) -> Arg<'a> {
-    Arg::new(alloc, PATIENCE)
-        .long(PATIENCE)
-        .value_name("SECONDS")
-        .value_parser(value_parser!(u16).range(0..=3600))
-        .action(ArgAction::Set)
-}
-
-fn backlog_arg<'a>(alloc: Global) -> Arg<'a> {
-    Arg::new(alloc, BACKLOG)
-        .long(BACKLOG)
-        .value_name("MEGABYTES")
-        .help(
-            "How much may wait for a site that reads nothing, before its link is closed; 1 to 65535",
-        )
-        .default_value("64")
-        .value_parser(value_parser!(u16).range(1..=65535))
-        .action(ArgAction::Set)
-}
-
-fn notes_arg<'a>(alloc: Global) -> Arg<'a> {
-    flag(
-        alloc,
-        NOTES,
-        "Tells on standard error what a site notices by itself, as a link that closes",
-    )
-}
-
-/// A service of editions 1 and 2 tells notes unless it is quiet.
-fn serve_notes_arg<'a>(alloc: Global) -> Arg<'a> {
-    flag(
-        alloc,
-        NOTES,
-        "Of edition 3: tells on standard error what the site notices by itself, as a link that is refused",
-    )
-}
-
-/// Of every command that has faults. Where standard error is a terminal, it is as if it were given.
-fn explain_arg<'a>(alloc: Global) -> Arg<'a> {
-    flag(
-        alloc,
-        EXPLAIN,
-        "Explains a fault in a second line on standard error, as at a terminal",
-    )
-}
-
-fn strict_arg<'a>(alloc: Global) -> Arg<'a> {
-    flag(
-        alloc,
-        STRICT,
-        "Starts no site where the open files don't suffice for all, and fails where a link can't be opened",
-    )
-}
-
-/// The files of journals, one at least.
-fn journals_arg<'a>(alloc: Global) -> Arg<'a> {
-    Arg::new(alloc, JOURNALS)
-        .value_name("JOURNAL")
-        .required(true)
-        .action(ArgAction::Append)
-}
-
-/// An option without a value.
-fn flag<'a>(alloc: Global, name: &'a str, help: &'a str) -> Arg<'a> {
-    Arg::new(alloc, name)
-        .long(name)
-        .help(help)
-        .action(ArgAction::SetTrue)
-}
-
-/// An option whose value is one of these words.
-fn word_arg<'a>(alloc: Global, name: &'a str, words: &'a [&'a str]) -> Arg<'a> {
-    Arg::new(alloc, name)
-        .long(name)
-        .value_parser(words)
-        .action(ArgAction::Set)
-}
-
-/// An option whose value is a path.
-fn path_arg<'a>(alloc: Global, name: &'a str, value: &'a str) -> Arg<'a> {
-    Arg::new(alloc, name)
-        .long(name)
-        .value_name(value)
-        .required(true)
-        .action(ArgAction::Set)
+/// An argument with what it takes.
+fn arg_taking<'a>(alloc: Global, argument: &Argument) -> Arg<'a> {
+    let arg = Arg::new(alloc, argument.name);
+    let name = argument.name;
+    match argument.takes {
+        Takes::Nothing => arg.long(name).action(ArgAction::SetTrue),
+        Takes::Text(value) => arg.long(name).value_name(value).action(ArgAction::Set),
+        Takes::Word(words) => arg.long(name).value_parser(words).action(ArgAction::Set),
+        Takes::Number(value, least, most) => arg
+            .long(name)
+            .value_name(value)
+            .value_parser(value_parser!(u16).range(least..=most))
+            .action(ArgAction::Set),
+        Takes::Count(value, least) => arg
+            .long(name)
+            .value_name(value)
+            .value_parser(value_parser!(u32).range(least..=4_294_967_295))
+            .action(ArgAction::Set),
+        Takes::Files => arg.value_name("JOURNAL").action(ArgAction::Append),
+    }
 }
