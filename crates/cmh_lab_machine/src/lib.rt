@@ -1,4 +1,5 @@
-//! A tiny model, to show that `cmh_machine` and `cmh_journaled` know no other: sites tell each other their clocks.
+//! A tiny model, to show that `cmh_machine`, `cmh_journaled` and the rings of `cmh_shared` know no other: sites tell each
+//! other their clocks.
 #![tactic(auto)]
 
 mod clock;
@@ -12,6 +13,7 @@ mod tests {
     use super::*;
     use cmh_journaled::{AllEntries, Journaled, Unsent};
     use cmh_runs::{Entry, SiteId};
+    use cmh_shared::SiteLinks;
 
     #[test]
     fn steps(rt: HostRuntime) {
@@ -31,6 +33,36 @@ mod tests {
         assert!(rt; station.step(&Event::Tell { to }).is_err());
         assert_eq!(rt; station.kept().as_slice().len(), 2);
         assert_eq!(rt; station.log().len(), 2);
+    }
+
+    #[test]
+    fn frames_go_through_rings(rt: HostRuntime) {
+        let alloc = rt.alloc();
+        let mut station = Journaled::new(
+            alloc,
+            3,
+            Clock::new(alloc, 3),
+            AllEntries::new(alloc, 2),
+            Tape::new(alloc, false),
+        );
+        let to = SiteId::of(2);
+        assert!(rt; station.step(&Event::Tell { to }).is_ok());
+        assert!(rt; station.step(&Event::Tell { to }).is_ok());
+        let entries = station.kept().as_slice();
+        let mut first = None;
+        let mut second = None;
+        if let Ok((mut links, mut taps)) = SiteLinks::open(alloc, &[SiteId::of(1), to]) {
+            if links.reserve_for(entries).is_ok() {
+                links.queue_all(entries);
+            }
+            links.release();
+            if let Some(mut tap) = taps.pop() {
+                first = tap.take();
+                second = tap.take();
+            }
+        }
+        assert!(rt; first == Some(Frame { clock: 4 }));
+        assert!(rt; second == Some(Frame { clock: 5 }));
     }
 
     #[test]
