@@ -11,7 +11,7 @@ ghost use Rattle.cmh_history3.specs.Inner.Leading.{AreRestored};
 
 use crate::epoch_verdict::{EpochVerdict, audit_epoch};
 use crate::next::follows;
-use crate::turn_law::turn_law;
+use crate::turns::turn_law;
 use cmh_audit3::AuditMemory;
 use cmh_bases3::controller_of;
 use cmh_controller3::{Controller, Refusal};

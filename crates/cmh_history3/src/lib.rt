@@ -24,7 +24,7 @@ mod part;
 mod queues;
 mod segments;
 mod states;
-mod turn_law;
+mod turns;
 mod under_way;
 mod verdict;
 
@@ -38,6 +38,6 @@ pub use crate::journal::Journal;
 pub use crate::judged::verdict_on;
 pub use crate::next::follows;
 pub use crate::part::{Part, audit_part, begins_with};
-pub use crate::turn_law::turn_law;
+pub use crate::turns::turn_law;
 pub use crate::under_way::queues_of;
 pub use crate::verdict::{HistoryFault, HistoryVerdict, audit_history};
