@@ -3,15 +3,15 @@ use Rattle.std.specs.Prelude.{◌≡◌, ◌≢◌, ℕ, ◌⊎◌, true, List, 
 use Rattle.cmh_console.specs.Device.{Reading, Writing}
 use Rattle.cmh_console.specs.Faults.{NamesFault}
 use Rattle.cmh_console.specs.TopologyFile3.{SaysNoWorld}
-use Rattle.cmh_host.specs.SiteFaults.{as_fault as of_site}
-use Rattle.cmh_host.specs.declared.site_fault.SiteFault.{SiteFault}
-use Rattle.cmh_host.specs.declared.site_fault.SiteFault.TheVariants.{Site}
+use Rattle.cmh_setting.specs.SiteFaults.{as_fault as of_site}
+use Rattle.cmh_setting.specs.declared.site_fault.SiteFault.{SiteFault}
+use Rattle.cmh_setting.specs.declared.site_fault.SiteFault.TheVariants.{Site}
 use Rattle.cmh_cluster3.specs.Endings.{DiskClusterEnds}
 use Rattle.cmh_serve3.specs.Setting.{IsOfEdition3}
-use Rattle.cmh_site.specs.ClusterEndings.{ClusterEnds}
-use Rattle.cmh_site.specs.Descriptors.{StrictlyEnds}
+use Rattle.cmh_cluster.specs.ClusterEndings.{ClusterEnds}
+use Rattle.cmh_cluster.specs.Descriptors.{StrictlyEnds}
 use Rattle.cmh_inputs.specs.FileFaults.{IsUnread, as_fault as of_file}
-use Rattle.cmh_site.specs.Endings.{EndedEarly, IsSiteFault, Served}
+use Rattle.cmh_run_site.specs.Endings.{EndedEarly, IsSiteFault, Served}
 
 -- A site of a topology file ended, that read these bytes where they are told: at status 0 it was served to its end, which
 -- was flushed; else it was served up to some line or not at all, and a fault is named that has a cause.

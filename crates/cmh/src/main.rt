@@ -22,14 +22,18 @@ ghost use Rattle.cmh_draw.specs.declared.picture.Kind as kinds;
 ghost use Rattle.cmh_picture.specs.Formats.{format_word};
 ghost use Rattle.cmh_picture.specs.declared.format.Format as formats;
 ghost use Rattle.cmh_console.specs.Status.{IsStatus};
-ghost use Rattle.cmh_site.specs.ClusterEndings.{ClusterEnds};
+ghost use Rattle.cmh_cluster.specs.ClusterEndings.{ClusterEnds};
 ghost use Rattle.cmh_serve3.specs.Setting.{IsOfEdition3};
-ghost use Rattle.cmh_site.specs.Descriptors.{StrictlyEnds};
+ghost use Rattle.cmh_cluster.specs.Descriptors.{StrictlyEnds};
 
 use clap::{ArgMatches, Error, error};
 use cmh_archive3::RecordFiles;
 use cmh_carriers::{Noted, Voice};
 use cmh_clients3::SiteNote;
+use cmh_cluster::{
+    ClusterEnd, ClusterStart, Shortage, allowed_descriptors, run_cluster_counting,
+    run_cluster_strictly, shortage_of,
+};
 use cmh_cluster3::{ClusterStart3, run_cluster3};
 use cmh_commands::{
     AUDIT, BACKLOG, CLUSTER, ClusterFiles, DRAW, EDITION, EXPLAIN, Help, JOURNAL, JOURNALS,
@@ -45,12 +49,9 @@ use cmh_inputs::{Disk, read_topology};
 use cmh_play::run_play;
 use cmh_play3::{run_play3, run_play3_into};
 use cmh_restore3::NewFolders;
+use cmh_run_site::run_site_noting;
 use cmh_serve3::{ServeStart, SiteVoice, is_of_edition3, run_service3, run_site3};
 use cmh_service::{ServiceStart, run_service};
-use cmh_site::{
-    ClusterEnd, ClusterStart, Shortage, allowed_descriptors, run_cluster_counting,
-    run_cluster_strictly, run_site_noting, shortage_of,
-};
 use std::alloc::AllocError;
 use std::fs::File;
 use std::io::{BufRead, BufReader, BufWriter, ErrorKind, IsTerminal, Write};

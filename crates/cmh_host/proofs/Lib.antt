@@ -1,5 +1,3 @@
 mod Leading
-mod Named
-mod Porting
 pub mod StartFaults
 pub mod Taking

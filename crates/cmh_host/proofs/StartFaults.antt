@@ -3,9 +3,9 @@ use Rattle.std.proofs.Common.{◌≡◌, inl, inr, ◌∙◌}
 use Rattle.std.specs.Prelude.{◌⊎◌, IfErr, IsErrAnd, Result, Ok, Err}
 use Rattle.cmh_console.specs.declared.keeping.NoFile.{NoFile}
 use Rattle.cmh_console.specs.declared.keeping.NoFile.TheVariants as files
-use Rattle.cmh_host.specs.SiteFaults.{of_file}
-use Rattle.cmh_host.specs.declared.site_fault.SiteFault.{SiteFault}
-use Rattle.cmh_host.specs.declared.site_fault.SiteFault.TheVariants.{JournalDisk, Listen, Memory}
+use Rattle.cmh_setting.specs.SiteFaults.{of_file}
+use Rattle.cmh_setting.specs.declared.site_fault.SiteFault.{SiteFault}
+use Rattle.cmh_setting.specs.declared.site_fault.SiteFault.TheVariants.{JournalDisk, Listen, Memory}
 
 -- one of the faults of a start
 abbrev pub IsStartFault : SiteFault → Type 0

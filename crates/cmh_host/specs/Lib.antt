@@ -1,8 +1,3 @@
-pub mod Ports
-pub mod Setting
-pub mod SiteFaults
-pub mod Shelves
-pub mod SiteScript
 pub mod Opening
 pub mod SiteReplies
 pub mod Steps

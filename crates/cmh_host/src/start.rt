@@ -4,13 +4,12 @@ ghost use Rattle.std.specs.Prelude.{◌≡◌, ◌⊎◌, map, IfOk, IfErr};
 ghost use Rattle.cmh_host.specs.Ends.{others_of};
 ghost use Rattle.cmh_links.specs.Threads.{link_sites, site_of};
 
-use crate::site_fault::SiteFault;
 use crate::starting::{Carriers, Opened, RunningSite, Speakers, open_station, start_threads};
 use crate::system::System;
-use crate::{Disk, NewJournal, Ports, can_be_made, make_journal};
 use cmh_carriers::{Note, Noting, Origin, Speaker, TcpDial, TcpListen};
 use cmh_frames::{SiteId, Topology};
 use cmh_links::BacklogLimit;
+use cmh_setting::{Disk, NewJournal, Ports, SiteFault, can_be_made, make_journal};
 use std::alloc::{AllocError, Global};
 use std::fs::File;
 use std::net::{Net, TcpListener, TcpStream};

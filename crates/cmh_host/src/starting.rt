@@ -7,7 +7,6 @@ ghost use Rattle.cmh_host.specs.Opening.{IsNewStation};
 ghost use Rattle.cmh_frames.specs.Runs.{IsBeginningOf};
 ghost use Rattle.cmh_host.specs.Steps.{IsDeclared, IsListOf, WasStepped};
 
-use crate::JournalSink;
 use crate::site_reply::{LinkEnds, SiteReply};
 use crate::system::System;
 use cmh_carriers::{Dial, LinkTable, Note, Speaker, TcpDial, TcpListen};
@@ -15,6 +14,7 @@ use cmh_console::NoFile;
 use cmh_frames::{Done, Event, SiteId, Topology};
 use cmh_journal::Sink;
 use cmh_links::{BacklogLimit, LinkFault, LinkState, SharedLinks, SiteParts, SiteThreads};
+use cmh_setting::JournalSink;
 use cmh_station::{
     BoardReader, Keeper, KeptBoard, LinkTap, Listing, NewestEntries, ParkingTap, SharedStation,
     Station, StationRefusal,

@@ -1,11 +1,11 @@
 -- Why a service ends.
 use Rattle.std.proofs.Common.{◌≡◌, ℕ, Bool, true, List, sym, subst, inl, inr}
 use Rattle.std.specs.Prelude.{◌⊎◌, IfErr, IsErrAnd, OnErr, Result, Ok, Err, is_err}
-use Rattle.cmh_host.specs.Setting.{IsSettingFault}
-use Rattle.cmh_host.specs.declared.setting.SettingFault.{SettingFault}
-use Rattle.cmh_host.specs.declared.setting.SettingFault.TheVariants as setting
-use Rattle.cmh_host.specs.declared.site_fault.SiteFault.{SiteFault}
-use Rattle.cmh_host.specs.declared.site_fault.SiteFault.TheVariants as site
+use Rattle.cmh_setting.specs.Setting.{IsSettingFault}
+use Rattle.cmh_setting.specs.declared.setting.SettingFault.{SettingFault}
+use Rattle.cmh_setting.specs.declared.setting.SettingFault.TheVariants as setting
+use Rattle.cmh_setting.specs.declared.site_fault.SiteFault.{SiteFault}
+use Rattle.cmh_setting.specs.declared.site_fault.SiteFault.TheVariants as site
 use Rattle.cmh_service.specs.ServiceFaults.{IsServiceFault, Knows, of_setting, of_shortage, of_site}
 use Rattle.cmh_service.specs.declared.service_fault.ServiceFault.{ServiceFault}
 use Rattle.cmh_service.specs.declared.service_fault.Shortage.{Shortage}

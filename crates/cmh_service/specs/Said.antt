@@ -2,11 +2,11 @@
 use Rattle.std.specs.Prelude.{◌≡◌, ℕ, List, [], ◌∷◌, codes, Option, None, Some}
 use Rattle.cmh_console.specs.Front.{Begins}
 use Rattle.cmh_console.specs.Words.{words_of}
-use Rattle.cmh_host.specs.SiteScript.{SaysToSite}
+use Rattle.cmh_setting.specs.SiteScript.{SaysToSite}
 use Rattle.cmh_console.specs.declared.script.Line.TheVariants.{Bad}
-use Rattle.cmh_host.specs.declared.site_script.Order.TheVariants as orders
-use Rattle.cmh_host.specs.declared.site_script.SiteLine.{SiteLine}
-use Rattle.cmh_host.specs.declared.site_script.SiteLine.TheVariants.{Order as SiteOrder, Event as SiteEvent}
+use Rattle.cmh_setting.specs.declared.site_script.Order.TheVariants as orders
+use Rattle.cmh_setting.specs.declared.site_script.SiteLine.{SiteLine}
+use Rattle.cmh_setting.specs.declared.site_script.SiteLine.TheVariants.{Order as SiteOrder, Event as SiteEvent}
 use Rattle.cmh_service.specs.declared.said.Said.{Said}
 use Rattle.cmh_service.specs.declared.said.Said.TheVariants.{Event, Declared, Links, Waits, Owed, Watch, Status, Quit}
 

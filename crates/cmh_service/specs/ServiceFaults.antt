@@ -4,10 +4,10 @@ use Rattle.cmh_frames.specs.Topology.{is_site}
 use Rattle.cmh_console.specs.TopologyFile.{IsOfNoTopology, OfTopology, SaysNoPorts}
 use Rattle.cmh_console.specs.declared.faults.Fault.{Fault}
 use Rattle.cmh_console.specs.declared.faults.Fault.TheVariants as lines
-use Rattle.cmh_host.specs.declared.setting.SettingFault.{SettingFault}
-use Rattle.cmh_host.specs.declared.setting.SettingFault.TheVariants as setting
-use Rattle.cmh_host.specs.declared.site_fault.SiteFault.{SiteFault}
-use Rattle.cmh_host.specs.declared.site_fault.SiteFault.TheVariants as site
+use Rattle.cmh_setting.specs.declared.setting.SettingFault.{SettingFault}
+use Rattle.cmh_setting.specs.declared.setting.SettingFault.TheVariants as setting
+use Rattle.cmh_setting.specs.declared.site_fault.SiteFault.{SiteFault}
+use Rattle.cmh_setting.specs.declared.site_fault.SiteFault.TheVariants as site
 use Rattle.cmh_service.specs.declared.service_fault.ServiceFault.{ServiceFault}
 use Rattle.cmh_service.specs.declared.service_fault.ServiceFault.TheVariants.{Json, Topology as NoTopology, Site, JournalDisk, Listen, Output, Memory}
 use Rattle.cmh_service.specs.declared.service_fault.Shortage.{Shortage}

@@ -1,0 +1,3 @@
+mod Tallies
+pub mod ClusterEndings
+pub mod Shortages

@@ -1,0 +1,3 @@
+pub mod Endings
+mod Linking
+mod Waiting

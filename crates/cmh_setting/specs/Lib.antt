@@ -1,0 +1,5 @@
+pub mod Ports
+pub mod Setting
+pub mod SiteFaults
+pub mod Shelves
+pub mod SiteScript

@@ -1,5 +1,0 @@
-use Rattle.std.specs.Prelude.{◌≡◌}
-use Rattle.cmh_site.proofs.cluster.Cluster.start_all.Given as goal
-
-abbrev pub invariant-loop-opened : goal.invariant-loop-opened
-invariant-loop-opened g l = l.self.topology ≡ l.initial.self.topology
