@@ -98,6 +98,7 @@ where
         + Net<Listener = TcpListener, Stream = TcpStream>
         + Copy
         + Send
+        + Sync
         + Drop
         + 'static,
     ensures { IsEnd result }
@@ -122,7 +123,7 @@ fn run_words<R, I: BufRead + Ahead, W: Write, E: Write>(
     err: &mut Output<E>,
 ) -> u8
 where
-    R: System + AllocGlobal + Env + Print + Eprint + Files<File = File> + Send + 'static,
+    R: System + AllocGlobal + Env + Print + Eprint + Files<File = File> + Send + Sync + 'static,
     ensures { IsEnd result }
 {
     let alloc = rt.alloc();
@@ -184,7 +185,7 @@ fn run_command<R, I: BufRead + Ahead, W: Write, E: Write>(
     err: &mut Output<E>,
 ) -> u8
 where
-    R: System + AllocGlobal + Eprint + Files<File = File> + Send + 'static,
+    R: System + AllocGlobal + Eprint + Files<File = File> + Send + Sync + 'static,
     ensures { IsStatus result }
 {
     let mut listener = Listener::new(rt.alloc(), err);
@@ -231,7 +232,7 @@ fn carry_out<R, I: BufRead + Ahead, W: Write, E: Write>(
     err: &mut Output<E>,
 ) -> u8
 where
-    R: System + AllocGlobal + Eprint + Files<File = File> + Send + 'static,
+    R: System + AllocGlobal + Eprint + Files<File = File> + Send + Sync + 'static,
     ensures status { IsStatus result }
 
     // Where no command but `play` is named, a script is played; one of edition 3 where that is asked for.
@@ -292,7 +293,7 @@ where
 {
     if let Some(words) = matches.subcommand_matches(AUDIT) {
         let mut records = RecordFiles::new(rt);
-        return audit(rt.alloc(), &Disk::new(rt), words, &mut records, out, err);
+        return audit(rt, &Disk::new(rt), words, &mut records, out, err);
     }
     if let Some(words) = matches.subcommand_matches(DRAW) {
         return draw_or_page(rt.alloc(), &Disk::new(rt), words, out, err);

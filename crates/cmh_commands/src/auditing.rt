@@ -24,17 +24,20 @@ use cmh_inputs::{AuditFiles, Inputs, begins_segment};
 use cmh_long_audit3::run_long_audit3;
 use std::alloc::Global;
 use std::io::Write;
+use std::thread::Threads;
 
 /// Audits the epochs that the words ask for, or all that the files that they name hold, as `audit_whole` does. The keeper gets
 /// the records of what was accepted, where the words ask for them.
-pub fn audit<N: Inputs, K: RecordKeeper, W: Write, E: Write>(
-    alloc: Global,
+pub fn audit<R, N: Inputs, K: RecordKeeper, W: Write, E: Write>(
+    rt: &R,
     inputs: &N,
     words: &ArgMatches<'_>,
     keeper: &mut K,
     out: &mut Output<W>,
     err: &mut Output<E>,
 ) -> u8
+where
+    R: Threads + AllocGlobal + Sync,
     ensures status { IsStatus result }
 
     // Where they name no epoch, all are audited.
@@ -51,21 +54,23 @@ pub fn audit<N: Inputs, K: RecordKeeper, W: Write, E: Write>(
         ⊎ SomePartEnds result }
 {
     match range_of(words) {
-        Some(range) => audit_part(alloc, inputs, words, &range, keeper, out, err),
-        None => audit_whole(alloc, inputs, words, keeper, out, err),
+        Some(range) => audit_part(rt, inputs, words, &range, keeper, out, err),
+        None => audit_whole(rt, inputs, words, keeper, out, err),
     }
 }
 
 /// Audits the files that the words name, and tells the reasons for stops, a run, or its declarations, where they ask for
 /// them. Where the topology is one of edition 3, the journals are segments of it. Declarations are told of edition 3 alone.
-fn audit_whole<N: Inputs, K: RecordKeeper, W: Write, E: Write>(
-    alloc: Global,
+fn audit_whole<R, N: Inputs, K: RecordKeeper, W: Write, E: Write>(
+    rt: &R,
     inputs: &N,
     words: &ArgMatches<'_>,
     keeper: &mut K,
     out: &mut Output<W>,
     err: &mut Output<E>,
 ) -> u8
+where
+    R: Threads + AllocGlobal + Sync,
     ensures status { IsStatus result }
 
     // Where the inputs tell their files, these are audited.
@@ -77,10 +82,11 @@ fn audit_whole<N: Inputs, K: RecordKeeper, W: Write, E: Write>(
         → AuditsFiles more out.old out.new err.old err.new result }
     ensures audits_some { (more : MoreType) × AuditsFiles more out.old out.new err.old err.new result }
 {
+    let alloc = rt.alloc();
     let more = more_of(words);
     match files_named(alloc, inputs, words) {
         Ok(files) if files.is_edition3 && have_later(&files.journals) => {
-            audit_all(alloc, inputs, words, files, keeper, out, err)
+            audit_all(rt, inputs, words, files, keeper, out, err)
         }
         Ok(files) => audit_files(alloc, more, &files, out, err),
         Err(fault) => Fault::from(fault).name_on(err),
@@ -89,8 +95,8 @@ fn audit_whole<N: Inputs, K: RecordKeeper, W: Write, E: Write>(
 
 /// Audits journals of edition 3 of which one is of a later epoch than the first: with all segments that stand before it, and
 /// before the others. Records of what was accepted are kept where the words ask for them.
-fn audit_all<N: Inputs, K: RecordKeeper, W: Write, E: Write>(
-    alloc: Global,
+fn audit_all<R, N: Inputs, K: RecordKeeper, W: Write, E: Write>(
+    rt: &R,
     inputs: &N,
     words: &ArgMatches<'_>,
     files: AuditFiles,
@@ -98,8 +104,11 @@ fn audit_all<N: Inputs, K: RecordKeeper, W: Write, E: Write>(
     out: &mut Output<W>,
     err: &mut Output<E>,
 ) -> u8
+where
+    R: Threads + AllocGlobal + Sync,
     ensures { LongEnds files.topology.items result }
 {
+    let alloc = rt.alloc();
     let AuditFiles {
         topology,
         journals,
@@ -113,7 +122,7 @@ fn audit_all<N: Inputs, K: RecordKeeper, W: Write, E: Write>(
         Ok(journals) => journals,
         Err(fault) => return Fault::from(fault).name_on(err),
     };
-    let status = run_long_audit3(alloc, &topology, &journals, more_of(words), out, err);
+    let status = run_long_audit3(rt, &topology, &journals, more_of(words), out, err);
     if status != 0 {
         return status;
     }

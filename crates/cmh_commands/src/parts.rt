@@ -16,6 +16,7 @@ use cmh_long_audit3::{EpochRange, run_part_audit3};
 use cmh_wire3::Epoch;
 use std::alloc::Global;
 use std::io::Write;
+use std::thread::Threads;
 
 /// The epochs that the words ask for, if they name one.
 pub fn range_of(words: &ArgMatches<'_>) -> Option<EpochRange>
@@ -46,8 +47,8 @@ fn epoch_named(words: &ArgMatches<'_>, option: &str) -> Option<Epoch>
 
 /// Audits these epochs of the journals that the words name. The keeper gets the records of what was accepted, where the words
 /// ask for them.
-pub fn audit_part<N: Inputs, K: RecordKeeper, W: Write, E: Write>(
-    alloc: Global,
+pub fn audit_part<R, N: Inputs, K: RecordKeeper, W: Write, E: Write>(
+    rt: &R,
     inputs: &N,
     words: &ArgMatches<'_>,
     range: &EpochRange,
@@ -55,17 +56,19 @@ pub fn audit_part<N: Inputs, K: RecordKeeper, W: Write, E: Write>(
     out: &mut Output<W>,
     err: &mut Output<E>,
 ) -> u8
+where
+    R: Threads + AllocGlobal + Sync,
     ensures { PartEnds range.now result }
 {
-    match files_named(alloc, inputs, words) {
-        Ok(files) => audit_part_of(alloc, inputs, words, range, files, keeper, out, err),
+    match files_named(rt.alloc(), inputs, words) {
+        Ok(files) => audit_part_of(rt, inputs, words, range, files, keeper, out, err),
         Err(fault) => Fault::from(fault).name_on(err),
     }
 }
 
 /// Audits these epochs of journals whose newest segments are in these files.
-fn audit_part_of<N: Inputs, K: RecordKeeper, W: Write, E: Write>(
-    alloc: Global,
+fn audit_part_of<R, N: Inputs, K: RecordKeeper, W: Write, E: Write>(
+    rt: &R,
     inputs: &N,
     words: &ArgMatches<'_>,
     range: &EpochRange,
@@ -74,8 +77,11 @@ fn audit_part_of<N: Inputs, K: RecordKeeper, W: Write, E: Write>(
     out: &mut Output<W>,
     err: &mut Output<E>,
 ) -> u8
+where
+    R: Threads + AllocGlobal + Sync,
     ensures { PartEnds range.now result }
 {
+    let alloc = rt.alloc();
     let AuditFiles {
         topology,
         journals,
@@ -89,7 +95,7 @@ fn audit_part_of<N: Inputs, K: RecordKeeper, W: Write, E: Write>(
         Ok(files) => files,
         Err(fault) => return Fault::from(fault).name_on(err),
     };
-    let status = run_part_audit3(alloc, &topology, &files, range, out, err);
+    let status = run_part_audit3(rt, &topology, &files, range, out, err);
     if status != 0 {
         return status;
     }

@@ -1,6 +1,7 @@
 pub mod Agreed
 pub mod Beginning
 pub mod Elsewhere
+pub mod Ending
 pub mod Ends
 pub mod Following
 pub mod Leading

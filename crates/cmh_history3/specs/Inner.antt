@@ -3,3 +3,4 @@ pub mod Taking
 pub mod Sets
 pub mod Rows
 pub mod Leading
+pub mod Ends

@@ -1,13 +1,16 @@
 //! The audit of epochs, one after the other.
 
-ghost use Rattle.std.specs.Prelude.{◌≡◌, IfNone, IfOk, IfSome};
-ghost use Rattle.std.specs.List.{All};
+ghost use Rattle.std.specs.Prelude.{◌≡◌, ◌∷◌, IfNone, IfOk, IfSome, List};
+ghost use Rattle.std.specs.List.{All, AllZip};
+ghost use Rattle.std.specs.Vec.Iter.{into_iter_items, into_iter_len};
 ghost use Rattle.cmh_segment3.specs.Base.{IsBase};
 ghost use Rattle.cmh_history3.specs.Chains as spec;
 ghost use Rattle.cmh_history3.specs.Chains.{IsReadEpoch};
-ghost use Rattle.cmh_history3.specs.Findings.{CanBegin, Finds, IsEpochFrom};
-ghost use Rattle.cmh_history3.specs.Follows.{IsEndOf};
+ghost use Rattle.cmh_history3.specs.Findings.{CanBegin, Finds};
+ghost use Rattle.cmh_history3.specs.Inner.Ends.{AreEndsOf, EndsAs};
 ghost use Rattle.cmh_history3.specs.Inner.Leading.{AreRestored};
+ghost use Rattle.cmh_segment3.specs.declared.segment.Segment as segment;
+ghost use Rattle.cmh_topology3.specs.Topology as topology;
 
 use crate::epoch_verdict::{EpochVerdict, audit_epoch};
 use crate::next::follows;
@@ -21,7 +24,10 @@ use cmh_model3::Message;
 use cmh_segment3::{Rows, Segment};
 use cmh_topology3::Topology;
 use cmh_wire3::Epoch;
+use rayon::prelude::*;
 use std::alloc::Global;
+use std::thread::Threads;
+use std::vec::IntoIter;
 
 /// Whether epochs come one after the other.
 #[derive(Clone, Copy)]
@@ -37,7 +43,10 @@ pub enum ChainVerdict {
 
 /// Audits epochs in their order: whether each is one from its bases, and the bases of each but the first say the end of the
 /// one before it. The only error is out of memory, after which nothing is said of them.
-pub fn audit_chain(
+///
+/// The epochs are judged side by side, in as many threads as there are processors, and then compared in their order.
+pub fn audit_chain<R: Threads + Sync>(
+    rt: &R,
     alloc: Global,
     topology: &Topology,
     epochs: &[Rows<Segment>],
@@ -50,13 +59,13 @@ pub fn audit_chain(
 {
     chain_law();
     turn_law(topology);
-    let Some((first, more)) = epochs.split_first() else {
+    let Some((_first, more)) = epochs.split_first() else {
         return Ok(ChainVerdict::Accepted);
     };
-    let mut segments = first.as_slice();
+    let mut ends = ends_of(rt, alloc, topology, epochs)?.into_iter();
     for (place, next) in more.iter().enumerate() {
         let next = next.as_slice();
-        let Some(end) = end_of(alloc, topology, segments)? else {
+        let Some(end) = next_end(&mut ends) else {
             return Ok(ChainVerdict::Refused(place));
         };
         let End {
@@ -73,12 +82,49 @@ pub fn audit_chain(
         )? {
             return Ok(ChainVerdict::Apart(place + 1));
         }
-        segments = next;
     }
-    let Some(_end) = end_of(alloc, topology, segments)? else {
+    let Some(_end) = next_end(&mut ends) else {
         return Ok(ChainVerdict::Refused(more.len()));
     };
     Ok(ChainVerdict::Accepted)
+}
+
+/// Where each of these epochs ends, from as many threads as there are processors; none for one that is not accepted.
+fn ends_of<R: Threads + Sync>(
+    rt: &R,
+    alloc: Global,
+    topology: &Topology,
+    epochs: &[Rows<Segment>],
+) -> Result<Vec<Option<End>>, AuditMemory>
+    requires { All (IsReadEpoch topology.now) epochs.now }
+    ensures { IfOk result (λ ends. AllZip (EndsAs topology.now) epochs.now ends.items) }
+{
+    let ends = epochs
+        .par_iter()
+        .with_min_len(1)
+        .map(
+            |epoch: &Rows<Segment>| -> Result<Option<End>, AuditMemory>
+                requires { IsReadEpoch topology.now epoch.now }
+                ensures { IfOk result (EndsAs topology.entry.now epoch.now) }
+            { end_of(alloc, topology, epoch.as_slice()) },
+        )
+        .collect::<Result<Vec<_>, AuditMemory>>(rt, alloc);
+    match ends {
+        Ok(ends) => ends,
+        Err(_) => Err(AuditMemory),
+    }
+}
+
+/// The end of the next epoch; none where it is not accepted.
+fn next_end(ends: &mut IntoIter<Option<End>>) -> Option<End>
+    ensures { (t : topology.Topology) (segments : List segment.Segment) (later : List (List segment.Segment))
+        → AreEndsOf t (segments ∷ later) (into_iter_items ends.old) (into_iter_len ends.old)
+        → EndsAs t segments result × AreEndsOf t later (into_iter_items ends.new) (into_iter_len ends.new) }
+{
+    match ends.next() {
+        Some(end) => end,
+        None => None,
+    }
 }
 
 /// The epoch of segments; 0 where there are none.
@@ -107,9 +153,7 @@ fn end_of(
     segments: &[Segment],
 ) -> Result<Option<End>, AuditMemory>
     requires { IsReadEpoch topology.now segments.now }
-    ensures ends { IfOk result (λ found. IfSome found (λ end.
-        IsEndOf topology.now segments.now end.controllers.items end.under_way)) }
-    ensures none { IfOk result (λ found. IfNone found (¬ IsEpochFrom topology.now segments.now)) }
+    ensures { IfOk result (EndsAs topology.now segments.now) }
 {
     let Some(controllers) = controllers_of(alloc, topology, segments)? else {
         return Ok(None);

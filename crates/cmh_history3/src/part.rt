@@ -18,6 +18,7 @@ use cmh_segment3::{Rows, Segment};
 use cmh_topology3::Topology;
 use cmh_wire3::Epoch;
 use std::alloc::Global;
+use std::thread::Threads;
 
 /// What an audit of some epochs finds.
 #[derive(Drop)]
@@ -30,7 +31,8 @@ pub struct Part {
 
 /// Audits the epochs of journals in their order from the bases of the first one, as `audit_history` does from where nothing
 /// has happened. What led to these bases is not looked at.
-pub fn audit_part(
+pub fn audit_part<R: Threads + Sync>(
+    rt: &R,
     alloc: Global,
     topology: &Topology,
     journals: Vec<Journal>,
@@ -48,7 +50,7 @@ pub fn audit_part(
 {
     let epochs = epochs_of(alloc, journals)?;
     check_sets(topology, &epochs)?;
-    let verdict = audit_chain(alloc, topology, &epochs)?;
+    let verdict = audit_chain(rt, alloc, topology, &epochs)?;
     Ok(Part { epochs, verdict })
 }
 

@@ -18,6 +18,7 @@ use cmh_segment3::{Rows, Segment};
 use cmh_topology3::Topology;
 use cmh_wire3::Epoch;
 use std::alloc::{AllocError, Global};
+use std::thread::Threads;
 use thiserror::Error;
 
 /// Whether the epochs of journals come one after the other.
@@ -63,7 +64,8 @@ impl From<AllocError> for HistoryFault {
 
 /// Audits the epochs of journals in their order, the open one with all that follows as one epoch. A site that has begun a
 /// later epoch there turns to it between its entries; whether its base says where it stands then is not looked at.
-pub fn audit_history(
+pub fn audit_history<R: Threads + Sync>(
+    rt: &R,
     alloc: Global,
     topology: &Topology,
     journals: Vec<Journal>,
@@ -77,7 +79,7 @@ pub fn audit_history(
     first_law();
     let epochs = epochs_of(alloc, journals)?;
     check_epochs(topology, &epochs)?;
-    match audit_chain(alloc, topology, &epochs)? {
+    match audit_chain(rt, alloc, topology, &epochs)? {
         ChainVerdict::Accepted => Ok(HistoryVerdict::Accepted),
         ChainVerdict::Refused(place) => Ok(HistoryVerdict::Refused(epoch_at(&epochs, place))),
         ChainVerdict::Apart(place) => Ok(HistoryVerdict::Apart(epoch_at(&epochs, place))),

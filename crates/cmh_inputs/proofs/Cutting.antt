@@ -11,7 +11,8 @@ use Rattle.cmh_segment3.specs.Chain.{BeginsNoChained, HasNoChained, chained, cha
 use Rattle.cmh_segment3.specs.Entries.{IsWhole}
 use Rattle.cmh_segment3.specs.Segment.{IsSegmentOf, Writes, segment_spelling}
 use Rattle.cmh_inputs.specs.Furthest.{Keeps}
-use Rattle.cmh_inputs.specs.BetweenReads.{count_at, file_at, segment_at}
+use Rattle.cmh_files.specs.Readings.{file_at}
+use Rattle.cmh_inputs.specs.BetweenReads.{count_at, segment_at}
 
 -- ---- one file
 

@@ -4,7 +4,8 @@ use Rattle.cmh_model3.specs.Entries.{WorldEvent}
 use Rattle.cmh_topology3.specs.Topology.{Topology}
 use Rattle.cmh_segment3.specs.declared.segment.Segment.{Segment}
 use Rattle.cmh_inputs.specs.Furthest.{AreKeptOf, Keeps}
-use Rattle.cmh_inputs.specs.BetweenReads.{AreReadTwice, LiesBetween, NoRunBetween, file_at, segment_at}
+use Rattle.cmh_files.specs.Readings.{file_at}
+use Rattle.cmh_inputs.specs.BetweenReads.{AreReadTwice, LiesBetween, NoRunBetween, segment_at}
 use Rattle.cmh_inputs.specs.Inner.Taken.{AreCutTo, TakesFurthest}
 use Rattle.cmh_inputs.proofs.Places.{same_counts, same_segments}
 

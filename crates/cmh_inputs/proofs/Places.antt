@@ -5,7 +5,8 @@ use Rattle.std.proofs.lemmas.Bool.{cases_lt}
 use Rattle.std.proofs.lemmas.List.{ext_get_or, get_or-map, get_or_append_left, get_or_push}
 use Rattle.std.specs.Global.{Global}
 use Rattle.cmh_segment3.specs.declared.segment.Segment.{Segment}
-use Rattle.cmh_inputs.specs.BetweenReads.{IsReadTwice, count_at, file_at, no_segment, segment_at}
+use Rattle.cmh_files.specs.Readings.{file_at}
+use Rattle.cmh_inputs.specs.BetweenReads.{IsReadTwice, count_at, no_segment, segment_at}
 use Rattle.cmh_inputs.proofs.SegmentFiles.{same_segment}
 
 pub file_is : (files : List (Vec ℕ Global)) (i : ℕ) (file : Vec ℕ Global) → i < length files → file ≡ get_or files i file → file_at (map (λ (f : Vec ℕ Global). f.items) files) i ≡ file.items

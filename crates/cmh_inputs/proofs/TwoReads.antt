@@ -17,7 +17,8 @@ use Rattle.cmh_audit3.specs.Set.{IsSet, begins_world, is_known, is_of_world, lac
 use Rattle.cmh_audit3.proofs.Ends.{each_journal}
 use Rattle.cmh_audit3.proofs.Sets.{set_parts}
 use Rattle.cmh_inputs.specs.Furthest.{AreOfFurthest, Keeps}
-use Rattle.cmh_inputs.specs.BetweenReads.{file_at, made_in, no_segment, segment_at}
+use Rattle.cmh_files.specs.Readings.{file_at}
+use Rattle.cmh_inputs.specs.BetweenReads.{made_in, no_segment, segment_at}
 use Rattle.cmh_inputs.specs.TwoReads.{AreOfARun, TwoReadsAreEnough}
 use Rattle.cmh_inputs.proofs.Cutting.{front_writes, none_behind}
 use Rattle.cmh_inputs.proofs.Places.{all_at}

@@ -1,5 +1,6 @@
 -- Files of segments that were read twice, while their sites ran, and the runs between the two readings.
 use Rattle.std.specs.Prelude.{◌≡◌, ℕ, ◌-◌, ◌<◌, ◌≤◌, List, [], length, take, slice_index_or}
+use Rattle.cmh_files.specs.Readings.{file_at}
 use Rattle.cmh_model3.specs.Entries.{WorldEvent}
 use Rattle.cmh_model3.specs.Runs.{IsBeginningOf, IsRun, entries_of}
 use Rattle.cmh_topology3.specs.Topology.{Topology, site_of}
@@ -12,9 +13,6 @@ use Rattle.cmh_audit3.specs.Journals.{journal_of}
 use Rattle.cmh_audit3.specs.Set.{IsSet}
 
 -- ---- lists, place by place
-
-abbrev pub file_at : List (List ℕ) → ℕ → List ℕ
-file_at files i = slice_index_or files i []
 
 abbrev pub count_at : List ℕ → ℕ → ℕ
 count_at counts i = slice_index_or counts i 0

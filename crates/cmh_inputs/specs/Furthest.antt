@@ -4,7 +4,8 @@ use Rattle.cmh_model3.specs.Entries.{WorldEvent}
 use Rattle.cmh_topology3.specs.Topology.{Topology}
 use Rattle.cmh_segment3.specs.declared.segment.Segment.{Segment}
 use Rattle.cmh_segment3.specs.Segment.{segment_spelling}
-use Rattle.cmh_inputs.specs.BetweenReads.{AreReadTwice, IsFurthest, NoRunBetween, file_at, made_in, segment_at}
+use Rattle.cmh_files.specs.Readings.{file_at}
+use Rattle.cmh_inputs.specs.BetweenReads.{AreReadTwice, IsFurthest, NoRunBetween, made_in, segment_at}
 
 -- So many entries of a segment: all of its file, with a tail, where these are all entries; else what spells just these.
 pub record Keeps (file : List ℕ) (segment : Segment) (count : ℕ) (bytes : List ℕ) : Type 0 where

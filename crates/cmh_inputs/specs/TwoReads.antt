@@ -7,7 +7,8 @@ use Rattle.cmh_segment3.specs.Segment.{IsSegmentOf}
 use Rattle.cmh_audit3.specs.Journals.{ComeFromRun, journal_of}
 use Rattle.cmh_audit3.specs.Set.{IsSet}
 use Rattle.cmh_inputs.specs.Furthest.{AreKeptOf}
-use Rattle.cmh_inputs.specs.BetweenReads.{AreReadTwice, LiesBetween, file_at, segment_at}
+use Rattle.cmh_files.specs.Readings.{file_at}
+use Rattle.cmh_inputs.specs.BetweenReads.{AreReadTwice, LiesBetween, segment_at}
 
 -- the files are those of the segments of all sites of the world, which come from a run: so an audit accepts them
 pub record AreOfARun (t : Topology) (files : List (List ℕ)) : Type 0 where

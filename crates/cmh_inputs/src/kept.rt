@@ -3,7 +3,8 @@
 ghost use Rattle.std.specs.Prelude.{◌≡◌, ◌<◌, ℕ, length, map, IfOk};
 ghost use Rattle.cmh_segment3.specs.Segment.{IsSegmentOf};
 ghost use Rattle.cmh_inputs.specs.Furthest.{AreKeptOf};
-ghost use Rattle.cmh_inputs.specs.BetweenReads.{file_at, segment_at};
+ghost use Rattle.cmh_files.specs.Readings.{file_at};
+ghost use Rattle.cmh_inputs.specs.BetweenReads.{segment_at};
 ghost use Rattle.cmh_inputs.specs.Inner.Taken.{AreCutTo};
 
 use crate::between_reads::read_twice;

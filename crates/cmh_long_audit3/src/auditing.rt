@@ -23,6 +23,7 @@ use cmh_topology3::Topology;
 use cmh_wire3::Epoch;
 use std::alloc::{AllocError, Global};
 use std::io::Write;
+use std::thread::Threads;
 
 /// What an audit comes to.
 #[derive(Drop)]
@@ -38,29 +39,31 @@ pub(crate) struct Told {
 ///
 /// The answer is the status of the program: 0 where all epochs are accepted, 1 where one is not or memory ran out, 3 at any
 /// other fault, which is named on `err`.
-pub fn run_long_audit3<W: Write, E: Write>(
-    alloc: Global,
+pub fn run_long_audit3<R, W: Write, E: Write>(
+    rt: &R,
     topology: &[u8],
     files: &[Vec<Vec<u8>>],
     more: More,
     out: &mut Output<W>,
     err: &mut Output<E>,
 ) -> u8
+where
+    R: Threads + AllocGlobal + Sync,
     ensures status { IsStatus result }
 
     // It ends with 0 only where the epochs are one run, of which there is a report.
     ensures accepted { result ≡ 0 → IsAccepted topology.now
         (map (λ segments. map (λ file. file.items) segments.items) files.now) }
 {
-    match tell(alloc, topology, files, more, out) {
+    match tell(rt, topology, files, more, out) {
         Ok(status) => status,
         Err(fault) => Fault::from(fault).name_on(err),
     }
 }
 
 /// Writes what the audit comes to; answers the status.
-fn tell<W: Write>(
-    alloc: Global,
+fn tell<R: Threads + AllocGlobal + Sync, W: Write>(
+    rt: &R,
     topology: &[u8],
     files: &[Vec<Vec<u8>>],
     more: More,
@@ -70,7 +73,7 @@ fn tell<W: Write>(
     ensures accepted { IfOk result (λ status. status ≡ 0 → IsAccepted topology.now
         (map (λ segments. map (λ file. file.items) segments.items) files.now)) }
 {
-    let told = audited(alloc, topology, files, more)?;
+    let told = audited(rt, topology, files, more)?;
     out.write_text(told.text.as_str())?;
     out.flush()?;
     if told.is_accepted { Ok(0) } else { Ok(1) }
@@ -78,8 +81,8 @@ fn tell<W: Write>(
 
 /// The audit of these files. The first fault is answered: of the topology file, of the topology, of the journals in their
 /// order, and of their set.
-fn audited(
-    alloc: Global,
+fn audited<R: Threads + AllocGlobal + Sync>(
+    rt: &R,
     topology: &[u8],
     files: &[Vec<Vec<u8>>],
     more: More,
@@ -87,12 +90,13 @@ fn audited(
     ensures { IfOk result (λ told. told.is_accepted ≡ true → IsAccepted topology.now
         (map (λ segments. map (λ file. file.items) segments.items) files.now)) }
 {
+    let alloc = rt.alloc();
     let file = read_topology_file3(alloc, topology)?;
     let world = Topology::new(alloc, file.world, &file.rows)?;
     let mut noted = Noted::new(alloc);
     let journals = journals_of(alloc, files, &mut noted)?;
     let cuts = noted.cuts(alloc)?;
-    let verdict = match audit_history(alloc, &world, journals) {
+    let verdict = match audit_history(rt, alloc, &world, journals) {
         Ok(verdict) => verdict,
         Err(fault) => return Err(of_history(fault)),
     };

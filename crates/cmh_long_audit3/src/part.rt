@@ -19,6 +19,7 @@ use cmh_topology3::Topology;
 use cmh_wire3::Epoch;
 use std::alloc::Global;
 use std::io::Write;
+use std::thread::Threads;
 
 /// Which epochs an audit reads.
 #[derive(Clone, Copy)]
@@ -35,29 +36,31 @@ pub struct EpochRange {
 ///
 /// The answer is the status of the program: 0 where the epochs are accepted, 1 where one is not or memory ran out, 3 at any
 /// other fault, which is named on `err`.
-pub fn run_part_audit3<W: Write, E: Write>(
-    alloc: Global,
+pub fn run_part_audit3<R, W: Write, E: Write>(
+    rt: &R,
     topology: &[u8],
     files: &[Vec<Vec<u8>>],
     range: &EpochRange,
     out: &mut Output<W>,
     err: &mut Output<E>,
 ) -> u8
+where
+    R: Threads + AllocGlobal + Sync,
     ensures status { IsStatus result }
 
     // It ends with 0 only where the epochs are one run from the first bases.
     ensures accepted { result ≡ 0 → IsPartAccepted topology.now range.now
         (map (λ segments. map (λ file. file.items) segments.items) files.now) }
 {
-    match tell_part(alloc, topology, files, *range, out) {
+    match tell_part(rt, topology, files, *range, out) {
         Ok(status) => status,
         Err(fault) => Fault::from(fault).name_on(err),
     }
 }
 
 /// Writes what the audit comes to; answers the status.
-fn tell_part<W: Write>(
-    alloc: Global,
+fn tell_part<R: Threads + AllocGlobal + Sync, W: Write>(
+    rt: &R,
     topology: &[u8],
     files: &[Vec<Vec<u8>>],
     range: EpochRange,
@@ -67,7 +70,7 @@ fn tell_part<W: Write>(
     ensures accepted { IfOk result (λ status. status ≡ 0 → IsPartAccepted topology.now range
         (map (λ segments. map (λ file. file.items) segments.items) files.now)) }
 {
-    let told = audited_part(alloc, topology, files, range)?;
+    let told = audited_part(rt, topology, files, range)?;
     out.write_text(told.text.as_str())?;
     out.flush()?;
     if told.is_accepted { Ok(0) } else { Ok(1) }
@@ -75,8 +78,8 @@ fn tell_part<W: Write>(
 
 /// The audit of these files. The first fault is answered: of the topology file, of the topology, of the journals in their
 /// order, and of their set.
-fn audited_part(
-    alloc: Global,
+fn audited_part<R: Threads + AllocGlobal + Sync>(
+    rt: &R,
     topology: &[u8],
     files: &[Vec<Vec<u8>>],
     range: EpochRange,
@@ -84,12 +87,13 @@ fn audited_part(
     ensures { IfOk result (λ told. told.is_accepted ≡ true → IsPartAccepted topology.now range
         (map (λ segments. map (λ file. file.items) segments.items) files.now)) }
 {
+    let alloc = rt.alloc();
     let file = read_topology_file3(alloc, topology)?;
     let world = Topology::new(alloc, file.world, &file.rows)?;
     let mut noted = Noted::new(alloc);
     let journals = parts_of(alloc, files, range, &mut noted)?;
     let cuts = noted.cuts(alloc)?;
-    let part = match audit_part(alloc, &world, journals) {
+    let part = match audit_part(rt, alloc, &world, journals) {
         Ok(part) => part,
         Err(fault) => return Err(of_history(fault)),
     };

@@ -6,7 +6,8 @@ use Rattle.cmh_segment3.specs.declared.segment.Segment.{Segment}
 use Rattle.cmh_audit3.specs.Stops.{before_stop}
 use Rattle.cmh_audit3.specs.declared.stops.Stop.{Stop}
 use Rattle.cmh_inputs.specs.Furthest.{Keeps}
-use Rattle.cmh_inputs.specs.BetweenReads.{IsFurthest, count_at, file_at, made_in, segment_at}
+use Rattle.cmh_files.specs.Readings.{file_at}
+use Rattle.cmh_inputs.specs.BetweenReads.{IsFurthest, count_at, made_in, segment_at}
 
 -- how many entries of a segment stand before the stop of its site
 abbrev pub before_stops : List Stop → Segment → ℕ

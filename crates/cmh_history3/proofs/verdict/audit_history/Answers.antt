@@ -11,14 +11,14 @@ use Rattle.cmh_history3.proofs.Reading.{one_history, read_epochs}
 use Rattle.cmh_history3.proofs.verdict.audit_history.Goals as goal
 
 pub audit_chain-requires : goal.audit_chain-requires
-audit_chain-requires c =
+audit_chain-requires g c =
     let t = c.args.topology.now in
     let epochs = c.in_ok-epochs.epochs.items in
     let sets = subst (All (IsEpochSet t)) c.deref.ensures.value c.in_ok-check_epochs.ensures.sets in
-    subst (All (IsReadEpoch t)) (sym c.deref-2.ensures.value) (read_epochs t c.args.journals.items epochs c.requires c.in_ok-epochs.ensures sets)
+    (c.type_bounds.sync-R, subst (All (IsReadEpoch t)) (sym c.deref-2.ensures.value) (read_epochs t c.args.journals.items epochs c.requires c.in_ok-epochs.ensures sets))
 
 pub returns-in-Accepted : goal.returns-in-Accepted
-returns-in-Accepted c =
+returns-in-Accepted g c =
     let t = c.args.topology.now in
     let epochs = c.in_ok-epochs.epochs.items in
     let begin = subst (BeginWorld t) c.deref.ensures.value c.in_ok-check_epochs.ensures.first in
@@ -26,7 +26,7 @@ returns-in-Accepted c =
     one_history t c.args.journals.items epochs c.first_law.ensures.runs c.in_ok-epochs.ensures begin (subst (λ (l : List (List Segment)). AreOneRun t l) c.deref-2.ensures.value one)
 
 pub returns-in-Refused : goal.returns-in-Refused
-returns-in-Refused c =
+returns-in-Refused g c =
     let t = c.args.topology.now in
     let epochs = c.in_ok-epochs.epochs.items in
     let found = subst (λ (v : ChainVerdict). Finds t c.deref-2.result.now v) c.in-Refused.is c.in_ok-audit_chain.ensures in
@@ -40,7 +40,7 @@ returns-in-Refused c =
     }
 
 pub returns : goal.returns
-returns c =
+returns g c =
     let t = c.args.topology.now in
     let epochs = c.in_ok-epochs.epochs.items in
     let found = subst (λ (v : ChainVerdict). Finds t c.deref-2.result.now v) c.in-Apart.is c.in_ok-audit_chain.ensures in

@@ -1,6 +1,7 @@
 use Rattle.std.proofs.Common.{◌≡◌, ℕ, ◌<◌, length, map, Vec}
 use Rattle.std.specs.Global.{Global}
-use Rattle.cmh_inputs.specs.BetweenReads.{IsReadTwice, count_at, file_at, segment_at}
+use Rattle.cmh_files.specs.Readings.{file_at}
+use Rattle.cmh_inputs.specs.BetweenReads.{IsReadTwice, count_at, segment_at}
 use Rattle.cmh_inputs.proofs.between_reads.read_twice.Given as goal
 
 abbrev pub invariant-loop-i : goal.invariant-loop-i

@@ -5,7 +5,8 @@ use Rattle.cmh_segment3.specs.declared.entry.Entry.{Entry}
 use Rattle.cmh_segment3.specs.declared.segment.Segment.{Segment}
 use Rattle.cmh_segment3.specs.Segment.{IsSegmentOf, Writes, segment_spelling}
 use Rattle.cmh_inputs.specs.Furthest.{Keeps}
-use Rattle.cmh_inputs.specs.BetweenReads.{count_at, file_at, no_segment, segment_at}
+use Rattle.cmh_files.specs.Readings.{file_at}
+use Rattle.cmh_inputs.specs.BetweenReads.{count_at, no_segment, segment_at}
 use Rattle.cmh_inputs.proofs.Cutting.{cut_more, front_writes, items, keeps_all, keeps_some, set_elsewhere, set_here}
 use Rattle.cmh_inputs.proofs.kept.cut.Goals as goal
 use Rattle.cmh_inputs.proofs.kept.cut.Goals.{then-taken-i+in_ok-kept, else-taken-i}

@@ -7,7 +7,8 @@ use Rattle.cmh_model3.specs.Entries.{WorldEvent}
 use Rattle.cmh_topology3.specs.Topology.{Topology}
 use Rattle.cmh_segment3.specs.declared.segment.Segment.{Segment}
 use Rattle.cmh_segment3.specs.Segment.{IsSegmentOf}
-use Rattle.cmh_inputs.specs.BetweenReads.{AreReadTwice, LiesBetween, file_at, segment_at}
+use Rattle.cmh_files.specs.Readings.{file_at}
+use Rattle.cmh_inputs.specs.BetweenReads.{AreReadTwice, LiesBetween, segment_at}
 use Rattle.cmh_inputs.specs.Inner.Taken.{AreCutTo, TakesFurthest}
 use Rattle.cmh_inputs.specs.declared.between_reads.Readings.{Readings}
 use Rattle.cmh_inputs.proofs.Cutting.{items}
