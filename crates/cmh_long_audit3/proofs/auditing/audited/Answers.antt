@@ -9,10 +9,10 @@ use Rattle.cmh_long_audit3.proofs.auditing.audited.Goals as goal
 use Rattle.cmh_long_audit3.proofs.auditing.audited.Goals.{in-Accepted+in_ok-told-in-Accepted, in-Refused+in_ok-told-in-Refused, in-Apart+in_ok-told-in-Apart}
 
 pub audit_history-requires : goal.audit_history-requires
-audit_history-requires c = all_bases _ _ c.in_ok-journals.ensures
+audit_history-requires g c = (c.type_bounds.sync-R, all_bases _ _ c.in_ok-journals.ensures)
 
 pub returns : goal.returns
-returns c = λ yes.
+returns g c = λ yes.
     let world = c.in_ok-world.world in
     let journals = c.in_ok-journals.journals.items in
     let topology_is = subst (λ (rows : List Row). IsTopologyOf c.in_ok-file.file.world rows world) c.deref.ensures.value c.in_ok-world.ensures.ok in

@@ -8,10 +8,10 @@ use Rattle.cmh_long_audit3.proofs.Zips.{says_topology}
 use Rattle.cmh_long_audit3.proofs.part.audited_part.Goals as goal
 
 pub audit_part-requires : goal.audit_part-requires
-audit_part-requires c = part_bases c.args.range _ _ c.in_ok-journals.ensures
+audit_part-requires g c = (c.type_bounds.sync-R, part_bases c.args.range _ _ c.in_ok-journals.ensures)
 
 pub returns : goal.returns
-returns c = λ yes.
+returns g c = λ yes.
     let world = c.in_ok-world.world in
     let journals = c.in_ok-journals.journals.items in
     let part = c.in-Ok.part in
