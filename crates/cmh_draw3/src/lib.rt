@@ -4,10 +4,13 @@
 mod arrows;
 mod columns;
 mod drawing;
+mod epoch_part;
+mod long_drawing;
 mod newer_run;
 mod running;
 mod waiting;
 
 pub use crate::drawing::run_draw3;
+pub use crate::long_drawing::{LongDrawing, run_long_draw3};
 pub use crate::running::run_picture;
 pub use crate::waiting::waits_picture;

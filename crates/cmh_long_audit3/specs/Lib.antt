@@ -1,3 +1,4 @@
 pub mod Read
 pub mod Audits
 pub mod Parts
+pub mod Wholes

@@ -12,6 +12,9 @@ mod part;
 mod part_report;
 mod part_text;
 mod places;
+mod wholes;
 
 pub use crate::auditing::run_long_audit3;
 pub use crate::part::{EpochRange, run_part_audit3};
+pub use crate::places::epoch_in;
+pub use crate::wholes::{AuditedWholes, audit_wholes, wholes_of};

@@ -1,5 +1,8 @@
 //! What is noted of the files of journals while they are read.
 
+ghost use Rattle.std.specs.Prelude.{IfErr};
+ghost use Rattle.cmh_long_audit3.specs.Wholes.{IsOfJournals};
+
 use crate::keeping::Flaw;
 use cmh_audit3::FileFault;
 use cmh_files3::AuditFault;
@@ -57,7 +60,9 @@ impl Noted {
 
     /// The sites whose newest segment was cut off, ascending, and how many bytes stand after its last entry. It is a fault
     /// where some stand behind another segment of a journal.
-    pub fn cuts(&self, alloc: Global) -> Result<Vec<(SiteId, usize)>, AuditFault> {
+    pub fn cuts(&self, alloc: Global) -> Result<Vec<(SiteId, usize)>, AuditFault>
+        ensures { IfErr result IsOfJournals }
+    {
         let mut cuts = Vec::new(alloc);
         for (i, tail) in self.tails.iter().enumerate() {
             if tail.length == 0 {

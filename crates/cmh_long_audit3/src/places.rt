@@ -1,5 +1,7 @@
 //! Where an entry of a whole journal stands in its segments.
 
+ghost use Rattle.std.specs.Prelude.{◌≡◌, ◌/◌, ◌^◌};
+
 use cmh_model3::{Event, SiteId};
 use cmh_segment3::Segment;
 use cmh_wire3::Epoch;
@@ -46,7 +48,9 @@ fn place_in(whole: &Segment, entry: usize) -> Place {
 }
 
 /// The epoch of a clock.
-pub fn epoch_in(clock: u64) -> Epoch {
+pub fn epoch_in(clock: u64) -> Epoch
+    ensures { result ≡ clock / 2 ^ 32 }
+{
     Epoch::new((clock / 0x1_0000_0000) as u32)
 }
 
