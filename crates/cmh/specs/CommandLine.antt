@@ -10,7 +10,7 @@ use Rattle.cmh_console.specs.Status.{IsStatus}
 use Rattle.cmh_commands.specs.Drawing.{TellsColumn}
 use Rattle.cmh_commands.specs.Files.{AsksFor, IsUnset}
 use Rattle.cmh_commands.specs.Later as later
-use Rattle.cmh_commands.specs.Numbers.{TellsNumber}
+use Rattle.cmh_commands.specs.Numbers.{TellsEpoch, TellsNumber}
 use Rattle.cmh_files3.specs.declared.more.More.{More}
 
 -- the command that is named is the audit
@@ -102,6 +102,10 @@ NamesSiteNumber matches site = IsNumber site × OfWords matches (λ found. Tells
 -- an option of the command is this column, or it is not told
 abbrev pub NamesColumn : ArgMatches → List ℕ → Option ℕ → Type 0
 NamesColumn matches name told = OfWords matches (λ found. TellsColumn (one_text found name) told)
+
+-- an epoch is told, or none is
+abbrev pub NamesEpoch : ArgMatches → Option ℕ → Type 0
+NamesEpoch matches told = OfWords matches (λ found. TellsEpoch (one_text found (codes "epoch")) told)
 
 -- what the audit is asked to tell after its report
 abbrev pub AsksAudit : ArgMatches → More → Type 0

@@ -11,7 +11,7 @@ ghost use Rattle.cmh_commands.specs.NewWorld.{WorldEnds};
 ghost use Rattle.cmh_commands.specs.Numbers.{TellsNumber};
 ghost use Rattle.cmh_commands.specs.Paging.{PagesFiles, PlaysToPage};
 ghost use Rattle.cmh_commands.specs.Playing.{PlaysAlone, PlaysScript};
-ghost use Rattle.cmh.specs.CommandLine.{AsksAudit, IsEnd, NamesAudit, NamesCluster, NamesColumn, NamesDraw, NamesEdition, NamesFolder, NamesNewWorld, NamesNoEdition, NamesNoEpoch, NamesNoFolder, NamesNoPage, NamesNoPageFile, NamesNoStrictness, NamesNothing, NamesOption, NamesPage, NamesPlay, NamesSegments, NamesShow, NamesSite, NamesSiteNumber, NamesStrictness, ReadsNoInput};
+ghost use Rattle.cmh.specs.CommandLine.{AsksAudit, IsEnd, NamesAudit, NamesCluster, NamesColumn, NamesDraw, NamesEdition, NamesEpoch, NamesFolder, NamesNewWorld, NamesNoEdition, NamesNoEpoch, NamesNoFolder, NamesNoPage, NamesNoPageFile, NamesNoStrictness, NamesNothing, NamesOption, NamesPage, NamesPlay, NamesSegments, NamesShow, NamesSite, NamesSiteNumber, NamesStrictness, ReadsNoInput};
 ghost use Rattle.cmh.specs.Listing.{ListsSome};
 ghost use Rattle.cmh.specs.Playing.{PlaysEdition3};
 ghost use Rattle.cmh_play3.specs.Plays.{PlaysInto};
@@ -263,12 +263,13 @@ where
     // a page.
     ensures shows { NamesShow matches.now → ShowsFiles out.old out.new err.old err.new result }
     ensures draws { NamesDraw matches.now → NamesNoPage matches.now → (kind : kinds.Kind) → (format : formats.Format)
-        → (first last : Option ℕ)
+        → (first last epoch : Option ℕ)
         → NamesOption matches.now (codes "kind") (kind_word kind)
         → NamesOption matches.now (codes "format") (format_word format)
         → NamesColumn matches.now (codes "from") first
         → NamesColumn matches.now (codes "to") last
-        → DrawsFiles kind format (part_between first last) out.old out.new err.old err.new result }
+        → NamesEpoch matches.now epoch
+        → DrawsFiles kind format (part_between first last) epoch out.old out.new err.old err.new result }
     ensures draws_some { NamesDraw matches.now → NamesNoPage matches.now
         → DrawsSome out.old out.new err.old err.new result }
     ensures pages { NamesDraw matches.now → NamesPage matches.now

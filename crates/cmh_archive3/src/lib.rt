@@ -16,5 +16,6 @@ mod summary;
 pub use crate::lines::{SegmentLine, State};
 pub use crate::list_fault::ListFault;
 pub use crate::listing::run_segments;
+pub use crate::names::segment_path;
 pub use crate::recording::{RecordFiles, RecordKeeper, record_audited};
 pub use crate::summary::{Folder, Summary};

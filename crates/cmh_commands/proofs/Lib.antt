@@ -1,3 +1,4 @@
 mod ColumnLemmas
+mod EpochLemmas
 mod PageLemmas
 mod RestoreLemmas

@@ -10,7 +10,7 @@ use Rattle.cmh_inputs.specs.FileFaults.{IsUnread, as_fault}
 use Rattle.cmh_inputs.specs.Readings.{AreNamed, AreNamedJournals, AreUnnamed, AreUnread}
 use Rattle.cmh_inputs.specs.Stored.{Stored}
 use Rattle.cmh_commands.specs.Later.{LongEnds, OneBeginsLater}
-use Rattle.cmh_commands.specs.Paths.{journal_paths, topology_path}
+use Rattle.cmh_commands.specs.Paths.{journal_paths, shown_paths, topology_path}
 use Rattle.cmh_files.specs.Audits.{AuditEnds}
 use Rattle.cmh_files.specs.Explains.{ExplainEnds}
 use Rattle.cmh_files.specs.RunAudits.{RunEnds}
@@ -83,12 +83,13 @@ ShowEndsByEdition files old new err_old err_new status =
     (BeginWithSegment files × edition3_shows.ShowEnds files old new err_old err_new status)
     ⊎ (¬ BeginWithSegment files × ShowEnds files old new err_old err_new status)
 
--- the lines of the journals that are named, or nothing is written and the fault of one of them that could not be read is
--- named
-abbrev pub ShowsNamed : {W E : Type 0} → Option Stored → Found → Writing W → Writing W → Writing E → Writing E → ℕ → Type 0
-ShowsNamed told found old new err_old err_new status =
-    ((files : List (List ℕ)) × AreNamedJournals told (journal_paths found) files × ShowEndsByEdition files old new err_old err_new status)
-    ⊎ ((new ≡ old) × NamesFault as_fault (AreUnread told (journal_paths found)) status err_old err_new)
+-- The lines of the journals that are named, or of their segments of the epoch that is; or nothing is written, and the fault of
+-- one of them that could not be read is named.
+abbrev pub ShowsNamed : {W E : Type 0} → Option Stored → Found → Option ℕ → Writing W → Writing W → Writing E → Writing E → ℕ → Type 0
+ShowsNamed told found epoch old new err_old err_new status =
+    ((files : List (List ℕ)) × AreNamedJournals told (shown_paths epoch (journal_paths found)) files
+    × ShowEndsByEdition files old new err_old err_new status)
+    ⊎ ((new ≡ old) × NamesFault as_fault (AreUnread told (shown_paths epoch (journal_paths found))) status err_old err_new)
 
 -- the same of the lines of some journals
 abbrev pub ShowsFiles : {W E : Type 0} → Writing W → Writing W → Writing E → Writing E → ℕ → Type 0

@@ -1,17 +1,18 @@
 //! The commands `audit` and `show`.
 
-ghost use Rattle.std.specs.Prelude.{◌≡◌, ◌⊎◌, MatchBool, map};
-ghost use Rattle.clap.specs.Matches.{found_of};
+ghost use Rattle.std.specs.Prelude.{◌≡◌, ◌⊎◌, ℕ, MatchBool, Option, codes, map};
+ghost use Rattle.clap.specs.Matches.{found_of, one_text};
 ghost use Rattle.cmh_console.specs.Status.{IsStatus};
 ghost use Rattle.cmh_console.specs.TopologyFile3.{SaysNoWorld};
 ghost use Rattle.cmh_files3.specs.More.{MoreEnds};
 ghost use Rattle.cmh_files3.specs.declared.more.More.{More as MoreType};
 ghost use Rattle.cmh_inputs.specs.Editions.{BeginWithSegment, SaysSomeWorld};
 ghost use Rattle.cmh_commands.specs.Later.{LongEnds, NamesNoEpoch, SomePartEnds};
+ghost use Rattle.cmh_commands.specs.Numbers.{TellsEpoch};
 ghost use Rattle.cmh_commands.specs.Files.{AsksFor, AuditEndsByEdition, AuditEndsInOlder, AuditsFiles, AuditsNamed, ShowEndsByEdition, ShowsFiles, ShowsNamed};
 
 use crate::earlier::{all_segments, have_later};
-use crate::files::{files_named, journals_named};
+use crate::files::{files_named, shown_named};
 use crate::options::{DECLARATIONS, JOURNALS, RUN, WHY};
 use crate::parts::{audit_part, range_of};
 use crate::recording::keep_records;
@@ -23,8 +24,9 @@ use cmh_files3::{More, run_audit3_with, run_show3};
 use cmh_inputs::{AuditFiles, Inputs, begins_segment};
 use cmh_long_audit3::run_long_audit3;
 use std::alloc::Global;
-use std::io::Write;
+use std::io::{Eprint, Write};
 use std::thread::Threads;
+use std::time::Clock;
 
 /// Audits the epochs that the words ask for, or all that the files that they name hold, as `audit_whole` does. The keeper gets
 /// the records of what was accepted, where the words ask for them.
@@ -37,7 +39,7 @@ pub fn audit<R, N: Inputs, K: RecordKeeper, W: Write, E: Write>(
     err: &mut Output<E>,
 ) -> u8
 where
-    R: Threads + AllocGlobal + Sync,
+    R: Threads + AllocGlobal + Clock + Eprint + Sync,
     ensures status { IsStatus result }
 
     // Where they name no epoch, all are audited.
@@ -70,7 +72,7 @@ fn audit_whole<R, N: Inputs, K: RecordKeeper, W: Write, E: Write>(
     err: &mut Output<E>,
 ) -> u8
 where
-    R: Threads + AllocGlobal + Sync,
+    R: Threads + AllocGlobal + Clock + Eprint + Sync,
     ensures status { IsStatus result }
 
     // Where the inputs tell their files, these are audited.
@@ -105,7 +107,7 @@ fn audit_all<R, N: Inputs, K: RecordKeeper, W: Write, E: Write>(
     err: &mut Output<E>,
 ) -> u8
 where
-    R: Threads + AllocGlobal + Sync,
+    R: Threads + AllocGlobal + Clock + Eprint + Sync,
     ensures { LongEnds files.topology.items result }
 {
     let alloc = rt.alloc();
@@ -188,7 +190,8 @@ fn audit_older<W: Write, E: Write>(
     }
 }
 
-/// Writes what the journals that the words name hold. Where the first one is a segment of edition 3, all are to be.
+/// Writes what the journals that the words name hold; where they name an epoch, its segments in these folders. Where the first
+/// one is a segment of edition 3, all are to be.
 pub fn show<N: Inputs, W: Write, E: Write>(
     alloc: Global,
     inputs: &N,
@@ -197,10 +200,11 @@ pub fn show<N: Inputs, W: Write, E: Write>(
     err: &mut Output<E>,
 ) -> u8
     ensures status { IsStatus result }
-    ensures shows_named { ShowsNamed (N.holds inputs.now) (found_of words.now) out.old out.new err.old err.new result }
+    ensures shows_named { (epoch : Option ℕ) → TellsEpoch (one_text (found_of words.now) (codes "epoch")) epoch
+        → ShowsNamed (N.holds inputs.now) (found_of words.now) epoch out.old out.new err.old err.new result }
     ensures shows { ShowsFiles out.old out.new err.old err.new result }
 {
-    match journals_named(alloc, inputs, words) {
+    match shown_named(alloc, inputs, words) {
         Ok(journals) => show_files(alloc, &journals, out, err),
         Err(fault) => Fault::from(fault).name_on(err),
     }

@@ -2,7 +2,7 @@
 //! line and from the files that they name, so it may find them changed. A file that is no regular one is not read again.
 
 use crate::options::{
-    DECLARATIONS, JOURNAL, JOURNALS, OUT, PAGE, PORT, RECORD, SCRIPT, SITE, TO, TOPOLOGY,
+    DECLARATIONS, EPOCH, JOURNAL, JOURNALS, OUT, PAGE, PORT, RECORD, SCRIPT, SITE, TO, TOPOLOGY,
 };
 use crate::topology_trouble::{
     Limits, is_edition3, trouble_of_members, trouble_of_rows, trouble_of_world,
@@ -176,9 +176,24 @@ fn explain_file<R: AllocGlobal + Files>(
         return explain_out(rt, words, text);
     }
     let path = path_at(words, place).unwrap_or("");
+    if let Some(epoch) = shown_epoch(words) {
+        write!(
+            text,
+            "{path}: this folder has no segment of epoch {epoch} that can be read"
+        )?;
+        return Ok(());
+    }
     let cause = cause_of(rt, path, false);
     write!(text, "{path}: {cause}")?;
     Ok(())
+}
+
+/// The epoch whose segments `show` shows, if the words name one.
+fn shown_epoch<'a>(words: &ArgMatches<'a>) -> Option<&'a str> {
+    match words.get_str(TOPOLOGY) {
+        Some(_) => None,
+        None => words.get_str(EPOCH),
+    }
 }
 
 /// The file that a fault names by this word.
@@ -470,7 +485,8 @@ const fn trouble_of_segments(number: Option<u16>) -> &'static str {
         Some(3) => "two segments are of one site",
         Some(4) => "a site has no segment here",
         Some(5) => "a segment is of another world than the topology",
-        _ => "a segment is of a later epoch, and the one before it is missing, or is not read",
+        _ =>
+            "a segment is of a later epoch, and the one before it is missing, or is not read; or no site has begun the epoch that is named",
     }
 }
 

@@ -227,7 +227,8 @@ A folder has a segment for each epoch that its site began, and all of them are a
 on, and --epoch E that one alone, from the bases with which it begins and up to those of the next one: no earlier segment
 need be there. Their report has `declared I at N` alone of a declared process. With --record an audit that accepts keeps a
 record EEEEEEEEEE.audited beside each segment that it read and whose epoch all sites have ended, for `cmh segments`. A
-record that can't be kept is `fault file out`, after the report.
+record that can't be kept is `fault file out`, after the report. At a terminal such an audit says on standard error how far
+it has come, from a second on.
 ";
 
 const AUDIT_STATUSES: &str = "\
@@ -256,6 +257,9 @@ and after the entries, where the file goes on:
 Where the first journal is a segment of edition 3, all are to be; of a folder the newest segment is meant. The first line
 is then `site S edition 3 world W epoch E`, `N withdraw J K..` is an event more, a probe is `probe I AT J K`, and a
 declaration is `.. declared I at AT`, with the stop at which the cycle stood.
+
+With --epoch E each journal is a folder of edition 3, and its segment of epoch E is shown in place of the newest: the file
+EEEEEEEEEE.cmhj with ten digits. A folder that has none is `fault file P`, and so is a file.
 ";
 
 const SHOW_STATUSES: &str = "\
@@ -264,6 +268,7 @@ that isn't understood, 3 at a fault, which is named on standard error: `fault fi
 `fault output`. P is the place of a journal in the command, from 1.
 
 Example: cmh show one.cmhj two.cmhj
+Example: cmh show --epoch 7 site-1
 ";
 
 const DRAW_PICTURE: &str = "\
@@ -278,6 +283,11 @@ With --from and --to the picture of a run has the entries from one column to ano
 that they sent or got. A picture of a run has at most 20000 lines, entries and frames; of more the fault is
 `fault picture`.
 
+Where a site of edition 3 has begun a later epoch, the picture is of all segments of all folders, and `turn` stands where a
+site goes on in its next one. With --epoch E it is of the segments up to epoch E: who waits for whom at its end, or the
+columns of the run in which its entries stand. Of an epoch that no site has begun the fault is `fault set 6`, and in
+editions 1 and 2 `fault json`. A page is of the newest segments alone.
+
 With --page it writes a page in place of a picture: one HTML file that steps through the run in a browser, forward and
 back, with who waits for whom, what each controller knows and why each probe acted or was ignored. Of edition 3 it has
 withdrawals, clocks and stamps, and what became of each declaration. A page has at most 20000 events; of more the fault
@@ -288,6 +298,7 @@ at a fault, which is named on standard error as in `cmh audit --help`.
 
 Example: cmh draw --topology world.json --kind run one.cmhj two.cmhj > run.svg
 Example: cmh draw --topology world.json --kind run --from 1 --to 40 one.cmhj two.cmhj > beginning.svg
+Example: cmh draw --topology world.json --kind run --epoch 7 site-1 site-2 > epoch-7.svg
 Example: cmh draw --topology world.json --page one.cmhj two.cmhj > run.html
 Example: cmh draw --topology world.json --format dot one.cmhj two.cmhj | dot -Tpng > waits.png
 ";

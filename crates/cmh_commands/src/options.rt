@@ -40,7 +40,7 @@ pub const RUN: &str = "run";
 
 pub const DECLARATIONS: &str = "declarations";
 
-/// The epoch that is audited, or restored.
+/// The epoch that is audited, shown, drawn or restored.
 pub const EPOCH: &str = "epoch";
 
 pub const RECORD: &str = "record";
@@ -373,6 +373,12 @@ const SHOW_ROW: CommandRow = CommandRow {
     name: SHOW,
     about: "Prints the entries of journals, one a line, in the words of scripts",
     arguments: &[
+        Argument {
+            name: EPOCH,
+            takes: Takes::Count("EPOCH", 0),
+            help: "Shows this epoch's segment of each journal of edition 3, in place of the newest; each is a folder then",
+            ..FLAG
+        },
         EXPLAINED,
         Argument {
             help: "The journal files, or folders of edition 3, which are shown in this order",
@@ -415,6 +421,13 @@ const DRAW_ROW: CommandRow = CommandRow {
             ..FLAG
         },
         Argument {
+            name: EPOCH,
+            takes: Takes::Count("EPOCH", 0),
+            conflicts: &[FROM, TO, PAGE],
+            help: "Draws journals of edition 3 up to the end of this epoch; of a run the columns of its entries",
+            ..FLAG
+        },
+        Argument {
             name: PAGE,
             conflicts: &[KIND, FORMAT],
             help: "A page that steps through the run in a browser, in place of a picture",
@@ -422,7 +435,7 @@ const DRAW_ROW: CommandRow = CommandRow {
         },
         EXPLAINED,
         Argument {
-            help: "The journal files of all sites, in any order",
+            help: "The journal files of all sites, or their folders of edition 3, in any order",
             ..FILES
         },
     ],

@@ -11,6 +11,7 @@ ghost use Rattle.cmh_picture.specs.declared.format.Format as formats;
 ghost use Rattle.cmh_inputs.specs.Editions.{SaysSomeWorld};
 ghost use Rattle.cmh_commands.specs.Drawing.{DrawsFiles, DrawsNamed, DrawsSome, TellsColumn, part_between};
 ghost use Rattle.cmh_commands.specs.Files.{IsUnset};
+ghost use Rattle.cmh_commands.specs.Numbers.{TellsEpoch};
 ghost use Rattle.cmh_commands.specs.Paging.{IsWritten, PageEndsByEdition, PagesFiles, PagesNamed, PlaysToPage};
 ghost use Rattle.cmh_commands.specs.Playing.{PlaysScript};
 
@@ -42,24 +43,26 @@ pub fn draw_or_page<N: Inputs, W: Write, E: Write>(
 
     // Where the inputs tell their files, these are drawn.
     ensures draws_named { IsUnset (one_text (found_of words.now) (codes "page")) → (kind : kinds.Kind) → (format : formats.Format)
-        → (first last : Option ℕ)
+        → (first last epoch : Option ℕ)
         → one_text (found_of words.now) (codes "kind") ≡ Some (kind_word kind)
         → one_text (found_of words.now) (codes "format") ≡ Some (format_word format)
         → TellsColumn (one_text (found_of words.now) (codes "from")) first
         → TellsColumn (one_text (found_of words.now) (codes "to")) last
-        → DrawsNamed (N.holds inputs.now) (found_of words.now) kind format (part_between first last)
+        → TellsEpoch (one_text (found_of words.now) (codes "epoch")) epoch
+        → DrawsNamed (N.holds inputs.now) (found_of words.now) kind format (part_between first last) epoch
         out.old out.new err.old err.new result }
     ensures pages_named { one_text (found_of words.now) (codes "page") ≡ Some (codes "true")
         → PagesNamed (N.holds inputs.now) (found_of words.now) out.old out.new err.old err.new result }
 
     // Else some files are.
     ensures draws { IsUnset (one_text (found_of words.now) (codes "page")) → (kind : kinds.Kind) → (format : formats.Format)
-        → (first last : Option ℕ)
+        → (first last epoch : Option ℕ)
         → one_text (found_of words.now) (codes "kind") ≡ Some (kind_word kind)
         → one_text (found_of words.now) (codes "format") ≡ Some (format_word format)
         → TellsColumn (one_text (found_of words.now) (codes "from")) first
         → TellsColumn (one_text (found_of words.now) (codes "to")) last
-        → DrawsFiles kind format (part_between first last) out.old out.new err.old err.new result }
+        → TellsEpoch (one_text (found_of words.now) (codes "epoch")) epoch
+        → DrawsFiles kind format (part_between first last) epoch out.old out.new err.old err.new result }
     ensures draws_some { IsUnset (one_text (found_of words.now) (codes "page"))
         → DrawsSome out.old out.new err.old err.new result }
     ensures pages { one_text (found_of words.now) (codes "page") ≡ Some (codes "true")

@@ -15,8 +15,9 @@ use cmh_inputs::{AuditFiles, FileFault, InputFile, Inputs, NotRead};
 use cmh_long_audit3::{EpochRange, run_part_audit3};
 use cmh_wire3::Epoch;
 use std::alloc::Global;
-use std::io::Write;
+use std::io::{Eprint, Write};
 use std::thread::Threads;
+use std::time::Clock;
 
 /// The epochs that the words ask for, if they name one.
 pub fn range_of(words: &ArgMatches<'_>) -> Option<EpochRange>
@@ -57,7 +58,7 @@ pub fn audit_part<R, N: Inputs, K: RecordKeeper, W: Write, E: Write>(
     err: &mut Output<E>,
 ) -> u8
 where
-    R: Threads + AllocGlobal + Sync,
+    R: Threads + AllocGlobal + Clock + Eprint + Sync,
     ensures { PartEnds range.now result }
 {
     match files_named(rt.alloc(), inputs, words) {
@@ -78,7 +79,7 @@ fn audit_part_of<R, N: Inputs, K: RecordKeeper, W: Write, E: Write>(
     err: &mut Output<E>,
 ) -> u8
 where
-    R: Threads + AllocGlobal + Sync,
+    R: Threads + AllocGlobal + Clock + Eprint + Sync,
     ensures { PartEnds range.now result }
 {
     let alloc = rt.alloc();

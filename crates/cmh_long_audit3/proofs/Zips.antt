@@ -1,9 +1,10 @@
 -- Files that are read one after the other.
-use Rattle.std.proofs.Common.{◌≡◌, ℕ, ◌+◌, ◌<◌, List, [], ◌∷◌, ◌++◌, length, map, take, get_or, sym, ap, subst, ◌∙◌, Vec}
+use Rattle.std.proofs.Common.{◌≡◌, ℕ, ◌+◌, ◌%◌, ◌^◌, ◌<◌, List, [], ◌∷◌, ◌++◌, length, map, take, get_or, sym, ap, subst, ◌∙◌, Vec}
 use Rattle.std.specs.Global.{Global}
 use Rattle.std.specs.List.{AllByRecursion, AllZip}
 use Rattle.std.proofs.lemmas.List.{map-append, take_more}
 use Rattle.std.proofs.lemmas.Slice.Zip.{all_zipped_more}
+use Rattle.rayon.specs.Lists.{enumerate_from}
 use Rattle.cmh_frames.specs.Rows.{Row}
 use Rattle.cmh_topology3.specs.Topology.{IsTopologyOf, Topology}
 use Rattle.cmh_segment3.specs.declared.segment.Segment.{Segment}
@@ -47,3 +48,11 @@ says_topology file world rows t says is = (
   subst (λ (w : List ℕ). SaysWorld file w rows) (sym is.world_is) says,
   subst (λ (w : List ℕ). IsTopologyOf w rows t) (sym is.world_is) is,
 )
+
+-- what is so of each with its place is so of each
+pub places_left_out : {X Y : Type 0} (R : X → Y → Type 0) (at : ℕ) (xs : List X) (ys : List Y)
+    → AllZip (λ (placed : ℕ × X) y. R placed.1 y) (enumerate_from at xs) ys → AllZip R xs ys
+places_left_out R at [] [] h = tt
+places_left_out R at [] (y ∷ ys) h = absurd h
+places_left_out R at (x ∷ xs) [] h = absurd h
+places_left_out R at (x ∷ xs) (y ∷ ys) h = (h.0, places_left_out R ((at + 1) % 2 ^ 64) xs ys h.1)

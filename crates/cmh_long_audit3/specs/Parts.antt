@@ -28,6 +28,11 @@ pub record IsPartOf (range : EpochRange) (files : List (List ℕ)) (journal : Li
   pub begin : BeginWith range.first segments
   pub journal_is : journal ≡ until range.last segments
 
+-- the files are those of the journal; where a range is named, it has what is in it
+abbrev pub IsJournalIn : Option EpochRange → List (List ℕ) → List Segment → Type 0
+IsJournalIn None files journal = AreRead files journal
+IsJournalIn (Some range) files journal = IsPartOf range files journal
+
 -- The topology file says a world, and the files are those of its journals, of which the epochs of the range come from one run
 -- from the bases of the first.
 pub record IsPartAccepted (topology : List ℕ) (range : EpochRange) (files : List (List (List ℕ))) : Type 0 where

@@ -12,6 +12,7 @@ use crate::keeping::{Flaw, first_flawed, flaw_lines};
 use crate::lines::{placed_reasons, run_lines, stop_lines};
 use crate::noted::Noted;
 use crate::places::{events_in, place_of};
+use crate::progress::{ALL_JUDGED, ALL_READ, Progress};
 use cmh_audit3::{Segment, Stop, Verdict, audit, check_set};
 use cmh_console::{Fault, Output, read_topology_file3};
 use cmh_files::Cuts;
@@ -22,8 +23,9 @@ use cmh_report3::Report;
 use cmh_topology3::Topology;
 use cmh_wire3::Epoch;
 use std::alloc::{AllocError, Global};
-use std::io::Write;
+use std::io::{Eprint, Write};
 use std::thread::Threads;
+use std::time::Clock;
 
 /// What an audit comes to.
 #[derive(Drop)]
@@ -38,7 +40,8 @@ pub(crate) struct Told {
 /// that are wrong.
 ///
 /// The answer is the status of the program: 0 where all epochs are accepted, 1 where one is not or memory ran out, 3 at any
-/// other fault, which is named on `err`.
+/// other fault, which is named on `err`. Where standard error is a terminal, an audit of more than a second says there how far
+/// it has come.
 pub fn run_long_audit3<R, W: Write, E: Write>(
     rt: &R,
     topology: &[u8],
@@ -48,7 +51,7 @@ pub fn run_long_audit3<R, W: Write, E: Write>(
     err: &mut Output<E>,
 ) -> u8
 where
-    R: Threads + AllocGlobal + Sync,
+    R: Threads + AllocGlobal + Clock + Eprint + Sync,
     ensures status { IsStatus result }
 
     // It ends with 0 only where the epochs are one run, of which there is a report.
@@ -62,7 +65,7 @@ where
 }
 
 /// Writes what the audit comes to; answers the status.
-fn tell<R: Threads + AllocGlobal + Sync, W: Write>(
+fn tell<R: Threads + AllocGlobal + Clock + Eprint + Sync, W: Write>(
     rt: &R,
     topology: &[u8],
     files: &[Vec<Vec<u8>>],
@@ -81,7 +84,7 @@ fn tell<R: Threads + AllocGlobal + Sync, W: Write>(
 
 /// The audit of these files. The first fault is answered: of the topology file, of the topology, of the journals in their
 /// order, and of their set.
-fn audited<R: Threads + AllocGlobal + Sync>(
+fn audited<R: Threads + AllocGlobal + Clock + Eprint + Sync>(
     rt: &R,
     topology: &[u8],
     files: &[Vec<Vec<u8>>],
@@ -93,15 +96,18 @@ fn audited<R: Threads + AllocGlobal + Sync>(
     let alloc = rt.alloc();
     let file = read_topology_file3(alloc, topology)?;
     let world = Topology::new(alloc, file.world, &file.rows)?;
+    let progress = Progress::begin(rt);
     let mut noted = Noted::new(alloc);
-    let journals = journals_of(alloc, files, &mut noted)?;
+    let journals = journals_of(rt, alloc, files, None, &mut noted)?;
     let cuts = noted.cuts(alloc)?;
+    progress.tell(rt, ALL_READ);
     let verdict = match audit_history(rt, alloc, &world, journals) {
         Ok(verdict) => verdict,
         Err(fault) => return Err(of_history(fault)),
     };
+    progress.tell(rt, ALL_JUDGED);
     let told = match verdict {
-        HistoryVerdict::Accepted => unless_flawed(alloc, &world, files, more, &noted.flaws)?,
+        HistoryVerdict::Accepted => unless_flawed(rt, &world, files, more, &noted.flaws)?,
         HistoryVerdict::Refused(epoch) => stopped(alloc, &world, files, epoch, more)?,
         HistoryVerdict::Apart(epoch) => apart(alloc, &world, files, epoch)?,
     };
@@ -130,8 +136,8 @@ pub(crate) fn of_history(fault: HistoryFault) -> AuditFault {
 }
 
 /// The report on all epochs of journals that are accepted, unless their bases have flaws.
-fn unless_flawed(
-    alloc: Global,
+fn unless_flawed<R: Threads + AllocGlobal + Sync>(
+    rt: &R,
     world: &Topology,
     files: &[Vec<Vec<u8>>],
     more: More,
@@ -141,15 +147,15 @@ fn unless_flawed(
         (map (λ segments. map (λ file. file.items) segments.items) files.now)) }
 {
     match first_flawed(flaws) {
-        Some(epoch) => Ok(flawed(alloc, flaws, epoch)?),
-        None => accepted(alloc, world, files, more),
+        Some(epoch) => Ok(flawed(rt.alloc(), flaws, epoch)?),
+        None => accepted(rt, world, files, more),
     }
 }
 
 /// The report on all epochs of journals that are accepted, with more lines of it. The number of events is that of entries: a
 /// turn is none.
-fn accepted(
-    alloc: Global,
+fn accepted<R: Threads + AllocGlobal + Sync>(
+    rt: &R,
     world: &Topology,
     files: &[Vec<Vec<u8>>],
     more: More,
@@ -157,8 +163,9 @@ fn accepted(
     ensures { IfOk result (λ told. told.is_accepted ≡ true → HasReport world.now
         (map (λ segments. map (λ file. file.items) segments.items) files.now)) }
 {
+    let alloc = rt.alloc();
     let mut noted = Noted::new(alloc);
-    let wholes = whole_journals(alloc, journals_of(alloc, files, &mut noted)?)?;
+    let wholes = whole_journals(alloc, journals_of(rt, alloc, files, None, &mut noted)?)?;
     check_set(world, &wholes)?;
     let events = events_in(&wholes);
     let listed = run_listed(alloc, world, &wholes, more)?;

@@ -12,6 +12,7 @@ mod part;
 mod part_report;
 mod part_text;
 mod places;
+mod progress;
 mod wholes;
 
 pub use crate::auditing::run_long_audit3;

@@ -7,19 +7,21 @@ ghost use Rattle.cmh_console.specs.Status.{IsStatus};
 ghost use Rattle.cmh_long_audit3.specs.Parts.{IsPartAccepted};
 
 use crate::auditing::{Told, cuts_text, flawed, of_history};
-use crate::journals::parts_of;
+use crate::journals::journals_of;
 use crate::keeping::{Flaw, first_flawed};
 use crate::noted::Noted;
 use crate::part_report::part_report;
 use crate::part_text::{apart_lines, refused_part};
+use crate::progress::{ALL_JUDGED, ALL_READ, Progress};
 use cmh_console::{Fault, Output, read_topology_file3};
 use cmh_files3::AuditFault;
 use cmh_history3::{ChainVerdict, Part, audit_part};
 use cmh_topology3::Topology;
 use cmh_wire3::Epoch;
 use std::alloc::Global;
-use std::io::Write;
+use std::io::{Eprint, Write};
 use std::thread::Threads;
+use std::time::Clock;
 
 /// Which epochs an audit reads.
 #[derive(Clone, Copy)]
@@ -35,7 +37,7 @@ pub struct EpochRange {
 /// as `run_long_audit3` does, but of a declaration its stop alone.
 ///
 /// The answer is the status of the program: 0 where the epochs are accepted, 1 where one is not or memory ran out, 3 at any
-/// other fault, which is named on `err`.
+/// other fault, which is named on `err`. How far it has come, it says as `run_long_audit3` does.
 pub fn run_part_audit3<R, W: Write, E: Write>(
     rt: &R,
     topology: &[u8],
@@ -45,7 +47,7 @@ pub fn run_part_audit3<R, W: Write, E: Write>(
     err: &mut Output<E>,
 ) -> u8
 where
-    R: Threads + AllocGlobal + Sync,
+    R: Threads + AllocGlobal + Clock + Eprint + Sync,
     ensures status { IsStatus result }
 
     // It ends with 0 only where the epochs are one run from the first bases.
@@ -59,7 +61,7 @@ where
 }
 
 /// Writes what the audit comes to; answers the status.
-fn tell_part<R: Threads + AllocGlobal + Sync, W: Write>(
+fn tell_part<R: Threads + AllocGlobal + Clock + Eprint + Sync, W: Write>(
     rt: &R,
     topology: &[u8],
     files: &[Vec<Vec<u8>>],
@@ -78,7 +80,7 @@ fn tell_part<R: Threads + AllocGlobal + Sync, W: Write>(
 
 /// The audit of these files. The first fault is answered: of the topology file, of the topology, of the journals in their
 /// order, and of their set.
-fn audited_part<R: Threads + AllocGlobal + Sync>(
+fn audited_part<R: Threads + AllocGlobal + Clock + Eprint + Sync>(
     rt: &R,
     topology: &[u8],
     files: &[Vec<Vec<u8>>],
@@ -90,13 +92,16 @@ fn audited_part<R: Threads + AllocGlobal + Sync>(
     let alloc = rt.alloc();
     let file = read_topology_file3(alloc, topology)?;
     let world = Topology::new(alloc, file.world, &file.rows)?;
+    let progress = Progress::begin(rt);
     let mut noted = Noted::new(alloc);
-    let journals = parts_of(alloc, files, range, &mut noted)?;
+    let journals = journals_of(rt, alloc, files, Some(range), &mut noted)?;
     let cuts = noted.cuts(alloc)?;
+    progress.tell(rt, ALL_READ);
     let part = match audit_part(rt, alloc, &world, journals) {
         Ok(part) => part,
         Err(fault) => return Err(of_history(fault)),
     };
+    progress.tell(rt, ALL_JUDGED);
     let told = told_of_part(alloc, &world, &part, &noted.flaws)?;
     let mut text = cuts_text(alloc, &cuts)?;
     text.push_str(told.text.as_str())?;

@@ -10,9 +10,9 @@ returns-in-Some-clause-audits_some g c = λ named none. c.audit.ensures.audits_s
 
 pub returns-in-Some-subcommand_matches-clause-draws :
     goal.returns-in-Some-subcommand_matches-clause-draws
-returns-in-Some-subcommand_matches-clause-draws g c = λ named none kind format first last told how from to.
+returns-in-Some-subcommand_matches-clause-draws g c = λ named none kind format first last epoch told how from to turned.
     let rows = c.in-Some-subcommand_matches.ensures.rows in
-    c.draw_or_page.ensures.draws (none _ rows) kind format first last (told _ rows) (how _ rows) (from _ rows) (to _ rows)
+    c.draw_or_page.ensures.draws (none _ rows) kind format first last epoch (told _ rows) (how _ rows) (from _ rows) (to _ rows) (turned _ rows)
 
 pub returns-in-Some-subcommand_matches-clause-draws_some :
     goal.returns-in-Some-subcommand_matches-clause-draws_some

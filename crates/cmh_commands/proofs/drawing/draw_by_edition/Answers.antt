@@ -8,6 +8,6 @@ pub returns-then-files-clause-ends : goal.returns-then-files-clause-ends
 returns-then-files-clause-ends g c = inl (
   MatchBool-at_true _ _ c.if-files.true c.requires,
   subst₂ (λ (topology : List ℕ) (journals : List (Vec ℕ Global)). DrawEnds topology (map (λ (file : Vec ℕ Global). file.items) journals)
-      c.args.kind c.args.format c.args.part c.args.out.now c.run_draw3.new.out c.args.err.now c.run_draw3.new.err c.run_draw3.result)
+      c.args.look.now.kind c.args.look.now.format c.args.look.now.part c.args.out.now c.run_draw3.new.out c.args.err.now c.run_draw3.new.err c.run_draw3.result)
       c.deref.ensures.value c.deref-2.ensures.value c.run_draw3.ensures.ends,
 )

@@ -6,6 +6,6 @@ use Rattle.cmh_commands.proofs.drawing.part_of.Goals as goal
 pub returns : goal.returns
 returns c = λ first last from to.
     c.between.ensures
-    ∙ ap (λ (f : Option ℕ). part_between f c.column_of-last.result)
-    (column_is _ _ c.column_of-first.ensures.none c.column_of-first.ensures.some first from)
-    ∙ ap (λ (l : Option ℕ). part_between first l) (column_is _ _ c.column_of-last.ensures.none c.column_of-last.ensures.some last to)
+    ∙ ap (λ (f : Option ℕ). part_between f c.number_named-last.result)
+    (column_is _ _ c.number_named-first.ensures.none c.number_named-first.ensures.some first from)
+    ∙ ap (λ (l : Option ℕ). part_between first l) (column_is _ _ c.number_named-last.ensures.none c.number_named-last.ensures.some last to)

@@ -5,7 +5,7 @@ use Rattle.cmh_files3.specs.declared.auditing.Finding.{Finding}
 use Rattle.cmh_long_audit3.proofs.auditing.accepted.Goals as goal
 
 pub returns-in-Accepted : goal.returns-in-Accepted
-returns-in-Accepted c = λ yes.
+returns-in-Accepted g c = λ yes.
     let t = c.args.world.now in
     let report = c.in-Accepted.report in
     let found = subst (λ (f : Finding). IsFindingOn t c.in_ok-wholes.wholes.items f) c.in-Accepted.is c.in_ok-told.ensures.finding in
