@@ -1,26 +1,18 @@
 //! The program: it reads its command line and calls a command.
 #![tactic(auto)]
 
-ghost use Rattle.std.specs.Prelude.{◌≡◌, ◌⊎◌, ℕ, List, Option, Some, codes};
+ghost use Rattle.std.specs.Prelude.{◌≡◌, ℕ, List, Option, Some, codes};
 ghost use Rattle.clap.specs.Matches.{found_of, one_text};
-ghost use Rattle.cmh_commands.specs.Drawing.{DrawsFiles, DrawsSome, part_between};
-ghost use Rattle.cmh_commands.specs.Files.{AuditsFiles, IsUnset, ShowsFiles};
-ghost use Rattle.cmh_files3.specs.declared.more.More.{More};
-ghost use Rattle.cmh_commands.specs.Later.{SomePartEnds};
-ghost use Rattle.cmh_commands.specs.NewWorld.{WorldEnds};
+ghost use Rattle.cmh_commands.specs.Files.{IsUnset};
 ghost use Rattle.cmh_commands.specs.Numbers.{TellsNumber};
-ghost use Rattle.cmh_commands.specs.Paging.{PagesFiles, PlaysToPage};
+ghost use Rattle.cmh_commands.specs.Paging.{PlaysToPage};
 ghost use Rattle.cmh_commands.specs.Playing.{PlaysAlone, PlaysScript};
-ghost use Rattle.cmh.specs.CommandLine.{AsksAudit, IsEnd, NamesAudit, NamesCluster, NamesColumn, NamesDraw, NamesEdition, NamesEpoch, NamesFolder, NamesNewWorld, NamesNoEdition, NamesNoEpoch, NamesNoFolder, NamesNoPage, NamesNoPageFile, NamesNoStrictness, NamesNothing, NamesOption, NamesPage, NamesPlay, NamesSegments, NamesShow, NamesSite, NamesSiteNumber, NamesStrictness, ReadsNoInput};
-ghost use Rattle.cmh.specs.Listing.{ListsSome};
+ghost use Rattle.cmh.specs.CommandLine.{IsEnd, NamesEdition, NamesFolder, NamesNoEdition, NamesNoFolder, NamesNoPageFile, NamesPlay};
+ghost use Rattle.cmh.specs.Commands.{Runs};
 ghost use Rattle.cmh.specs.Playing.{PlaysEdition3};
 ghost use Rattle.cmh_play3.specs.Plays.{PlaysInto};
 ghost use Rattle.cmh.specs.Serving.{ServesCluster, ServesCluster3, ServesFile, ServesSite, ServesSome, ServesStrictly, SiteEnds};
 ghost use Rattle.cmh_frames.specs.Number.{IsNumber};
-ghost use Rattle.cmh_draw.specs.Kinds.{kind_word};
-ghost use Rattle.cmh_draw.specs.declared.picture.Kind as kinds;
-ghost use Rattle.cmh_picture.specs.Formats.{format_word};
-ghost use Rattle.cmh_picture.specs.declared.format.Format as formats;
 ghost use Rattle.cmh_console.specs.Status.{IsStatus};
 ghost use Rattle.cmh_cluster.specs.ClusterEndings.{ClusterEnds};
 ghost use Rattle.cmh_serve3.specs.Setting.{IsOfEdition3};
@@ -36,16 +28,20 @@ use cmh_cluster::{
 };
 use cmh_cluster3::{ClusterStart3, run_cluster3};
 use cmh_commands::{
-    AUDIT, BACKLOG, CLUSTER, ClusterFiles, DRAW, EDITION, EXPLAIN, Help, JOURNAL, JOURNALS,
-    Listener, NEW, NEW_WORLD, NOTES, OUT, PAGE, PATIENCE, PLAY, PORT, QUIET, RESTORE, SEGMENTS,
-    SERVE, SHOW, SITE, STRICT, TO, TOPOLOGY, WAIT_FOR_PEERS, audit, cluster_files_of, command,
-    draw_or_page, explanation, play_into, play_page, restore, run_new_world, segments, show,
+    ClusterFiles, audit, cluster_files_of, draw_or_page, play_into, play_page, restore,
+    run_new_world, segments, show,
 };
 use cmh_console::{Ahead, Fault, Input, Output};
 use cmh_disk3::Start;
+use cmh_explain::{Listener, explanation};
 use cmh_frames::SiteId;
 use cmh_host::{BacklogLimit, SiteStart, System};
 use cmh_inputs::{Disk, read_topology};
+use cmh_options::{
+    AUDIT, BACKLOG, CLUSTER, DRAW, EDITION, EXPLAIN, Help, JOURNAL, JOURNALS, NEW, NEW_WORLD,
+    NOTES, OUT, PAGE, PATIENCE, PLAY, PORT, QUIET, RESTORE, SEGMENTS, SERVE, SHOW, SITE, STRICT,
+    TO, TOPOLOGY, WAIT_FOR_PEERS, command,
+};
 use cmh_play::run_play;
 use cmh_play3::{run_play3, run_play3_into};
 use cmh_restore3::NewFolders;
@@ -233,64 +229,7 @@ fn carry_out<R, I: BufRead + Ahead, W: Write, E: Write>(
 ) -> u8
 where
     R: System + AllocGlobal + Eprint + Files<File = File> + Send + Sync + 'static,
-    ensures status { IsStatus result }
-
-    // Where no command but `play` is named, a script is played; one of edition 3 where that is asked for.
-    ensures plays { NamesNothing matches.now → NamesNoEdition matches.now → NamesNoPageFile matches.now
-        → PlaysScript input.old input.new out.old out.new err.old err.new result }
-    ensures plays_to_page { NamesNothing matches.now → NamesNoEdition matches.now
-        → PlaysToPage input.old input.new out.old out.new err.old err.new result }
-    ensures plays_alone { NamesNothing matches.now → NamesNoEdition matches.now → NamesNoFolder matches.now
-        → NamesNoPageFile matches.now
-        → PlaysAlone input.old input.new out.old out.new err.old err.new result }
-    ensures plays_edition3 { NamesPlay matches.now → (edition : List ℕ) → NamesEdition matches.now edition
-        → NamesNoFolder matches.now → PlaysEdition3 input.old input.new out.old out.new err.old err.new result }
-    ensures plays_edition3_into { NamesPlay matches.now → (edition folder : List ℕ) → NamesEdition matches.now edition
-        → NamesFolder matches.now folder → PlaysInto input.old input.new out.old out.new err.old err.new result }
-
-    // Where an audit is named, files are audited; the reasons for stops, a run, or its declarations, are told where they
-    // are asked for.
-    ensures audits { NamesAudit matches.now → NamesNoEpoch matches.now → (more : More) → AsksAudit matches.now more
-        → AuditsFiles more out.old out.new err.old err.new result }
-    ensures audits_some { NamesAudit matches.now → NamesNoEpoch matches.now
-        → (more : More) × AuditsFiles more out.old out.new err.old err.new result }
-
-    // Where an epoch is named besides, some epochs are.
-    ensures audits_part { NamesAudit matches.now → ((more : More) × AuditsFiles more out.old out.new err.old err.new result)
-        ⊎ SomePartEnds result }
-
-    // Where `show` or `draw` is named, lines of journals are written, or a picture of the kind and the format asked for, or
-    // a page.
-    ensures shows { NamesShow matches.now → ShowsFiles out.old out.new err.old err.new result }
-    ensures draws { NamesDraw matches.now → NamesNoPage matches.now → (kind : kinds.Kind) → (format : formats.Format)
-        → (first last epoch : Option ℕ)
-        → NamesOption matches.now (codes "kind") (kind_word kind)
-        → NamesOption matches.now (codes "format") (format_word format)
-        → NamesColumn matches.now (codes "from") first
-        → NamesColumn matches.now (codes "to") last
-        → NamesEpoch matches.now epoch
-        → DrawsFiles kind format (part_between first last) epoch out.old out.new err.old err.new result }
-    ensures draws_some { NamesDraw matches.now → NamesNoPage matches.now
-        → DrawsSome out.old out.new err.old err.new result }
-    ensures pages { NamesDraw matches.now → NamesPage matches.now
-        → PagesFiles out.old out.new err.old err.new result }
-
-    // Where `site` is named, that site is served, and where `cluster` is named, all sites.
-    ensures serves { NamesSite matches.now → (site : ℕ) → NamesSiteNumber matches.now site
-        → ServesSite site input.old input.new out.old out.new err.old err.new result }
-    ensures serves_some { NamesSite matches.now
-        → ServesSome input.old input.new out.old out.new err.old err.new result }
-    ensures serves_cluster { NamesCluster matches.now → NamesNoStrictness matches.now
-        → ServesCluster out.old out.new err.old err.new result }
-    ensures serves_strictly { NamesCluster matches.now → NamesStrictness matches.now
-        → ServesStrictly out.old out.new err.old err.new result }
-
-    // Where `new-world` is named, the number of a world is told.
-    ensures makes_world { NamesNewWorld matches.now → WorldEnds out.old out.new err.old err.new result }
-
-    // Where `segments` is named, just their lines are written.
-    ensures lists { NamesSegments matches.now → result ≡ 0 → ListsSome out.old.written out.new.written }
-    ensures reads_nothing { ReadsNoInput matches.now → input.new ≡ input.old }
+    ensures { Runs matches.now input.old input.new out.old out.new err.old err.new result }
 {
     if let Some(words) = matches.subcommand_matches(AUDIT) {
         let mut records = RecordFiles::new(rt);

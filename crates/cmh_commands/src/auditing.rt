@@ -13,7 +13,6 @@ ghost use Rattle.cmh_commands.specs.Files.{AsksFor, AuditEndsByEdition, AuditEnd
 
 use crate::earlier::{all_segments, have_later};
 use crate::files::{files_named, shown_named};
-use crate::options::{DECLARATIONS, JOURNALS, RUN, WHY};
 use crate::parts::{audit_part, range_of};
 use crate::recording::keep_records;
 use clap::ArgMatches;
@@ -23,6 +22,7 @@ use cmh_files::{run_audit, run_audit_run, run_audit_why, run_show};
 use cmh_files3::{More, run_audit3_with, run_show3};
 use cmh_inputs::{AuditFiles, Inputs, begins_segment};
 use cmh_long_audit3::run_long_audit3;
+use cmh_options::{DECLARATIONS, JOURNALS, RUN, WHY};
 use std::alloc::Global;
 use std::io::{Eprint, Write};
 use std::thread::Threads;

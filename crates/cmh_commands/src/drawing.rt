@@ -17,11 +17,11 @@ ghost use Rattle.cmh_picture.specs.declared.format.Format as formats;
 
 use crate::earlier::{all_segments, have_later};
 use crate::files::{files_named, number_named};
-use crate::options::{EPOCH, FORMAT, FROM, JOURNALS, KIND, TO};
 use clap::ArgMatches;
 use cmh_console::{Fault, Output};
 use cmh_draw3::{LongDrawing, run_draw3, run_long_draw3};
 use cmh_inputs::{AuditFiles, FileFault, Inputs};
+use cmh_options::{EPOCH, FORMAT, FROM, JOURNALS, KIND, TO};
 use cmh_picture::{Drawing, Format, Kind, Part, run_draw};
 use cmh_wire3::Epoch;
 use std::alloc::Global;

@@ -9,12 +9,12 @@ ghost use Rattle.cmh_inputs.specs.Readings.{AreNamed, AreNamedJournals, AreUnnam
 ghost use Rattle.cmh_commands.specs.Numbers.{TellsEpoch, TellsNumber};
 ghost use Rattle.cmh_commands.specs.Paths.{journal_paths, shown_paths, topology_path};
 
-use crate::options::{EPOCH, JOURNALS, SCRIPT, TOPOLOGY};
 use clap::ArgMatches;
 use cmh_archive3::segment_path;
 use cmh_inputs::{
     AuditFiles, Disk, FileFault, Inputs, files_of, journals_of, read_script, read_topology,
 };
+use cmh_options::{EPOCH, JOURNALS, SCRIPT, TOPOLOGY};
 use cmh_wire3::Epoch;
 use std::alloc::{AllocError, Global};
 use std::rt::Files;

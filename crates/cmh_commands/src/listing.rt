@@ -7,11 +7,11 @@ ghost use Rattle.cmh_console.specs.Status.{IsStatus};
 ghost use Rattle.cmh_commands.specs.Paths.{journal_paths, topology_path};
 
 use crate::files::topology_in;
-use crate::options::JOURNALS;
 use clap::ArgMatches;
 use cmh_archive3::run_segments;
 use cmh_console::Output;
 use cmh_inputs::Inputs;
+use cmh_options::JOURNALS;
 use std::alloc::Global;
 use std::io::Write;
 

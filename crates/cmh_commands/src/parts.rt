@@ -6,13 +6,13 @@ ghost use Rattle.cmh_commands.specs.Later.{NamesNoEpoch, PartEnds};
 
 use crate::earlier::{Front, front_of, read_segment};
 use crate::files::files_named;
-use crate::options::{EPOCH, FROM, JOURNALS};
 use crate::recording::keep_records;
 use clap::ArgMatches;
 use cmh_archive3::RecordKeeper;
 use cmh_console::{Fault, Output};
 use cmh_inputs::{AuditFiles, FileFault, InputFile, Inputs, NotRead};
 use cmh_long_audit3::{EpochRange, run_part_audit3};
+use cmh_options::{EPOCH, FROM, JOURNALS};
 use cmh_wire3::Epoch;
 use std::alloc::Global;
 use std::io::{Eprint, Write};

@@ -4,10 +4,10 @@ ghost use Rattle.std.specs.Prelude.{map};
 ghost use Rattle.cmh_archive3.specs.Recording.{WereAccepted};
 ghost use Rattle.cmh_console.specs.Status.{IsStatus};
 
-use crate::options::{JOURNALS, RECORD};
 use clap::ArgMatches;
 use cmh_archive3::{RecordKeeper, record_audited};
 use cmh_console::{Fault, NoFile, Output};
+use cmh_options::{JOURNALS, RECORD};
 use std::alloc::Global;
 use std::io::Write;
 

@@ -7,10 +7,10 @@ ghost use Rattle.cmh_restore3.specs.Restores.{Restores};
 ghost use Rattle.cmh_commands.specs.Paths.{journal_paths};
 
 use crate::files::topology_in;
-use crate::options::{EPOCH, JOURNALS};
 use clap::ArgMatches;
 use cmh_console::{Fault, Output};
 use cmh_inputs::{Inputs, read_topology};
+use cmh_options::{EPOCH, JOURNALS};
 use cmh_restore3::{NewJournals, RestoreStart, run_restore};
 use cmh_wire3::Epoch;
 use std::alloc::Global;

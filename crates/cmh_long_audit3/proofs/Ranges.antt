@@ -8,7 +8,7 @@ use Rattle.cmh_history3.specs.Histories.{AreReadBases}
 use Rattle.cmh_history3.specs.Parts.{bare, ended_with}
 use Rattle.cmh_long_audit3.specs.Parts.{IsPartOf, until}
 use Rattle.cmh_long_audit3.specs.declared.part.EpochRange.{EpochRange}
-use Rattle.cmh_long_audit3.proofs.Zips.{bases_read}
+use Rattle.cmh_long_audit3.proofs.Zips.{bases_until}
 
 -- what is left out changes no base
 ended_bases : (last : ℕ) (gs : List Segment) → AreReadBases gs → AreReadBases (ended_with last gs)
@@ -31,4 +31,4 @@ part_bases range [] (j ∷ js) read = absurd read
 part_bases range (f ∷ fs) [] read = absurd read
 part_bases range (f ∷ fs) (j ∷ js) read =
     let one = read.0 in
-    (subst AreReadBases (sym one.journal_is) (until_bases range.last one.segments (bases_read f one.segments one.read)), part_bases range fs js read.1)
+    (subst AreReadBases (sym one.journal_is) (until_bases range.last one.segments (bases_until range.last f one.segments one.read)), part_bases range fs js read.1)

@@ -1,5 +1,5 @@
 -- Files that are read one after the other.
-use Rattle.std.proofs.Common.{◌≡◌, ℕ, ◌+◌, ◌%◌, ◌^◌, ◌<◌, List, [], ◌∷◌, ◌++◌, length, map, take, get_or, sym, ap, subst, ◌∙◌, Vec}
+use Rattle.std.proofs.Common.{◌≡◌, ℕ, ◌+◌, ◌%◌, ◌^◌, ◌<◌, List, [], ◌∷◌, ◌++◌, length, map, take, get_or, sym, ap, subst, ◌∙◌, Vec, Option, None, Some, inl, inr}
 use Rattle.std.specs.Global.{Global}
 use Rattle.std.specs.List.{AllByRecursion, AllZip}
 use Rattle.std.proofs.lemmas.List.{map-append, take_more}
@@ -11,7 +11,8 @@ use Rattle.cmh_segment3.specs.declared.segment.Segment.{Segment}
 use Rattle.cmh_console.specs.TopologyFile3.{SaysWorld}
 use Rattle.cmh_files3.specs.Audits.{SaysTopology}
 use Rattle.cmh_history3.specs.Histories.{AreReadBases}
-use Rattle.cmh_long_audit3.specs.Read.{AreRead}
+use Rattle.cmh_segment3.specs.Base.{IsBase}
+use Rattle.cmh_long_audit3.specs.Read.{AreRead, AreReadUntil, IsReadUntil}
 
 -- the bytes of files
 abbrev pub all_files : List (Vec ℕ Global) → List (List ℕ)
@@ -34,6 +35,17 @@ bases_read [] [] read = tt
 bases_read [] (g ∷ gs) read = absurd read
 bases_read (f ∷ fs) [] read = absurd read
 bases_read (f ∷ fs) (g ∷ gs) read = (read.0.1.writes.segment.base_is, bases_read fs gs read.1)
+
+base_until : (last : Option ℕ) (file : List ℕ) (g : Segment) → IsReadUntil last file g → IsBase g.base
+base_until None file g read = read.1.writes.segment.base_is
+base_until (Some last) file g (inl read) = read.1.writes.segment.base_is
+base_until (Some last) file g (inr behind) = behind.begins.base_is
+
+pub bases_until : (last : Option ℕ) (files : List (List ℕ)) (journal : List Segment) → AreReadUntil last files journal → AreReadBases journal
+bases_until last [] [] read = tt
+bases_until last [] (g ∷ gs) read = absurd read
+bases_until last (f ∷ fs) [] read = absurd read
+bases_until last (f ∷ fs) (g ∷ gs) read = (base_until last f g read.0, bases_until last fs gs read.1)
 
 pub all_bases : (files : List (List (List ℕ))) (journals : List (List Segment)) → AllZip AreRead files journals → AllByRecursion AreReadBases journals
 all_bases [] [] read = tt

@@ -6,7 +6,7 @@ use Rattle.cmh_segment3.specs.declared.segment.Segment.{Segment}
 use Rattle.cmh_files3.specs.Audits.{SaysTopology}
 use Rattle.cmh_history3.specs.Journals.{IsPart}
 use Rattle.cmh_history3.specs.Parts.{ArePartOfRun, BeginsWith, ended_with}
-use Rattle.cmh_long_audit3.specs.Read.{AreRead}
+use Rattle.cmh_long_audit3.specs.Read.{AreRead, AreReadUntil}
 use Rattle.cmh_long_audit3.specs.declared.part.EpochRange.{EpochRange}
 
 -- the base of the first segment stands for the epoch
@@ -19,11 +19,11 @@ abbrev pub until : Option ℕ → List Segment → List Segment
 until None segments = segments
 until (Some last) segments = ended_with last segments
 
--- The files are those of segments that follow one another, the first of which begins with the first epoch. The journal has
--- those of them that are in the range.
+-- The files are those of segments that follow one another, the first of which begins with the first epoch; behind the last
+-- epoch, they begin with the heads of segments. The journal has those of them that are in the range.
 pub record IsPartOf (range : EpochRange) (files : List (List ℕ)) (journal : List Segment) : Type 0 where
   pub segments : List Segment
-  pub read : AreRead files segments
+  pub read : AreReadUntil range.last files segments
   pub follow : IsPart segments
   pub begin : BeginWith range.first segments
   pub journal_is : journal ≡ until range.last segments

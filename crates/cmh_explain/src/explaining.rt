@@ -1,9 +1,6 @@
 //! A second line for people: what the line of a fault means here. It is worked out again from the words of the command
 //! line and from the files that they name, so it may find them changed. A file that is no regular one is not read again.
 
-use crate::options::{
-    DECLARATIONS, EPOCH, JOURNAL, JOURNALS, OUT, PAGE, PORT, RECORD, SCRIPT, SITE, TO, TOPOLOGY,
-};
 use crate::topology_trouble::{
     Limits, is_edition3, trouble_of_members, trouble_of_rows, trouble_of_world,
 };
@@ -14,6 +11,9 @@ use cmh_console::{
 use cmh_frames::{Edition, SiteId, SiteRow, Topology, TopologyFault};
 use cmh_inputs::{Disk, LONGEST_TOPOLOGY, read_journal, read_topology};
 use cmh_journal::{JournalFault, read_stored};
+use cmh_options::{
+    DECLARATIONS, EPOCH, JOURNAL, JOURNALS, OUT, PAGE, PORT, RECORD, SCRIPT, SITE, TO, TOPOLOGY,
+};
 use cmh_topology3::Topology as Topology3;
 use serde_json::Value;
 use std::alloc::{AllocError, Global};
