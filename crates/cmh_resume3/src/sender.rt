@@ -82,6 +82,9 @@ const ACKNOWLEDGEMENT_WAIT: u64 = 15_000;
 /// How long nothing is written before a note is.
 const SILENCE: u64 = 5_000;
 
+/// For how many messages there stays room.
+const LEAST_ROOM: usize = 1024;
+
 /// The sender's end of a link: the messages that the receiver is not known to have synced, and how the connection stands.
 ///
 /// It is given only messages that are synced.
@@ -415,12 +418,15 @@ fn mark_of_first(mark: Mark, messages: &VecDeque<Message>, count: usize) -> Mark
     folded
 }
 
-/// Drops the first so many messages.
+/// Drops the first so many messages. Where few are left of many, their room is given back.
 fn drop_first(messages: &mut VecDeque<Message>, count: usize)
     requires { count ≤ length messages.old.items }
     ensures { messages.new.items ≡ drop count messages.old.items }
 {
     for at in 0..count {
         let _ = messages.pop_front();
+    }
+    if messages.len() < messages.capacity() / 4 {
+        messages.shrink_to(LEAST_ROOM.max(2 * messages.len()));
     }
 }
