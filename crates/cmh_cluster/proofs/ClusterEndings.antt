@@ -23,10 +23,10 @@ use Rattle.cmh_cluster.specs.declared.cluster_fault.ClusterFault.TheVariants.{Js
 use Rattle.cmh_setting.specs.Setting.{IsSettingFault}
 use Rattle.cmh_setting.specs.declared.setting.SettingFault.{SettingFault}
 use Rattle.cmh_setting.specs.declared.setting.SettingFault.TheVariants as setting
-use Rattle.cmh_host.specs.Steps.{IsDeclared}
-use Rattle.cmh_host.specs.declared.site_reply.ClosedLink.{ClosedLink}
-use Rattle.cmh_host.specs.declared.site_reply.SiteReply.{SiteReply}
-use Rattle.cmh_host.specs.declared.site_reply.SiteReply.TheVariants.{BadLink}
+use Rattle.cmh_talk.specs.Steps.{IsDeclared}
+use Rattle.cmh_talk.specs.declared.site_reply.ClosedLink.{ClosedLink}
+use Rattle.cmh_talk.specs.declared.site_reply.SiteReply.{SiteReply}
+use Rattle.cmh_talk.specs.declared.site_reply.SiteReply.TheVariants.{BadLink}
 
 -- ---- links
 

@@ -10,14 +10,14 @@ use Rattle.cmh_console.specs.Dialogue.{Conversed}
 use Rattle.cmh_console.specs.declared.dialogue.DialogueFault.TheVariants.{Input}
 use Rattle.cmh_console.specs.declared.dialogue.Flow.{Flow}
 use Rattle.cmh_console.specs.declared.dialogue.Flow.TheVariants.{Awaits, Ends}
-use Rattle.cmh_host.specs.SiteReplies.{closed_text}
+use Rattle.cmh_talk.specs.SiteReplies.{closed_text}
 use Rattle.cmh_cluster.specs.ClusterFaults.{as_fault}
 use Rattle.cmh_cluster.specs.ClusterTalk.{IsTurnOfCluster}
 use Rattle.cmh_cluster.specs.declared.cluster_fault.ClusterFault.{ClusterFault}
 use Rattle.cmh_cluster.specs.declared.cluster_fault.ClusterFault.TheVariants.{ScriptFile, OutFile, Json, Topology as NoTopology, Listen, Output, Memory}
 use Rattle.cmh_cluster.specs.declared.cluster.Played.{Played}
 use Rattle.cmh_cluster.specs.declared.cluster.Played.TheVariants.{Read, NotSettled}
-use Rattle.cmh_host.specs.declared.site_reply.ClosedLink.{ClosedLink}
+use Rattle.cmh_talk.specs.declared.site_reply.ClosedLink.{ClosedLink}
 
 -- ---- what was written
 

@@ -6,11 +6,11 @@ use Rattle.cmh_station.specs.declared.refusal.StationRefusal.TheVariants.{Rule}
 use Rattle.cmh_console.specs.declared.dialogue.Flow.{Flow}
 use Rattle.cmh_console.specs.declared.script.Command.TheVariants.{Act}
 use Rattle.cmh_console.specs.declared.script.Line.TheVariants.{Silent as SilentLine, Bad, Command}
-use Rattle.cmh_host.specs.SiteReplies.{reply_text}
+use Rattle.cmh_talk.specs.SiteReplies.{reply_text}
 use Rattle.cmh_setting.specs.SiteScript.{SaysToCluster}
-use Rattle.cmh_host.specs.Steps.{WasStepped}
-use Rattle.cmh_host.specs.declared.site_reply.SiteReply.{SiteReply}
-use Rattle.cmh_host.specs.declared.site_reply.SiteReply.TheVariants.{Silent, BadLine, BadLink, Refused, Declared}
+use Rattle.cmh_talk.specs.Steps.{WasStepped}
+use Rattle.cmh_talk.specs.declared.site_reply.SiteReply.{SiteReply}
+use Rattle.cmh_talk.specs.declared.site_reply.SiteReply.TheVariants.{Silent, BadLine, BadLink, Refused, Declared}
 use Rattle.cmh_setting.specs.declared.site_script.ClusterLine.{ClusterLine}
 use Rattle.cmh_setting.specs.declared.site_script.ClusterLine.TheVariants.{Declared as DeclaredOf, Event as ClusterEvent}
 

@@ -7,9 +7,9 @@ ghost use Rattle.cmh_console.specs.Status.{IsStatus};
 ghost use Rattle.cmh_frames.specs.Topology.{home, sites_of};
 ghost use Rattle.cmh_console.specs.Dialogue.{Conversed, HasAnswered, IsAnswerFault, IsDialogueFault, line_of};
 ghost use Rattle.cmh_cluster.specs.ClusterEndings.{ClusterEnds, ComesTo, EndsInAudit, HasPlayed, IsClusterFault, IsRunFault, IsStartFault, NamesClosed};
-ghost use Rattle.cmh_host.specs.declared.site_reply.SiteReply.TheVariants.{Refused};
+ghost use Rattle.cmh_talk.specs.declared.site_reply.SiteReply.TheVariants.{Refused};
 ghost use Rattle.cmh_station.specs.declared.refusal.StationRefusal.TheVariants.{Rule};
-ghost use Rattle.cmh_host.specs.Steps.{IsDeclared, WasStepped};
+ghost use Rattle.cmh_talk.specs.Steps.{IsDeclared, WasStepped};
 ghost use Rattle.cmh_setting.specs.SiteScript.{SaysToCluster};
 ghost use Rattle.cmh_cluster.specs.ClusterTalk.{AnswersCluster, IsTurnOfCluster};
 

@@ -1,3 +1,2 @@
 mod Leading
 pub mod StartFaults
-pub mod Taking

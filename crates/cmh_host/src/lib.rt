@@ -2,13 +2,11 @@
 //! lines, its journal and its ports, is in `cmh_setting` and has its names here too.
 #![tactic(auto)]
 
-mod site_reply;
 mod start;
 mod starting;
 mod system;
 mod together;
 
-pub use crate::site_reply::{ClosedLink, LinkEnds, SiteReply};
 pub use crate::start::{SiteSetup, SiteStart, start_site};
 pub use crate::starting::{
     Carriers, FileStation, Opened, Running, RunningSite, SiteHandle, Speakers, closed_in,
@@ -22,3 +20,4 @@ pub use cmh_setting::{
     Setting, SettingFault, Shelf, SiteFault, SiteLine, Writable, can_be_made, keep_old,
     make_journal, parse_for_cluster, parse_for_site, read_setting,
 };
+pub use cmh_talk::{ClosedLink, LinkEnds, SiteReply};

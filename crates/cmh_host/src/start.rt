@@ -1,7 +1,7 @@
 //! How a site starts: its port, its journal, and its threads.
 
 ghost use Rattle.std.specs.Prelude.{◌≡◌, ◌⊎◌, map, IfOk, IfErr};
-ghost use Rattle.cmh_host.specs.Ends.{others_of};
+ghost use Rattle.cmh_talk.specs.Ends.{others_of};
 ghost use Rattle.cmh_links.specs.Threads.{link_sites, site_of};
 
 use crate::starting::{Carriers, Opened, RunningSite, Speakers, open_station, start_threads};

@@ -1,13 +1,12 @@
 //! A running site: its station over a file, its threads, and what it is asked.
 
 ghost use Rattle.std.specs.Prelude.{◌≡◌, ◌==◌, [], ◌∷◌, ◌++◌, filter, map, not, IfOk, OnOk};
-ghost use Rattle.cmh_host.specs.Ends.{TellsLinks, ends_of, ends_with, others_of};
+ghost use Rattle.cmh_talk.specs.Ends.{TellsLinks, ends_of, ends_with, others_of};
 ghost use Rattle.cmh_links.specs.Threads.{link_sites, site_of};
 ghost use Rattle.cmh_host.specs.Opening.{IsNewStation};
 ghost use Rattle.cmh_frames.specs.Runs.{IsBeginningOf};
-ghost use Rattle.cmh_host.specs.Steps.{IsDeclared, IsListOf, WasStepped};
+ghost use Rattle.cmh_talk.specs.Steps.{IsDeclared, IsListOf, WasStepped};
 
-use crate::site_reply::{LinkEnds, SiteReply};
 use crate::system::System;
 use cmh_carriers::{Dial, LinkTable, Note, Speaker, TcpDial, TcpListen};
 use cmh_console::NoFile;
@@ -19,6 +18,7 @@ use cmh_station::{
     BoardReader, Keeper, KeptBoard, LinkTap, Listing, NewestEntries, ParkingTap, SharedStation,
     Station, StationRefusal,
 };
+use cmh_talk::{LinkEnds, SiteReply};
 use std::alloc::{AllocError, Global};
 use std::sync::{Arc, Wait};
 
@@ -266,7 +266,7 @@ impl<R: Wait + Drop, K: Keeper> SiteHandle<R, K> {
 
 /// Gives an event to a station, and wakes the threads that write what it sent once the lock is given back. Where the
 /// journal can't be written, that is noted.
-#[tactic(auto, using(crate::proofs::Taking::stepped_ok))]
+#[tactic(auto, using(cmh_talk::proofs::Taking::stepped_ok))]
 pub fn step<R: Wait + Drop, K: Keeper>(
     rt: &R,
     station: &FileStation<R, K>,

@@ -3,14 +3,14 @@
 ghost use Rattle.std.specs.Prelude.{◌≡◌, ◌≤◌, length, true, IfOk, IfErr, IfSome, OnErr, OnOk, flat_map};
 ghost use Rattle.std.specs.Io.KnownBytes.{Appends};
 ghost use Rattle.cmh_station.specs.Journaled.{batch_limit};
-ghost use Rattle.cmh_host.specs.Together.{AreTaken, FirstRefused, WereAnswered, answer_text, reply_of};
+ghost use Rattle.cmh_talk.specs.Together.{AreTaken, FirstRefused, WereAnswered, answer_text, reply_of};
 
-use crate::site_reply::SiteReply;
 use crate::starting::{FileStation, note_seal, step};
 use cmh_carriers::Speaker;
 use cmh_console::{Output, WriteFault};
 use cmh_frames::{Done, Event, Outcome};
 use cmh_station::StationRefusal;
+use cmh_talk::SiteReply;
 use std::io::Write;
 use std::sync::Wait;
 

@@ -5,8 +5,8 @@ use Rattle.std.proofs.lemmas.List.{length-append, length-map, length-reverse}
 use Rattle.cmh_frames.specs.Topology.{Topology}
 use Rattle.cmh_station.specs.LinkEnds.{Tap}
 use Rattle.cmh_links.specs.Threads.{site_of}
-use Rattle.cmh_host.specs.Ends.{others_of}
-use Rattle.cmh_host.specs.declared.site_reply.SiteReply.TheVariants.{Connected, Late}
+use Rattle.cmh_talk.specs.Ends.{others_of}
+use Rattle.cmh_talk.specs.declared.site_reply.SiteReply.TheVariants.{Connected, Late}
 use Rattle.cmh_run_site.specs.SiteTalk.{IsConnected, LeadToOthers}
 
 -- no more taps wait than there are links

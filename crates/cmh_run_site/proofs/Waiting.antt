@@ -22,11 +22,11 @@ use Rattle.cmh_console.specs.declared.script.Command.TheVariants.{Act}
 use Rattle.cmh_console.specs.declared.script.Line.TheVariants.{Command}
 use Rattle.cmh_setting.specs.declared.site_script.SiteLine.{SiteLine}
 use Rattle.cmh_setting.specs.declared.site_script.SiteLine.TheVariants.{Event as SiteEvent}
-use Rattle.cmh_host.specs.SiteReplies.{reply_text}
+use Rattle.cmh_talk.specs.SiteReplies.{reply_text}
 use Rattle.cmh_run_site.specs.SiteTalk.{IsTurnOfSite, LeadToOthers, WasSaidToSite}
-use Rattle.cmh_host.specs.Together.{AreStepped, WereAnswered}
+use Rattle.cmh_talk.specs.Together.{AreStepped, WereAnswered}
 use Rattle.cmh_run_site.specs.Together.{LinesSay, SaidTurn, SaysEvent, more, none}
-use Rattle.cmh_host.specs.declared.site_reply.SiteReply.{SiteReply}
+use Rattle.cmh_talk.specs.declared.site_reply.SiteReply.{SiteReply}
 
 -- one line more says one event more
 said_more : (bytes now : List ℕ) (process : ℕ) (event : Event) (events : List Event) → LinesSay bytes events now → 0 < length now

@@ -1,14 +1,14 @@
 -- What a running site answers to a line.
 use Rattle.std.specs.Prelude.{◌≡◌, ℕ, ◌+◌, ◌≤◌, Bool, true, List, length, Option, None, Some, MatchBool}
 use Rattle.cmh_frames.specs.Topology.{Topology}
-use Rattle.cmh_host.specs.Ends.{TellsLinks, others_of}
-use Rattle.cmh_host.specs.SiteReplies.{reply_text}
-use Rattle.cmh_host.specs.Steps.{IsDeclared, WasStepped}
+use Rattle.cmh_talk.specs.Ends.{TellsLinks, others_of}
+use Rattle.cmh_talk.specs.SiteReplies.{reply_text}
+use Rattle.cmh_talk.specs.Steps.{IsDeclared, WasStepped}
 use Rattle.cmh_setting.specs.SiteScript.{SaysToSite}
 use Rattle.cmh_console.specs.declared.dialogue.Flow.{Flow}
 use Rattle.cmh_console.specs.declared.dialogue.Flow.TheVariants.{Awaits, Ends}
-use Rattle.cmh_host.specs.declared.site_reply.SiteReply.{SiteReply}
-use Rattle.cmh_host.specs.declared.site_reply.SiteReply.TheVariants.{Silent, BadLine, Late, Connected}
+use Rattle.cmh_talk.specs.declared.site_reply.SiteReply.{SiteReply}
+use Rattle.cmh_talk.specs.declared.site_reply.SiteReply.TheVariants.{Silent, BadLine, Late, Connected}
 use Rattle.cmh_console.specs.declared.script.Command.TheVariants.{Act}
 use Rattle.cmh_console.specs.declared.script.Line.TheVariants.{Silent as SilentLine, Bad, Command}
 use Rattle.cmh_setting.specs.declared.site_script.Order.TheVariants.{Declared as DeclaredOrder, Connect as ConnectOrder, Links as LinksOrder, Quit}

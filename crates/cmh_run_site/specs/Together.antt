@@ -10,9 +10,9 @@ use Rattle.cmh_console.specs.declared.script.Command.TheVariants.{Act}
 use Rattle.cmh_console.specs.declared.script.Line.TheVariants.{Command}
 use Rattle.cmh_setting.specs.declared.site_script.SiteLine.{SiteLine}
 use Rattle.cmh_setting.specs.declared.site_script.SiteLine.TheVariants.{Event as SiteEvent}
-use Rattle.cmh_host.specs.SiteReplies.{reply_text}
+use Rattle.cmh_talk.specs.SiteReplies.{reply_text}
 use Rattle.cmh_run_site.specs.SiteTalk.{AnswersSite, WasSaidToSite}
-use Rattle.cmh_host.specs.declared.site_reply.SiteReply.{SiteReply}
+use Rattle.cmh_talk.specs.declared.site_reply.SiteReply.{SiteReply}
 
 -- the lines of the bytes up to the rest say these events, one each
 pub data LinesSay : List ℕ → List Event → List ℕ → Type 0 where

@@ -7,9 +7,9 @@ ghost use Rattle.cmh_console.specs.Dialogue.{Conversed, IsAnswerFault, IsDialogu
 ghost use Rattle.cmh_links.specs.Threads.{connected_in, failed_in, link_sites};
 ghost use Rattle.cmh_run_site.specs.Endings.{EndedEarly, IsSiteFault, Served, Welcomed};
 ghost use Rattle.cmh_run_site.specs.SiteTalk.{AnswersSite, CountsLinks, IsConnected, IsTurnOfSite, LeadToOthers, WasSaidToSite};
-ghost use Rattle.cmh_host.specs.Ends.{TellsLinks};
+ghost use Rattle.cmh_talk.specs.Ends.{TellsLinks};
 ghost use Rattle.cmh_setting.specs.SiteFaults.{as_fault};
-ghost use Rattle.cmh_host.specs.Together.{WereAnswered};
+ghost use Rattle.cmh_talk.specs.Together.{WereAnswered};
 ghost use Rattle.cmh_run_site.specs.Together.{SaidTurn, SaysEvent};
 ghost use Rattle.cmh_station.specs.Journaled.{batch_limit};
 

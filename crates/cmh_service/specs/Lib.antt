@@ -1,5 +1,2 @@
-pub mod Means
-pub mod Replies
-pub mod Said
 pub mod ServiceFaults
-pub mod Texts
+pub mod Taken

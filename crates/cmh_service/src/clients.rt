@@ -3,15 +3,15 @@
 ghost use Rattle.std.specs.Prelude.{◌≡◌};
 ghost use Rattle.cmh_client.specs.Wishes.{NextMeans};
 ghost use Rattle.cmh_client.specs.declared.language.Meaning.TheVariants as meanings;
-ghost use Rattle.cmh_service.specs.Means.{MeansHere};
+ghost use Rattle.cmh_talk.specs.Means.{MeansHere};
 
 use crate::connection::{Connection, Talk};
 use crate::mailbox::{Delivery, Mailbox};
 use crate::rounds::Rounds;
-use crate::said::Said;
 use cmh_client::Wish;
 use cmh_frames::{Event, ProcId};
 use cmh_station::BATCH_LIMIT;
+use cmh_talk::Said;
 use std::alloc::{AllocError, Global};
 use std::sync::Wait;
 
@@ -251,7 +251,7 @@ impl Turn {
 }
 
 /// Answers a line that is no event.
-#[tactic(auto, using(crate::proofs::Replies::answers_question))]
+#[tactic(auto, using(cmh_talk::proofs::Replies::answers_question))]
 fn answer<R: Wait + Drop>(
     rt: &R,
     talk: &mut Talk,

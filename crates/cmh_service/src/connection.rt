@@ -1,10 +1,9 @@
 //! A connection of a client.
 
-use crate::language::Lines;
 use crate::mailbox::Delivery;
-use crate::said::Said;
 use cmh_client::{Conversation, MOST_QUEUED, Next};
 use cmh_frames::{Event as SiteEvent, ProcId};
+use cmh_talk::{Lines, Said};
 use mio::event::Event;
 use mio::net::TcpStream;
 use std::io::{ErrorKind, Read, Write};
@@ -65,7 +64,7 @@ impl Connection {
     }
 
     /// Says the reply to an event, if its client waits for that.
-    #[tactic(auto, using(crate::proofs::Replies::answers_event))]
+    #[tactic(auto, using(cmh_talk::proofs::Replies::answers_event))]
     pub fn answer(&mut self, delivery: &Delivery) {
         if self.talk.answer(&delivery.event, delivery.reply).is_err() {
             self.is_broken = true;

@@ -2,14 +2,15 @@
 
 ghost use Rattle.std.specs.Prelude.{◌≡◌, ◌≤◌, [], length, map, vec_capacity};
 ghost use Rattle.cmh_client.specs.Desks.{AreReplies};
-ghost use Rattle.cmh_service.specs.Replies.{IsReply, WereTaken, event_reply_of, taken};
+ghost use Rattle.cmh_service.specs.Taken.{WereTaken};
+ghost use Rattle.cmh_talk.specs.Replies.{IsReply, event_reply_of, taken};
 ghost use Rattle.cmh_station.specs.Journaled.{batch_limit};
 
-use crate::reply::EventReply;
 use cmh_carriers::Speaker;
 use cmh_frames::{Event, ProcId};
 use cmh_host::{Answer, FileStation, SiteReply, note_seal, step};
 use cmh_station::StationRefusal;
+use cmh_talk::EventReply;
 use std::sync::{Arc, Wait};
 
 /// A running site, as events ask it.
@@ -33,7 +34,7 @@ pub enum Together {
 
 impl<R: Wait + Drop> Host<R> {
     /// Puts the replies to events into a list, in their order. The events share a sync as far as they can.
-    #[tactic(auto, using(crate::proofs::Replies::taken_replies, crate::proofs::Replies::taken_count))]
+    #[tactic(auto, using(cmh_talk::proofs::Replies::taken_replies, cmh_talk::proofs::Replies::taken_count))]
     pub fn step_all(&self, events: &[Event], replies: &mut Vec<EventReply>)
         requires few { length events.now ≤ batch_limit }
         requires none { replies.old.items ≡ [] }
@@ -60,7 +61,7 @@ impl<R: Wait + Drop> Host<R> {
         }
     }
 
-    #[tactic(auto, using(crate::proofs::Replies::stepped_reply))]
+    #[tactic(auto, using(cmh_talk::proofs::Replies::stepped_reply))]
     fn step(&self, event: &Event) -> EventReply
         ensures { IsReply event.now result }
     {
@@ -73,7 +74,7 @@ impl<R: Wait + Drop> Host<R> {
 
     /// Gives events to the station with one sync, and wakes the threads that write what they sent once the lock is given
     /// back.
-    #[tactic(auto, using(cmh_host::proofs::Taking::taken_all))]
+    #[tactic(auto, using(cmh_talk::proofs::Taking::taken_all))]
     fn take_together(&self, events: &[Event]) -> Together
         requires few { length events.now ≤ batch_limit }
         ensures { WereTaken events.now result }

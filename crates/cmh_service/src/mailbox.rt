@@ -1,12 +1,12 @@
 //! What other threads leave for a thread that serves clients.
 
 ghost use Rattle.std.specs.Prelude.{None};
-ghost use Rattle.cmh_service.specs.Replies.{IsReply};
+ghost use Rattle.cmh_talk.specs.Replies.{IsReply};
 
 use crate::clients::{MOST_CLIENTS, MOST_WAITING};
-use crate::reply::EventReply;
 use cmh_client::Waiting;
 use cmh_frames::Event;
+use cmh_talk::EventReply;
 use mio::Waker;
 use mio::net::TcpStream;
 use std::alloc::{AllocError, Global};

@@ -1,18 +1,17 @@
 //! The site of a service, as questions ask it.
 
 ghost use Rattle.std.specs.Prelude.{◌≡◌, IfOk, IsErr};
-ghost use Rattle.cmh_host.specs.Ends.{TellsLinks};
-ghost use Rattle.cmh_host.specs.Steps.{IsDeclared};
-ghost use Rattle.cmh_service.specs.Replies.{AnswersAs, AnswersOwed, AnswersSaid, AnswersStatus, AnswersWaits};
+ghost use Rattle.cmh_talk.specs.Ends.{TellsLinks};
+ghost use Rattle.cmh_talk.specs.Steps.{IsDeclared};
+ghost use Rattle.cmh_talk.specs.Replies.{AnswersAs, AnswersOwed, AnswersSaid, AnswersStatus, AnswersWaits};
 
-use crate::reply::{Reply, Status};
-use crate::said::Said;
 use cmh_controller::Refusal;
 use cmh_frames::{ProcId, SiteId, Topology};
 use cmh_host::{FileStation, JournalSink, SiteReply, link_ends};
 use cmh_journal::ENTRY_LIMIT;
 use cmh_links::{LinkState, LinkView};
 use cmh_station::{BoardReader, Declared, KeptBoard, NewestEntries, StationRefusal};
+use cmh_talk::{Reply, Said, Status};
 use std::alloc::{AllocError, Global};
 use std::sync::{Arc, Wait};
 

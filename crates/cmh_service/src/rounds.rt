@@ -1,18 +1,17 @@
 //! The rounds in which events go to the station: those of all clients that wait at that moment go together.
 
 ghost use Rattle.std.specs.Prelude.{◌≤◌, vec_capacity};
-ghost use Rattle.cmh_service.specs.Replies.{WasAnswered};
+ghost use Rattle.cmh_talk.specs.Replies.{WasAnswered};
 ghost use Rattle.cmh_station.specs.Journaled.{batch_limit};
 
 use crate::clients::MOST_CLIENTS;
 use crate::host::Host;
 use crate::mailbox::{Dispatcher, Mailbox};
 use crate::questions::Questions;
-use crate::reply::{EventReply, Reply};
-use crate::said::Said;
 use cmh_client::Desk;
 use cmh_frames::Event;
 use cmh_station::{BATCH_LIMIT, Declared};
+use cmh_talk::{EventReply, Reply, Said};
 use crossbeam_utils::sync::Unparker;
 use mio::Waker;
 use std::alloc::{AllocError, Global};
@@ -212,7 +211,7 @@ impl<R: Wait + Drop> Rounds<R> {
     }
 
     /// The answer to a line that is no event.
-    #[tactic(auto, using(crate::proofs::Replies::was_answered))]
+    #[tactic(auto, using(cmh_talk::proofs::Replies::was_answered))]
     pub fn answer(&self, rt: &R, said: &Said) -> Reply
         ensures { WasAnswered said.now result }
     {

@@ -2,9 +2,9 @@
 
 use crate::clients::{Clients, MOST_CLIENTS};
 use crate::connection::{Connection, Talk};
-use crate::language::Lines;
 use crate::mailbox::{Dispatcher, Mailbox};
 use crate::rounds::{Round, Rounds};
+use cmh_talk::Lines;
 use mio::net::TcpStream;
 use mio::{Events, Interest, Poll, Token};
 use std::alloc::{AllocError, Global};

@@ -1,7 +1,7 @@
 use Rattle.std.proofs.Common.{List, ◌++◌, ap, sym, ◌∙◌, append_assoc, subst}
 use Rattle.cmh_frames.specs.declared.event.Event.{Event}
-use Rattle.cmh_host.proofs.Taking.{all_answered, answered_on, first_alone, of_some, stepped_alone}
-use Rattle.cmh_host.specs.Together.{FirstRefused, WereAnswered}
+use Rattle.cmh_talk.proofs.Taking.{all_answered, answered_on, first_alone, of_some, stepped_alone}
+use Rattle.cmh_talk.specs.Together.{FirstRefused, WereAnswered}
 use Rattle.cmh_host.proofs.together.answer_events.Goals as goal
 use Rattle.cmh_host.proofs.together.answer_events.Goals.{in-Some, in-None}
 

@@ -1,6 +1,6 @@
 use Rattle.std.proofs.Common.{◌≡◌, ◌++◌, List, length}
 use Rattle.cmh_frames.specs.declared.event.Event.{Event}
-use Rattle.cmh_host.specs.Together.{WereAnswered}
+use Rattle.cmh_talk.specs.Together.{WereAnswered}
 use Rattle.cmh_host.proofs.together.answer_events.Given as goal
 
 -- these were answered, and the others are left

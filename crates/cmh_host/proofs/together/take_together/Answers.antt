@@ -1,4 +1,4 @@
-use Rattle.cmh_host.proofs.Taking.{first_failed, taken_all}
+use Rattle.cmh_talk.proofs.Taking.{first_failed, taken_all}
 use Rattle.cmh_host.proofs.together.take_together.Goals as goal
 
 pub returns-in-Ok-clause-taken : goal.returns-in-Ok-clause-taken

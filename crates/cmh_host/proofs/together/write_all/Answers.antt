@@ -1,4 +1,4 @@
-use Rattle.cmh_host.proofs.Taking.{wrote_more}
+use Rattle.cmh_talk.proofs.Taking.{wrote_more}
 use Rattle.cmh_host.proofs.together.write_all.Goals as goal
 
 pub loop-answer-preserved : goal.loop-answer-preserved

@@ -1,5 +1,5 @@
 use Rattle.std.proofs.Common.{◌≡◌, ◌≤◌, length, map, take, vec_len, vec_capacity}
-use Rattle.cmh_service.specs.Replies.{event_reply_of}
+use Rattle.cmh_talk.specs.Replies.{event_reply_of}
 use Rattle.cmh_service.proofs.host.push_answers.Given as goal
 
 abbrev pub invariant-loop-answer : goal.invariant-loop-answer

@@ -1,7 +1,7 @@
 use Rattle.std.proofs.Common.{rules, ◌+◌, take, inr, refl, sym, subst}
-use Rattle.cmh_service.specs.Replies.{IsReply}
+use Rattle.cmh_talk.specs.Replies.{IsReply}
 use Rattle.cmh_client.specs.Desks.{AreReplies}
-use Rattle.cmh_service.proofs.Replies.{one_more}
+use Rattle.cmh_talk.proofs.Replies.{one_more}
 use Rattle.cmh_service.proofs.host.push_refusals.Goals as goal
 
 pub loop-event-preserved : goal.loop-event-preserved

@@ -1,6 +1,6 @@
 use Rattle.std.proofs.Common.{refl}
 use Rattle.std.proofs.KnownBytes.{Appends-kept}
-use Rattle.cmh_host.specs.SiteReplies.{reply_text}
+use Rattle.cmh_talk.specs.SiteReplies.{reply_text}
 use Rattle.cmh_cluster.proofs.cluster.Cluster.answer.Goals as goal
 
 pub returns-clause-answers : goal.returns-clause-answers

@@ -1,5 +1,5 @@
 use Rattle.std.proofs.Common.{◌≡◌, ◌≤◌, length, take, vec_len, vec_capacity}
-use Rattle.cmh_service.specs.Replies.{IsReply}
+use Rattle.cmh_talk.specs.Replies.{IsReply}
 use Rattle.cmh_client.specs.Desks.{AreReplies}
 use Rattle.cmh_service.proofs.host.Host.push_steps.Given as goal
 
